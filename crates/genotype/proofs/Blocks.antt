@@ -1,0 +1,66 @@
+-- Laws of block widths, over plain numbers.
+use mathlib.Core.Path.{_≡_, refl, ap, _∙_}
+use Prim.Native.Nat.{ℕ, _+_, _-_, _*_, _/_, _^_, _≤_, _<_}
+use native.Mathlib.Nat.{zero-mul, le-div-iff-mul-le, div-lt-iff-lt-mul}
+use native.Mathlib.Omega.{arith}
+use borrow.Author.Tests.{ne-eqb, eq-eqb, le-leb, lt-leb}
+use lib.Dec.{leb}
+use lib.IntN.{pos}
+use mathlib.Core.List.{[], _∷_}
+use mathlib.Core.Bool.{true, false}
+use Rattle.genotype.specs.Answer.{done, refused, countLimit}
+use Rattle.genotype.specs.Block.{blockWidth, fileLength, divAnswer}
+
+-- "Block width is 0 for nothing in a block"
+pub width-none : (n : ℕ) → n ≡ 0 → blockWidth n ≡ 0
+unfolding blockWidth
+width-none n h = simp (eq-eqb n 0 h)
+
+-- "else (count − 1) / 4 rounded down, plus 1"
+pub width-some : (n : ℕ) → (n ≡ 0 → ⊥) → blockWidth n ≡ (n - 1) / 4 + 1
+unfolding blockWidth
+width-some n h = simp (ne-eqb n 0 h)
+
+-- the answer of `try_div_4`, by its tests
+module _ (i s : ℕ) where
+  pub first-too-large : countLimit < i → divAnswer i s ≡ refused 18 []
+  unfolding divAnswer
+  first-too-large h = simp (lt-leb i countLimit h)
+
+  module _ (hi : i ≤ countLimit) where
+    pub second-too-large : countLimit < s → divAnswer i s ≡ refused 18 []
+    unfolding divAnswer
+    second-too-large h = simp (le-leb i countLimit hi, lt-leb s countLimit h)
+
+    module _ (hs : s ≤ countLimit) where
+      pub too-big : 2 ^ 64 - 1 < fileLength i s → divAnswer i s ≡ refused 4 []
+      unfolding divAnswer
+      too-big h = simp (le-leb i countLimit hi, le-leb s countLimit hs, lt-leb (fileLength i s) (2 ^ 64 - 1) h)
+
+      pub has-width : fileLength i s ≤ 2 ^ 64 - 1 → divAnswer i s ≡ done (pos (blockWidth i) ∷ [])
+      unfolding divAnswer
+      has-width h = simp (le-leb i countLimit hi, le-leb s countLimit hs, le-leb (fileLength i s) (2 ^ 64 - 1) h)
+
+-- 4 as the code tests it, by a quotient
+quotient-passes : (w s : ℕ) → 0 < w → 18446744073709551612 / w < s → 2 ^ 64 - 1 < 3 + w * s
+quotient-passes w s p h = let q : 18446744073709551612 < s * w = div-lt-iff-lt-mul p .0 h in omega arith
+
+quotient-keeps : (w s : ℕ) → 0 < w → s ≤ 18446744073709551612 / w → 3 + w * s ≤ 2 ^ 64 - 1
+quotient-keeps w s p h = let q : s * w ≤ 18446744073709551612 = le-div-iff-mul-le p .0 h in omega arith
+
+module _ (i s : ℕ) (hi : i ≤ countLimit) (hs : s ≤ countLimit) where
+  pub no-items : i ≡ 0 → divAnswer i s ≡ done (pos 0 ∷ [])
+  no-items e =
+      let w : blockWidth i ≡ 0 = width-none i e in
+      let z : blockWidth i * s ≡ 0 = rw w (zero-mul s) in
+      has-width i s hi hs (omega arith) ∙ ap (λ (n : ℕ). done (pos n ∷ [])) w
+
+  module _ (n : i ≡ 0 → ⊥) where
+    pub quotient-below : 18446744073709551612 / ((i - 1) / 4 + 1) < s → divAnswer i s ≡ refused 4 []
+    quotient-below h =
+        too-big i s hi hs (rw (width-some i n) (quotient-passes ((i - 1) / 4 + 1) s (omega arith) h))
+
+    pub quotient-enough : s ≤ 18446744073709551612 / ((i - 1) / 4 + 1) → divAnswer i s ≡ done (pos ((i - 1) / 4 + 1) ∷ [])
+    quotient-enough h =
+        has-width i s hi hs (rw (width-some i n) (quotient-keeps ((i - 1) / 4 + 1) s (omega arith) h))
+        ∙ ap (λ (k : ℕ). done (pos k ∷ [])) (width-some i n)

@@ -1,0 +1,4 @@
+pub mod Tests
+pub mod Tabulate
+pub mod Blocks
+pub mod Products

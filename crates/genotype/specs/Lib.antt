@@ -1,0 +1,6 @@
+-- What everything speaks in. Each definition sets out words of document 01, which stand above it.
+pub mod Answer
+pub mod Lists
+pub mod Block
+pub mod Entry
+pub mod Says
