@@ -1,4 +1,9 @@
 pub mod Tests
 pub mod Tabulate
-pub mod Blocks
+pub mod Widths
 pub mod Products
+pub mod SignedLaws
+pub mod ValueLaws
+pub mod EntryLaws
+pub mod CodeLaws
+pub mod SpanLaws

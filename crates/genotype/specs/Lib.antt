@@ -3,4 +3,8 @@ pub mod Answer
 pub mod Lists
 pub mod Block
 pub mod Entry
+pub mod Code
+pub mod Value
+pub mod Matrix
+pub mod Plink
 pub mod Says

@@ -1,11 +1,11 @@
 -- `try_div_4` answers `divAnswer`: each test that the code makes is one of its checks.
 use mathlib.Core.Path.{sym}
 use borrow.Author.Needs.{needs}
-use Rattle.genotype.proofs.try_div_4.Statement.{statement}
-use Rattle.genotype.proofs.try_div_4.Tie as tie
-use Rattle.genotype.proofs.try_div_4.Reads as reads
-use Rattle.genotype.proofs.try_div_4.Lts as lts
-use Rattle.genotype.proofs.Blocks.{first-too-large, second-too-large, no-items, quotient-below, quotient-enough}
+use Rattle.genotype.proofs.blocks.try_div_4.Statement.{statement}
+use Rattle.genotype.proofs.blocks.try_div_4.Tie as tie
+use Rattle.genotype.proofs.blocks.try_div_4.Reads as reads
+use Rattle.genotype.proofs.blocks.try_div_4.Lts as lts
+use Rattle.genotype.proofs.Widths.{first-too-large, second-too-large, no-items, quotient-below, quotient-enough}
 
 returns : tie.Need-returns
 returns c = sym (first-too-large _ _ (c .if1 .taken))

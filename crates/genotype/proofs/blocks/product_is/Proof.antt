@@ -1,9 +1,9 @@
 use Rattle.genotype.proofs.Products.{zero-is, uneven-not, even-is}
 use borrow.Author.Needs.{needs}
-use Rattle.genotype.proofs.product_is.Statement.{statement}
-use Rattle.genotype.proofs.product_is.Tie as tie
-use Rattle.genotype.proofs.product_is.Reads as reads
-use Rattle.genotype.proofs.product_is.Lts as lts
+use Rattle.genotype.proofs.blocks.product_is.Statement.{statement}
+use Rattle.genotype.proofs.blocks.product_is.Tie as tie
+use Rattle.genotype.proofs.blocks.product_is.Reads as reads
+use Rattle.genotype.proofs.blocks.product_is.Lts as lts
 
 -- src/lib.rt:40:9
 returns : tie.Need-returns

@@ -1,9 +1,9 @@
 use Rattle.genotype.proofs.Products.{zero-most, quotient-most}
 use borrow.Author.Needs.{needs}
-use Rattle.genotype.proofs.product_at_most.Statement.{statement}
-use Rattle.genotype.proofs.product_at_most.Tie as tie
-use Rattle.genotype.proofs.product_at_most.Reads as reads
-use Rattle.genotype.proofs.product_at_most.Lts as lts
+use Rattle.genotype.proofs.blocks.product_at_most.Statement.{statement}
+use Rattle.genotype.proofs.blocks.product_at_most.Tie as tie
+use Rattle.genotype.proofs.blocks.product_at_most.Reads as reads
+use Rattle.genotype.proofs.blocks.product_at_most.Lts as lts
 
 -- src/lib.rt:53:9
 returns : tie.Need-returns

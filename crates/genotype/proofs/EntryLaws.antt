@@ -1,0 +1,99 @@
+-- Laws of entries, over plain numbers and lists.
+use mathlib.Core.Path.{_≡_, refl, sym, ap, subst, _∙_}
+use mathlib.Core.Bool.{Bool, true, false, not, cond}
+use mathlib.Core.List.{List, [], _∷_, map}
+use mathlib.Core.Option.{Option, some, none}
+use Prim.Native.Nat.{ℕ, suc, _+_, _-_, _/_, _^_, _<_, _≤_, min, max}
+use native.Mathlib.Numerals.{add-one}
+use native.Mathlib.Omega.{arith}
+use borrow.Author.Tests.{ltb-true}
+use lib.Dec.{ltb}
+use lib.IntN.{ℤ, pos, negsuc}
+use lib.ListN.{length, getD, drop, drop-of-length-le}
+use lib.Seq.{drop-cons}
+use lib.Signed.{mag, ltZ}
+use mir.Syntax.{w64}
+use mir.Val.{SFits, ofZ, toZ}
+use mir.ValLaws.{toZ-ofZ}
+use Rattle.genotype.specs.Entry.{isGood, means, meaning, firstBad}
+
+-- ---- one entry
+magnitude-good : (count : ℕ) (z : ℤ) → ltb (mag z) count ≡ isGood count z
+unfolding isGood
+magnitude-good count (pos i) = refl
+magnitude-good count (negsuc k) = refl
+
+below : (count : ℕ) (z : ℤ) → isGood count z ≡ true → mag z < count
+below count z g = ltb-true (mag z) count (magnitude-good count z ∙ g)
+
+from-back : (count : ℕ) (z : ℤ) → ltZ z (pos 0) ≡ true → count - 1 - mag z ≡ means count z
+unfolding means
+from-back count (pos i) h = absurd (let b : i < 0 = ltb-true i 0 h in omega arith)
+from-back count (negsuc k) h = omega arith
+
+from-front : (count : ℕ) (z : ℤ) → ltZ z (pos 0) ≡ false → mag z ≡ means count z
+unfolding means
+from-front count (pos i) h = refl
+from-front count (negsuc k) h = absurd (let q : _≡_ {A = ℕ} 0 1 = cc in omega arith)
+
+-- a good entry means a number below the count
+pub means-below : (count : ℕ) (z : ℤ) → isGood count z ≡ true → means count z < count
+unfolding means isGood
+means-below count (pos i) g = ltb-true i count g
+means-below count (negsuc k) g = let b : k < count = ltb-true k count g in omega arith
+
+-- as the machine holds the entry z
+module _ (count : ℕ) (z : ℤ) (f : SFits w64 z) where
+  back : toZ w64 (ofZ w64 z) ≡ z
+  back = toZ-ofZ w64 z f
+
+  module _ (m : ℕ) (e : m ≡ mag (toZ w64 (ofZ w64 z))) where
+    e′ : m ≡ mag z
+    e′ = e ∙ ap mag back
+
+    pub tests-good : ltb m count ≡ isGood count z
+    tests-good = ap (λ (k : ℕ). ltb k count) e′ ∙ magnitude-good count z
+
+    module _ (g : isGood count z ≡ true) where
+      pub place-below : m < count
+      place-below = subst (λ (k : ℕ). k < count) (sym e′) (below count z g)
+
+      pub number-back : ltZ (toZ w64 (ofZ w64 z)) (pos 0) ≡ true → count - 1 - m ≡ means count z
+      number-back h = ap (λ (k : ℕ). count - 1 - k) e′ ∙ from-back count z (subst (λ (y : ℤ). ltZ y (pos 0) ≡ true) back h)
+
+      pub number-front : ltZ (toZ w64 (ofZ w64 z)) (pos 0) ≡ false → m ≡ means count z
+      number-front h = e′ ∙ from-front count z (subst (λ (y : ℤ). ltZ y (pos 0) ≡ false) back h)
+
+  pub still-good : (b : Bool) → b ≡ isGood count (toZ w64 (ofZ w64 z)) → b ≡ isGood count z
+  still-good b e = e ∙ ap (isGood count) back
+
+  -- the meaning, from the test and the number
+  pub meaning-good : (b : Bool) (n : ℕ) → b ≡ isGood count (toZ w64 (ofZ w64 z)) → b ≡ true → n ≡ means count (toZ w64 (ofZ w64 z)) → some n ≡ meaning count z
+  unfolding meaning
+  meaning-good b n e t h = simp (sym (still-good b e) ∙ t) (ap some (h ∙ ap (means count) back))
+
+  pub meaning-bad : (b : Bool) → b ≡ isGood count (toZ w64 (ofZ w64 z)) → b ≡ false → none ≡ meaning count z
+  unfolding meaning
+  meaning-bad b e t = simp (sym (still-good b e) ∙ t)
+
+-- ---- the first bad entry: what is left to look at says what the whole list says
+module _ (count : ℕ) (list : List ℤ) (i : ℕ) (h : i < length list) (f : mag (getD list i (pos 0)) < 2 ^ 63)
+    (b : Bool) (e : b ≡ isGood count (toZ w64 (ofZ w64 (getD list i (pos 0)))))
+    (sofar : firstBad count (drop i list) ≡ firstBad count list) where
+  tested : b ≡ isGood count (getD list i (pos 0))
+  tested = still-good count (getD list i (pos 0)) (record { sfits = f }) b e
+
+  pub bad-here : b ≡ false → some (toZ w64 (ofZ w64 (getD list i (pos 0)))) ≡ firstBad count list
+  unfolding firstBad
+  bad-here t =
+      ap some (back count (getD list i (pos 0)) (record { sfits = f }))
+      ∙ sym (rw (drop-cons list i (pos 0) h) (simp (sym tested ∙ t)))
+      ∙ sofar
+
+  pub bad-later : b ≡ true → firstBad count (drop (i + 1) list) ≡ firstBad count list
+  unfolding firstBad
+  bad-later t = sym (rw (drop-cons list i (pos 0) h, add-one) (simp (sym tested ∙ t))) ∙ sofar
+
+pub bad-none : (count : ℕ) (list : List ℤ) (i : ℕ) → length list ≤ i → firstBad count (drop i list) ≡ firstBad count list → none ≡ firstBad count list
+unfolding firstBad
+bad-none count list i h sofar = sym (ap (firstBad count) (drop-of-length-le list h)) ∙ sofar
