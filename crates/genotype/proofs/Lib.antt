@@ -7,3 +7,5 @@ pub mod ValueLaws
 pub mod EntryLaws
 pub mod CodeLaws
 pub mod SpanLaws
+pub mod PlinkLaws
+pub mod MatrixLaws

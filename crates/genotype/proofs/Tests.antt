@@ -3,7 +3,7 @@ use mathlib.Core.Path.{_≡_, refl, sym, subst}
 use mathlib.Core.Bool.{Bool, true, false}
 use Prim.Native.Nat.{ℕ, _≤_, _<_}
 use lib.Dec.{T, leb, ltb, eqb, leb→le, le→leb, ltb→lt, lt→ltb, eqb→eq, eqb-refl}
-use borrow.Author.Tests.{eq-eqb}
+use borrow.Author.Tests.{eq-eqb, ltb-true, ltb-false}
 
 pub same-test : (s t : Bool) → (T s → T t) → (T t → T s) → s ≡ t
 same-test true true f g = refl
@@ -19,3 +19,11 @@ eqb-both a b c d f g = same-test (eqb a b) (eqb c d) (λ t. eq→eqb c d (f (eqb
 
 pub leb-both : (a b c d : ℕ) → (a ≤ b → c ≤ d) → (c ≤ d → a ≤ b) → leb a b ≡ leb c d
 leb-both a b c d f g = same-test (leb a b) (leb c d) (λ t. le→leb c d (f (leb→le a b t))) (λ t. le→leb a b (g (leb→le c d t)))
+
+-- by the cases of a test, and of an order
+pub by-test : {A : Type 0} (b : Bool) → (b ≡ true → A) → (b ≡ false → A) → A
+by-test true f g = f refl
+by-test false f g = g refl
+
+pub by-lt : {A : Type 0} (m n : ℕ) → (m < n → A) → (n ≤ m → A) → A
+by-lt m n f g = by-test (ltb m n) (λ t. f (ltb-true m n t)) (λ t. g (ltb-false m n t))

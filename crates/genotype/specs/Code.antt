@@ -1,6 +1,7 @@
 -- Codes: where an item's two bits stand, the table of all of them, and a packed block.
 use mathlib.Core.List.{List}
-use Prim.Native.Nat.{ℕ, _+_, _*_, _/_, _%_, _^_}
+use mathlib.Core.Option.{Option, some, none}
+use Prim.Native.Nat.{ℕ, zero, suc, _+_, _*_, _/_, _%_, _^_}
 use lib.ListN.{length, getD}
 use Rattle.genotype.specs.Lists.{tabulate}
 use Rattle.genotype.specs.Block.{blockWidth}
@@ -12,6 +13,13 @@ codeAt byte place = byte / 2 ^ (2 * place) % 4
 -- the code of item i of a block
 unfoldable pub itemCode : List ℕ → ℕ → ℕ
 itemCode block i = codeAt (getD block (i / 4) 0) (i % 4)
+
+-- "Codes: 0 two copies of the first allele, 1 missing, 2 one, 3 none."
+unfoldable pub copies : ℕ → Option ℕ
+copies zero = some 2
+copies (suc zero) = none
+copies (suc (suc zero)) = some 1
+copies (suc (suc (suc n))) = some 0
 
 -- "A table of 1,024 entries gives the code for every byte and place.": place p of byte b at 4 × b + p
 unfoldable pub codeTable : List ℕ

@@ -2,9 +2,10 @@
 use mathlib.Core.Bool.{Bool, true, false}
 use mathlib.Core.List.{List}
 use mathlib.Core.Option.{Option, some, none}
-use Prim.Native.Nat.{ℕ, _+_, _*_, _/_, _%_, _^_}
+use Prim.Native.Nat.{ℕ, zero, suc, _+_, _*_, _/_, _%_, _^_}
 use lib.Dec.{eqb}
 use lib.ListN.{getD}
+use Rattle.genotype.specs.Value.{Width}
 
 pub data Genotype : Type 0 where
   homozygousFirst missing heterozygous homozygousSecond : Genotype
@@ -29,7 +30,7 @@ genotypeAt block i = genotypeOf (blockBit block (2 * i + 1)) (blockBit block (2 
 unfoldable pub plinkWidth : ℕ → ℕ
 plinkWidth samples = (samples + 3) / 4
 
--- how many copies of the first allele a genotype has, and of the second
+-- how many copies of the first allele a genotype has, and of the second, if it is not missing
 unfoldable pub copiesOfFirst : Genotype → Option ℕ
 copiesOfFirst homozygousFirst = some 2
 copiesOfFirst missing = none
@@ -41,3 +42,10 @@ copiesOfSecond homozygousFirst = some 0
 copiesOfSecond missing = none
 copiesOfSecond heterozygous = some 1
 copiesOfSecond homozygousSecond = some 2
+
+-- a number of copies as a value, and `missing` where there is none
+unfoldable pub copiesValue : (w : Width) → w .Value → Option ℕ → w .Value
+copiesValue w absent none = absent
+copiesValue w absent (some zero) = w .zero
+copiesValue w absent (some (suc zero)) = w .one
+copiesValue w absent (some (suc (suc n))) = w .two
