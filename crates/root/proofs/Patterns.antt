@@ -138,17 +138,20 @@ normal-pattern : (h K x : ℕ) → x * h + K % h ≡ K → 1 ≤ x → K ≡ (x 
 normal-pattern h K zero e l = absurd (lt-irrefl 0 l)
 normal-pattern h K (suc x) e l = omega (arith, ap (λ (z : ℕ). z * h) (sub-one (suc x)))
 
+pub subnormal-at : (f : Format) (K : ℕ) → K < hid f → At f K 0 K
+subnormal-at f K l = record { pattern = sym (zero-more (hid f) K); leading = inl refl; digits = omega arith; finite = omega (arith, two-ones f) }
+
+pub normal-at : (f : Format) (K : ℕ) → hid f ≤ K → K < ones f * hid f → At f K (K / hid f - 1) (hid f + K % hid f)
+normal-at f K l u =
+    let H = hid-pos f in
+    let x : 1 ≤ K / hid f = le-div-iff-mul-le H .1 (omega arith) in
+    let y : K / hid f < ones f = div-lt-iff-lt-mul H .1 u in
+    let r : K % hid f < hid f = mod-lt K H in
+    record { pattern = normal-pattern (hid f) K (K / hid f) (div-add-mod' K (hid f)) x; leading = inr (omega arith); digits = omega arith; finite = omega arith }
+
 pub fields : (f : Format) (K : ℕ) → K < ones f * hid f → Fields f K
-fields f K u = go (here-or-on K (hid f))
-  where
-    go : (K < hid f) ⊎ (hid f ≤ K) → Fields f K
-    go (inl l) = record { k = 0; q = K; at = record { pattern = sym (zero-more (hid f) K); leading = inl refl; digits = omega arith; finite = omega (arith, two-ones f) } }
-    go (inr l) =
-        let H = hid-pos f in
-        let x : 1 ≤ K / hid f = le-div-iff-mul-le H .1 (omega arith) in
-        let y : K / hid f < ones f = div-lt-iff-lt-mul H .1 u in
-        let r : K % hid f < hid f = mod-lt K H in
-        record { k = K / hid f - 1; q = hid f + K % hid f; at = record { pattern = normal-pattern (hid f) K (K / hid f) (div-add-mod' K (hid f)) x; leading = inr (omega arith); digits = omega arith; finite = omega arith } }
+fields f K u =
+    elim (here-or-on K (hid f)) [ inl l ↦ record { k = 0; q = K; at = subnormal-at f K l } | inr l ↦ record { k = K / hid f - 1; q = hid f + K % hid f; at = normal-at f K l u } ]
 
 -- ---- one pattern on is one more in the last digit, and at the end of the patterns stands the infinity
 pub inf-pattern : (f : Format) → ofBits f (ones f * hid f) ≡ inf false

@@ -54,7 +54,7 @@ found-only test n j u t none =
     elim (eq-or-lt-of-le (f .within)) [ inl e ↦ e | inr l ↦ absurd (T-not (test (firstFrom test n 0)) (none (firstFrom test n 0) l) (f .passes)) ]
 
 -- ---- twice the midpoint above the value of pattern K
-abbrev mid : Format → ℕ → ℕ
+abbrev pub mid : Format → ℕ → ℕ
 mid f K = count f (ofBits f K) + count f (ofBits f (suc K))
 
 upper-at : (f : Format) (K : ℕ) → K < ones f * hid f → upper f (ofBits f K) ≡ mid f K
@@ -125,7 +125,7 @@ never h q k n b N l B e = go (here-or-on (k + k) b)
         (eq-of-mul-eq-mul-right (2 ^ b) (pow-pos b) ((2 * q + 1) * (2 * q + 1) * 2 ^ (k + k - b)) n
         (mul-assoc ((2 * q + 1) * (2 * q + 1)) (2 ^ (k + k - b)) (2 ^ b) ∙ ap (λ (z : ℕ). (2 * q + 1) * (2 * q + 1) * z) (sym (split-pow b (k + k) w)) ∙ e))
 
-mid-is : (f : Format) (K k q : ℕ) → At f K k q → mid f K ≡ (2 * q + 1) * 2 ^ k
+pub mid-is : (f : Format) (K k q : ℕ) → At f K k q → mid f K ≡ (2 * q + 1) * 2 ^ k
 mid-is f K k q a = ap₂ (λ (x y : ℕ). x + y) (at-count f K k q a) (next-count f K k q a) ∙ join (2 ^ k) q
   where
     join : (x y : ℕ) → y * x + suc y * x ≡ (2 * y + 1) * x
