@@ -66,9 +66,11 @@ fn next_digits(found: WholeRoot, high: u64, low: u64, base: u64) -> WholeRoot
     let over = part % twice * base + low;
     let root = found.root * base + quotient;
     if over < square {
+        let less = root - 1;
+        let rest = over + less + root - square;
         WholeRoot {
-            root: root - 1,
-            rest: over + root * 2 - 1 - square,
+            root: less,
+            rest: rest,
         }
     } else {
         WholeRoot {
@@ -96,9 +98,11 @@ fn digits_of(bits: u64) -> Scaled
     ensures { λ r. ⌜ IsScaled binary64 (ofBits binary64 bits) (r .digits) (r .exponent) ⌝ }
 {
     if 4503599627370496 <= bits {
+        let all = bits % 4503599627370496 + 4503599627370496;
+        let field = bits / 4503599627370496 + 1021;
         return Scaled {
-            digits: bits % 4503599627370496 + 4503599627370496,
-            exponent: bits / 4503599627370496 + 1021,
+            digits: all,
+            exponent: field,
         };
     }
     let mut digits = bits;

@@ -1,76 +1,70 @@
+-- `root::next_digits` meets its contract: the steps fit a u64, and either way out is a law of `Wholes`. Assumes nothing.
 use borrow.Author.Needs.{needs}
+use native.Mathlib.Omega.{arith}
+use Rattle.root.proofs.Wholes.{Room, room, square-lt, one-less, as-it-is}
 use Rattle.root.proofs.next_digits.Statement.{statement}
 use Rattle.root.proofs.next_digits.Tie as tie
-use Rattle.root.proofs.next_digits.Reads as reads
-use Rattle.root.proofs.next_digits.Lts as lts
 
--- src/lib.rt:62:17
+fitting : (c : tie.Start) → Room (c .args .found .root) (c .args .found .rest) (c .args .high) (c .args .low) (c .args .base)
+fitting c = room (c .args .found .root) (c .args .found .rest) (c .args .high) (c .args .low) (c .args .base) (c .pre)
+
 mul-twice : tie.Need-mul-twice
 mul-twice c = search needs
 
--- src/lib.rt:63:16
 mul-part : tie.Need-mul-part
-mul-part c = ?
+mul-part c = let w = fitting (c .before .before) in omega arith
 
--- src/lib.rt:63:16
 add-part : tie.Need-add-part
-add-part c = ?
+add-part c = let w = fitting (c .before .before) in omega arith
 
--- src/lib.rt:64:20
 div-quotient : tie.Need-div-quotient
 div-quotient c = search needs
 
--- src/lib.rt:65:18
 mul-square : tie.Need-mul-square
-mul-square c = ?
+mul-square c = let w = fitting (c .before .before) in omega arith
 
--- src/lib.rt:66:16
 rem-over : tie.Need-rem-over
 rem-over c = search needs
 
--- src/lib.rt:66:16
 mul-over : tie.Need-mul-over
-mul-over c = ?
+mul-over c = let w = fitting (c .before .before) in omega arith
 
--- src/lib.rt:66:16
 add-over : tie.Need-add-over
-add-over c = ?
+add-over c = let w = fitting (c .before .before) in omega arith
 
--- src/lib.rt:67:16
 mul-root : tie.Need-mul-root
-mul-root c = ?
+mul-root c = let w = fitting (c .before .before .before) in omega arith
 
--- src/lib.rt:67:16
 add-root : tie.Need-add-root
-add-root c = ?
+add-root c = let w = fitting (c .before .before .before) in omega arith
 
--- src/lib.rt:70:19
-sub-t15 : tie.Need-sub-t15
-sub-t15 c = ?
+sub-less : tie.Need-sub-less
+sub-less c = let w = fitting (c .before .before .before .before) in omega arith
 
--- src/lib.rt:71:26
-mul-t16 : tie.Need-mul-t16
-mul-t16 c = ?
+add-rest : tie.Need-add-rest
+add-rest c = let w = fitting (c .before .before .before .before) in omega arith
 
--- src/lib.rt:71:19
-add-t17 : tie.Need-add-t17
-add-t17 c = ?
+add-rest-2 : tie.Need-add-rest-2
+add-rest-2 c = let w = fitting (c .before .before .before .before) in omega arith
 
--- src/lib.rt:71:19
-sub-t18 : tie.Need-sub-t18
-sub-t18 c = ?
+sub-rest : tie.Need-sub-rest
+sub-rest c =
+    let a = c .before .before .before .before .args in
+    let p = c .before .before .before .before .pre in
+    let w = fitting (c .before .before .before .before) in
+    omega (arith, square-lt (a .found .root) (a .found .rest) (a .high) (a .low) (a .base) (p .0) (p .2) (p .4) (p .5) (c .if1 .taken))
 
--- src/lib.rt:71:19
-sub-t19 : tie.Need-sub-t19
-sub-t19 c = ?
-
--- src/lib.rt:56:1
 returns : tie.Need-returns
-returns c = ?
+returns c =
+    let a = c .before .before .before .before .args in
+    let p = c .before .before .before .before .pre in
+    one-less (a .found .root) (a .found .rest) (a .high) (a .low) (a .base) (p .0) (p .2) (p .4) (p .5) (c .if1 .taken)
 
--- src/lib.rt:56:1
 returns-2 : tie.Need-returns-2
-returns-2 c = ?
+returns-2 c =
+    let a = c .before .before .before .before .args in
+    let p = c .before .before .before .before .pre in
+    as-it-is (a .found .root) (a .found .rest) (a .high) (a .low) (a .base) (p .0) (p .2) (p .4) (p .5) (c .if1 .left)
 
 pub next-digits-spec : {M : Type 1} → statement M
 next-digits-spec =
@@ -86,10 +80,9 @@ next-digits-spec =
     add-over
     mul-root
     add-root
-    sub-t15
-    mul-t16
-    add-t17
-    sub-t18
-    sub-t19
+    sub-less
+    add-rest
+    add-rest-2
+    sub-rest
     returns
     returns-2)
