@@ -3,3 +3,4 @@ mod Patterns
 pub mod Roots
 mod Wholes
 mod Rounded
+mod Cases

@@ -41,7 +41,7 @@ found test (suc n) k j l u t = go (test k) refl (λ (w : k < j). found test n (s
         record {
           passes = f .passes;
           within = f .within;
-          earlier = λ i a b. elim (eq-or-lt-of-le a) [ inl z ↦ subst (λ (x : ℕ). T (not (test x))) z no | inr x ↦ f .earlier i x b ]
+          earlier = λ i a b. elim (eq-or-lt-of-le a) [ inl z ↦ subst (λ (x : ℕ). T (not (test x))) z no | inr x ↦ f .earlier i x b ];
         }
 
 found-from-zero : (test : ℕ → Bool) (n j : ℕ) → j < n → T (test j) → Found test 0 j (firstFrom test n 0)
@@ -216,7 +216,7 @@ is-root-at : (f : Format) (v : Float) (K : ℕ) → suc K < ones f * hid f → m
 is-root-at f v K u a b = record {
   positive-finite = positive-at f (suc K) (zero-lt-suc K) u;
   above-lower = subst (λ (z : ℕ). z * z < scaled f v) (sym (lower-at f K u)) a;
-  below-upper = subst (λ (z : ℕ). scaled f v < z * z) (sym (upper-at f (suc K) u)) b
+  below-upper = subst (λ (z : ℕ). scaled f v < z * z) (sym (upper-at f (suc K) u)) b;
 }
 
 tie-at : (f : Format) (v : Float) (K : ℕ) → T (fits f v) → T (positive v) → K < ones f * hid f → scaled f v ≡ mid f K * mid f K → ⊥
@@ -241,10 +241,10 @@ pub root-at : (f : Format) (v : Float) (K : ℕ) → T (positive v) → suc K < 
 root-at f v K p u a b =
     let none : (i : ℕ) → i < suc K → T (not (belowUpper f v i)) =
     λ i l.
-        let j : i ≤ K = le-of-suc-le-suc l in
-        let w : K < ones f * hid f = le-of-lt u in
-        let m : mid f i ≤ mid f K = mid-le f K i j w in
-        fails-at f v i (lt-of-le-of-lt j w) (le-trans (mul-le-mul m m) (le-of-lt a)) in
+    let j : i ≤ K = le-of-suc-le-suc l in
+    let w : K < ones f * hid f = le-of-lt u in
+    let m : mid f i ≤ mid f K = mid-le f K i j w in
+    fails-at f v i (lt-of-le-of-lt j w) (le-trans (mul-le-mul m m) (le-of-lt a)) in
     sym (root-search f v p ∙ ap (ofBits f) (found-only (belowUpper f v) (ones f * hid f) (suc K) u (passes-at f v (suc K) u b) none))
 
 -- The root is the only one: a value of the format that is a root of v is `root f v`.
@@ -466,7 +466,7 @@ beside f s F p = go (toBits f s) refl
       here = sym (ofBits-toBits f s F) ∙ ap (ofBits f) e;
       under = subst (λ (z : ℕ). z < ones f * hid f) e (pattern-of f s F (positive-plus s p) .below);
       lower-one = ap (λ (z : ℕ). ofBits f (z - 1)) e ∙ ap (ofBits f) (sub-one (suc n));
-      upper-one = ap (λ (z : ℕ). ofBits f (z + 1)) e ∙ ap (ofBits f) (add-one (suc n))
+      upper-one = ap (λ (z : ℕ). ofBits f (z + 1)) e ∙ ap (ofBits f) (add-one (suc n));
     }
 
 -- `before` and `after` are the floats beside a positive s: they lie on each side of s, and no value of the format lies strictly between.
@@ -504,9 +504,10 @@ half-gap f s k F p e =
     let high-at : At f (suc J) (suc k) (hid f) = record { pattern = whole (hid f) k H; leading = inr (le-refl (hid f)); digits = omega arith; finite = o } in
     let same : suc (b .K) ≡ suc J = only f (suc (b .K)) (suc J) (le-of-lt (b .under)) (under f (suc J) (suc k) (hid f) high-at) (sym here ∙ e ∙ sym (at-count f (suc J) (suc k) (hid f) high-at)) in
     let lower-one : count f (before f s) ≡ (2 * hid f - 1) * 2 ^ k = ap (count f) (b .lower-one) ∙ ap (λ (z : ℕ). count f (ofBits f z)) (less (b .K) J same) ∙ at-count f J k (2 * hid f - 1) low-at in
-    let upper-one : count f (after f s) ≡ suc (hid f) * 2 ^ suc k = ap (count f) (b .upper-one) ∙ ap (λ (z : ℕ). count f (ofBits f (suc z))) same ∙ next-count f (suc J) (suc k) (hid f) high-at in
-    (here ∙ ap (λ (z : ℕ). count f (ofBits f z)) same ∙ next-count f J k (2 * hid f - 1) low-at ∙ more (2 * hid f - 1) (2 ^ k) ∙ ap (λ (z : ℕ). z + 2 ^ k) (sym lower-one),
-     upper-one ∙ more (hid f) (2 ^ suc k) ∙ ap (λ (z : ℕ). z + 2 ^ suc k) (sym e))
+    let upper-one : count f (after f s) ≡ suc (hid f) * 2 ^ suc k = ap (count f) (b .upper-one) ∙ ap (λ (z : ℕ). count f (ofBits f (suc z))) same ∙ next-count f (suc J) (suc k) (hid f) high-at in (
+      here ∙ ap (λ (z : ℕ). count f (ofBits f z)) same ∙ next-count f J k (2 * hid f - 1) low-at ∙ more (2 * hid f - 1) (2 ^ k) ∙ ap (λ (z : ℕ). z + 2 ^ k) (sym lower-one),
+      upper-one ∙ more (hid f) (2 ^ suc k) ∙ ap (λ (z : ℕ). z + 2 ^ suc k) (sym e),
+    )
   where
     whole : (h k : ℕ) → 0 < h → suc (k * h + (2 * h - 1)) ≡ suc k * h + h
     whole h k p = omega arith

@@ -45,7 +45,7 @@ scaled-normal f K l u =
           ∙ ap (λ (z : ℕ). z * 2 ^ (emax f - 1)) (sym (at-count f K (K / hid f - 1) (hid f + K % hid f) (normal-at f K l u)));
       full = omega arith;
       short = omega arith;
-      bound = omega (arith, two-emax f)
+      bound = omega (arith, two-emax f);
     }
   where
     turn : (a b : ℕ) → a + b ≡ b + a
@@ -77,7 +77,7 @@ lifted-step f K d (suc e) p g l = record {
   same = ap (λ (z : ℕ). d * 2 * 2 ^ z) (one-off e) ∙ mul-assoc d 2 (2 ^ e) ∙ ap (λ (z : ℕ). d * z) (sym (pow-succ' 2 e)) ∙ g .same;
   some = omega (arith, g .some);
   short = omega arith;
-  bound = omega (arith, g .bound)
+  bound = omega (arith, g .bound);
 }
   where
     one-off : (t : ℕ) → suc t - 1 ≡ t
@@ -88,7 +88,7 @@ lifted-end f K d e l g h = record {
   same = g .same ∙ ap (λ (z : ℕ). z * 2 ^ (emax f - 1)) (sym (at-count f K 0 K (subnormal-at f K l) ∙ mul-one K));
   full = h;
   short = g .short;
-  bound = omega (arith, g .bound)
+  bound = omega (arith, g .bound);
 }
 
 -- ---- rounding
@@ -201,13 +201,13 @@ below-mid f K k q m a l u g = go k a (here-or-on q (hid f))
         (mul-lt-mul-of-pos-right (shorter (hid f) H g) (mul-pos (pow-pos j) (pow-pos j)))
 
 -- the digits under the root
-digits-least : (h d b : ℕ) → h ≤ d → h ≤ d * (1 + b)
+pub digits-least : (h d b : ℕ) → h ≤ d → h ≤ d * (1 + b)
 digits-least h d b l = omega (arith, mul-le-mul-left d (zero-le-more b))
   where
     zero-le-more : (b : ℕ) → 1 ≤ 1 + b
     zero-le-more b = omega arith
 
-digits-most : (h d b : ℕ) → b < 2 → d < 2 * h → d * (1 + b) ≤ 4 * h - 2
+pub digits-most : (h d b : ℕ) → b < 2 → d < 2 * h → d * (1 + b) ≤ 4 * h - 2
 digits-most h d b l u =
     let m : d * (1 + b) ≤ d * 2 = mul-le-mul-left d (omega arith) in
     omega arith

@@ -22,6 +22,12 @@ root-over n s r b w h = elim (here-or-on s b) [ inl l ↦ absurd (no l (mul-le-m
     no : s < b → suc s * suc s ≤ b * b → ⊥
     no l m = omega (arith, w .sum, w .small)
 
+pub root-within : (n s r a b : ℕ) → a * a ≤ n → n < b * b → IsWholeRoot n s r → (a ≤ s) × (s < b)
+root-within n s r a b l u w = (root-over n s r a w l, root-under n s r b w u)
+
+pub same-number : (n m s r : ℕ) → m ≡ n → IsWholeRoot m s r → IsWholeRoot n s r
+same-number n m s r e w = subst (λ (z : ℕ). IsWholeRoot z s r) e w
+
 -- ---- one division: the root s of a number, with the rest r, made longer by the digits hi and lo to the base b
 module _ (s r hi lo b : ℕ) (small : r ≤ 2 * s) (base : b ≤ 2 * s) (high : hi < b) (low : lo < b) where
   twice-pos : 0 < s * 2
@@ -118,7 +124,7 @@ room s r hi lo b (small, under, base, most, high, low) =
       over = omega (arith, over-lt s r hi lo b small base high low);
       root = omega arith;
       some = root-pos s r hi lo b small base high low;
-      enough = square-le s r hi lo b small base high low
+      enough = square-le s r hi lo b small base high low;
     }
 
 -- ---- two binary digits on
@@ -155,22 +161,3 @@ short-turn n (suc l) s r s' r' p w w' =
 pub short-end : (n left s r : ℕ) → left ≤ 0 → IsWholeRoot (n / 2 ^ (left * 2)) s r → IsWholeRoot n s r
 short-end n zero s r p w = subst (λ (z : ℕ). IsWholeRoot z s r) (div-one n) w
 short-end n (suc l) s r p w = absurd (not-suc-le-zero p)
-
--- ---- four parts of a number of 53 or 54 binary digits
-pub seven-fits : (n s r : ℕ) → 4503599627370496 ≤ n → n < 18014398509481984 → IsWholeRoot (n / 1099511627776) s r → (64 ≤ s) × (s < 128)
-seven-fits n s r l u w = (root-over (n / 1099511627776) s r 64 w (omega arith), root-under (n / 1099511627776) s r 128 w (omega arith))
-
-pub fourteen-is : (n t s r : ℕ) → t ≡ n / 1099511627776 → IsWholeRoot (t * (128 * 128) + n / 8589934592 % 128 * 128 + n / 67108864 % 128) s r → IsWholeRoot (n / 67108864) s r
-fourteen-is n t s r e w = subst (λ (z : ℕ). IsWholeRoot z s r) (omega arith) w
-
-pub fourteen-fits : (n s r : ℕ) → 4503599627370496 ≤ n → n < 18014398509481984 → IsWholeRoot (n / 67108864) s r → (8192 ≤ s) × (s < 16384)
-fourteen-fits n s r l u w = (root-over (n / 67108864) s r 8192 w (omega arith), root-under (n / 67108864) s r 16384 w (omega arith))
-
-pub half-is : (n t s r : ℕ) → t ≡ n / 67108864 → IsWholeRoot (t * (8192 * 8192) + n / 8192 % 8192 * 8192 + n % 8192) s r → IsWholeRoot n s r
-half-is n t s r e w = subst (λ (z : ℕ). IsWholeRoot z s r) (omega arith) w
-
-pub half-fits : (n s r : ℕ) → 4503599627370496 ≤ n → n < 18014398509481984 → IsWholeRoot n s r → (67108864 ≤ s) × (s < 134217728)
-half-fits n s r l u w = (root-over n s r 67108864 w l, root-under n s r 134217728 w u)
-
-pub whole-is : (n t s r : ℕ) → t ≡ n → IsWholeRoot (t * (134217728 * 134217728) + 0 * 134217728 + 0) s r → IsWholeRoot (n * 18014398509481984) s r
-whole-is n t s r e w = subst (λ (z : ℕ). IsWholeRoot z s r) (omega arith) w

@@ -122,8 +122,10 @@ fn root_bits(bits: u64) -> u64
     let v = digits_of(bits);
     let digits = v.digits;
     let exponent = v.exponent;
-    let found = long_root(digits * (1 + exponent % 2));
-    exponent / 2 * 4503599627370496 + (found.root + 1) / 2
+    let under = digits * (1 + exponent % 2);
+    let found = long_root(under);
+    let rounded = (found.root + 1) / 2;
+    exponent / 2 * 4503599627370496 + rounded
 }
 
 // The root of the variance, correctly rounded: NaN for a NaN and for what is below zero, a zero for
