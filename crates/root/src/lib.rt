@@ -1,9 +1,15 @@
 // The root of an f64, worked out from its bits and correctly rounded.
 ghost use mathlib.Core.Path.{_≡_};
 ghost use Prim.Native.Nat.{_+_, _*_, _≤_, _<_};
-ghost use lib.Ieee.{binary64, ofBits};
+ghost use lib.Ieee.{binary64, hid, ones, ofBits};
 ghost use Rattle.root.specs.Root.{root};
 ghost use Rattle.root.specs.Whole.{IsWholeRoot, IsScaled};
+
+// 2 ^ 52, the weight of an f64's leading binary digit.
+const LEADING: u64 = 4503599627370496;
+
+// The bits of +infinity, 2047 * 2 ^ 52.
+const INFINITY_BITS: u64 = 9218868437227405312;
 
 // A whole number's root, and what the root's square leaves of the number.
 struct WholeRoot {
@@ -80,10 +86,11 @@ fn next_digits(found: WholeRoot, high: u64, low: u64, base: u64) -> WholeRoot
     }
 }
 
-// The root of n * 2 ^ 54, for an n of 53 or 54 binary digits.
+// The root of n * 2 ^ 54, for an n of 53 or 54 binary digits: 7, 14, 27 and then 54 digits of it, from
+// n's digits above 2 ^ 40, 2 ^ 26 and 1, and zeros.
 fn long_root(n: u64) -> WholeRoot
-    requires { ⌜ (4503599627370496 ≤ n) × (n < 18014398509481984) ⌝ }
-    ensures { λ r. ⌜ IsWholeRoot (n * 18014398509481984) (r .root) (r .rest) ⌝ }
+    requires { ⌜ (hid binary64 ≤ n) × (n < 4 * hid binary64) ⌝ }
+    ensures { λ r. ⌜ IsWholeRoot (n * (4 * hid binary64)) (r .root) (r .rest) ⌝ }
 {
     let seven = short_root(n / 1099511627776);
     let fourteen = next_digits(seven, n / 8589934592 % 128, n / 67108864 % 128, 128);
@@ -94,12 +101,12 @@ fn long_root(n: u64) -> WholeRoot
 // A positive finite value by its bits, as digits * 2 ^ exponent. A subnormal value's digits are moved
 // up until there are 53.
 fn digits_of(bits: u64) -> Scaled
-    requires { ⌜ (0 < bits) × (bits < 9218868437227405312) ⌝ }
+    requires { ⌜ (0 < bits) × (bits < ones binary64 * hid binary64) ⌝ }
     ensures { λ r. ⌜ IsScaled binary64 (ofBits binary64 bits) (r .digits) (r .exponent) ⌝ }
 {
-    if 4503599627370496 <= bits {
-        let all = bits % 4503599627370496 + 4503599627370496;
-        let field = bits / 4503599627370496 + 1021;
+    if LEADING <= bits {
+        let all = bits % LEADING + LEADING;
+        let field = bits / LEADING + 1021;
         return Scaled {
             digits: all,
             exponent: field,
@@ -107,7 +114,7 @@ fn digits_of(bits: u64) -> Scaled
     }
     let mut digits = bits;
     let mut exponent: u64 = 1022;
-    while digits < 4503599627370496 {
+    while digits < LEADING {
         digits = digits * 2;
         exponent -= 1;
     }
@@ -116,8 +123,8 @@ fn digits_of(bits: u64) -> Scaled
 
 // The bits of the root of a positive finite value.
 fn root_bits(bits: u64) -> u64
-    requires { ⌜ (0 < bits) × (bits < 9218868437227405312) ⌝ }
-    ensures { λ r. ⌜ (r < 9218868437227405312) × (ofBits binary64 r ≡ root binary64 (ofBits binary64 bits)) ⌝ }
+    requires { ⌜ (0 < bits) × (bits < ones binary64 * hid binary64) ⌝ }
+    ensures { λ r. ⌜ (r < ones binary64 * hid binary64) × (ofBits binary64 r ≡ root binary64 (ofBits binary64 bits)) ⌝ }
 {
     let v = digits_of(bits);
     let digits = v.digits;
@@ -125,7 +132,7 @@ fn root_bits(bits: u64) -> u64
     let under = digits * (1 + exponent % 2);
     let found = long_root(under);
     let rounded = (found.root + 1) / 2;
-    exponent / 2 * 4503599627370496 + rounded
+    exponent / 2 * LEADING + rounded
 }
 
 // The root of the variance, correctly rounded: NaN for a NaN and for what is below zero, a zero for
@@ -134,14 +141,14 @@ pub fn root_f64(variance: f64) -> f64
     ensures { λ r. ⌜ r ≡ root binary64 variance ⌝ }
 {
     if variance == 0.0 {
-        return variance;
+        return variance; // a zero, with its sign
     }
     if 0.0 < variance {
         let bits = f64::to_bits(variance);
-        if bits < 9218868437227405312 {
+        if bits < INFINITY_BITS {
             return f64::from_bits(root_bits(bits));
         }
-        return variance;
+        return variance; // +infinity
     }
-    0.0 / 0.0
+    0.0 / 0.0 // a NaN
 }
