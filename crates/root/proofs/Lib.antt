@@ -4,3 +4,4 @@ pub mod Roots
 mod Wholes
 mod Rounded
 mod Cases
+mod Examples
