@@ -1,17 +1,16 @@
 -- Which case of the root each of the code's tests leaves. Over the format. Assumes nothing.
 use mathlib.Core.Path.{_≡_, refl, sym, ap, _∙_, subst}
 use Prim.Native.Nat.{ℕ, zero, suc, _+_, _*_, _≤_, _<_}
-use native.Mathlib.Nat.{lt-irrefl, le-of-eq, not-le-of-lt, zero-lt-suc, mul-pos}
+use native.Mathlib.Nat.{not-le-of-lt, zero-lt-suc, mul-pos}
 use native.Mathlib.Omega.{arith}
 use mathlib.Core.Bool.{Bool, true, false, not, _&&_, _||_, Bool·beq, true≢false}
-use lib.IntN.{ℤ, pos}
-use lib.Dec.{T, ltb, eqb, eqb→eq, eqb-refl, ltb→lt, lt→ltb}
-use lib.Ieee.{Float, nan, inf, fin, Format, up, down, hid, ones, ofBits, toBits, fits, isNan, nanBits, eq, lt}
+use lib.Dec.{T, ltb, eqb, eqb→eq, ltb→lt, lt→ltb}
+use lib.Ieee.{Float, nan, inf, fin, Format, up, down, hid, ones, toBits, fits, isNan, nanBits, eq, lt}
 use lib.Ieee.Fits.{up-pos, and-l}
 use lib.Ieee.Bits.{is-true, nanBits-is}
 use lib.Ieee.Positive.{positive}
 use Rattle.root.specs.Root.{root}
-use Rattle.root.proofs.Patterns.{plus, positive-plus, pattern-of, number-at}
+use Rattle.root.proofs.Patterns.{pattern-of, number-at}
 use Rattle.root.proofs.Roots.{zero-value}
 
 wrong : {X : Type 0} (b : Bool) → b ≡ true → b ≡ false → X

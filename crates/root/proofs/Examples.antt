@@ -4,7 +4,7 @@ use mathlib.Core.Bool.{false}
 use lib.IntN.{pos, negsuc}
 use native.Mathlib.Nat.{not-le-of-lt, le-of-lt}
 use lib.Dec.{lit<}
-use lib.Ieee.{Float, fin, binary32, binary64, fits, ofBits, toBits}
+use lib.Ieee.{fin, binary32, binary64, fits, ofBits, toBits}
 use Rattle.root.specs.Root.{count, IsRoot, root}
 use Rattle.root.proofs.Roots.{root-only}
 

@@ -2,16 +2,16 @@
 use mathlib.Core.Path.{_≡_, refl, sym, ap, _∙_, subst, subst₂}
 use mathlib.Core.Logic.{_⊎_, inl, inr}
 use Prim.Native.Nat.{ℕ, zero, suc, _+_, _-_, _*_, _/_, _%_, _^_, _≤_, _<_}
-use native.Mathlib.Nat.{le-refl, le-trans, lt-of-lt-of-le, lt-of-le-of-lt, le-of-lt, not-le-of-lt, le-div-iff-mul-le, lt-irrefl, zero-lt-suc, lt-of-not-le, eq-or-lt-of-le, mod-eq-of-lt, mod-lt, div-lt-iff-lt-mul, div-eq-of-lt, div-add-mod', mul-le-mul-right, mul-lt-mul-of-pos-right, mul-div-cancel, pow-suc, mul-one, mul-comm, mul-right-comm, mul-pos, mul-assoc, le-of-eq, le-of-suc-le-suc, not-suc-le-zero, div-eq-of-lt-le}
+use native.Mathlib.Nat.{le-refl, lt-of-lt-of-le, le-of-lt, not-le-of-lt, le-div-iff-mul-le, lt-irrefl, zero-lt-suc, eq-or-lt-of-le, mod-eq-of-lt, mod-lt, div-lt-iff-lt-mul, div-eq-of-lt, div-add-mod', mul-le-mul-right, mul-div-cancel, pow-suc, mul-comm, mul-right-comm, mul-pos, mul-assoc, le-of-eq, le-of-suc-le-suc, not-suc-le-zero, div-eq-of-lt-le}
 use native.Mathlib.Numerals.{sub-one}
 use native.Mathlib.Omega.{arith}
 use mathlib.Core.Bool.{Bool, true, false, not, cond}
-use lib.Dec.{T, leb, ltb, eqb, leb→le, le→leb, eqb→eq, not-T, T-not, ltb→lt, nltb→le, lit<, lit≤}
-use lib.Arith.{digits-div, digits-mod, digits-lt}
-use lib.Pow.{pow-add, pow-pos}
-use lib.Ieee.{Float, nan, inf, fin, Format, binary32, binary64, prec, emax, low, up, down, odd, hid, ones, top, ofFields, ofBits, toBits, fits, isNan}
+use lib.Dec.{T, leb, ltb, eqb, leb→le, le→leb, eqb→eq, not-T, ltb→lt, nltb→le, lit<}
+use lib.Arith.{digits-div, digits-mod}
+use lib.Pow.{pow-pos}
+use lib.Ieee.{Float, nan, inf, fin, Format, binary32, binary64, prec, emax, low, down, odd, hid, ones, top, ofFields, ofBits, toBits, fits, isNan}
 use lib.Ieee.Fits.{down-pos}
-use lib.Ieee.Bits.{is-true, is-false, cond-no, ofBits-toBits, toBits-ofBits, toBits-lt, ofBits-fits}
+use lib.Ieee.Bits.{is-true, is-false, cond-no, ofBits-toBits, toBits-ofBits}
 use lib.Ieee.Exact.{HasValue, odd-sign}
 use lib.Ieee.Positive.{positive, positive-of-value, value-pos}
 use Rattle.root.specs.Root.{count}
@@ -169,9 +169,6 @@ carry h q k e = ap (λ (z : ℕ). h * z) (pow-suc 2 k) ∙ sym (mul-assoc h (2 ^
 pub next-count : (f : Format) (K k q : ℕ) → At f K k q → count f (ofBits f (suc K)) ≡ suc q * 2 ^ k
 next-count f K k q a = go (eq-or-lt-of-le (a .digits)) (eq-or-lt-of-le (a .finite))
   where
-    h : ℕ
-    h = hid f
-
     further : (k ≡ 0) ⊎ (hid f ≤ q) → (k ≡ 0) ⊎ (hid f ≤ suc q)
     further (inl z) = inl z
     further (inr l) = inr (omega arith)

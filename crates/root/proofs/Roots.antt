@@ -1,22 +1,25 @@
--- The root of specs/Root: that it exists and is the only one, that no tie can happen, that the midpoints are those beside the neighbouring floats,
--- and the special cases. Over the format. Assumes nothing.
+-- The root of specs/Root, over the format. What another crate cites:
+-- `root-is`, the root of a positive finite value exists; `root-only`, it is the only one; `no-tie`, `no-tie-lower`, the value is at no midpoint's square;
+-- `root-fits`, it is a value of the format; `root-nan` and what follows, the special cases; `root-nan-exactly`, `root-positive`, `root-not-below`, which roots are
+-- NaN, positive, and never below zero; `count-exact`, the whole numbers are exact; `before-lt`, `after-lt`, `none-before`, `none-after`, the midpoints are those
+-- beside the neighbouring floats; `half-gap`, below a power of two the gap is half the gap above. Assumes nothing.
 use mathlib.Core.Path.{_≡_, refl, sym, ap, ap₂, _∙_, subst, subst₂}
 use mathlib.Core.Logic.{_⊎_, inl, inr}
 use Prim.Native.Nat.{ℕ, zero, suc, _+_, _-_, _*_, _/_, _%_, _^_, _≤_, _<_, zero-le}
 use native.Mathlib.Nat.{le-refl, le-trans, le-of-eq, lt-of-lt-of-le, lt-of-le-of-lt, le-of-lt, not-le-of-lt, lt-irrefl, not-suc-le-zero, eq-or-lt-of-le, zero-lt-suc, add-le-add, mul-le-mul, mul-le-mul-left, mul-le-mul-right, mul-lt-mul-of-pos-right, mul-pos, mul-assoc, mul-comm, mul-right-comm, eq-of-mul-eq-mul-right, pow-succ', le-of-suc-le-suc, lt-of-mul-lt-mul-right, zero-mul, zero-div, mul-div-cancel}
 use native.Mathlib.Numerals.{add-one, sub-one}
 use native.Mathlib.Omega.{arith}
-use mathlib.Core.Bool.{Bool, true, false, not, cond, _&&_, true≢false}
+use mathlib.Core.Bool.{Bool, true, false, not, cond, _&&_, _||_, true≢false}
 use lib.IntN.{ℤ, pos, negsuc}
-use lib.Dec.{T, ltb, leb, eqb, leb→le, ltb→lt, lt→ltb, nltb→le, T-not, not-T, lit<, lit≤}
+use lib.Dec.{T, ltb, leb, eqb, leb→le, ltb→lt, lt→ltb, nltb→le, T-not, not-T, lit≤}
 use lib.Pow.{pow-add, pow-pos, pow-mono, pow-lt}
-use lib.Ieee.{Float, nan, inf, fin, Format, binary32, binary64, prec, emax, low, up, down, hid, ones, ofBits, toBits, fits, lt}
+use lib.Ieee.{Float, nan, inf, fin, Format, binary32, binary64, prec, emax, low, up, down, hid, ones, ofBits, toBits, fits, isNan, lt}
 use lib.Ieee.Fits.{up-pos, down-pos, nan-fits, inf-fits, and-l, and-r}
-use lib.Ieee.Bits.{is-false, ofBits-toBits, ofBits-fits}
+use lib.Ieee.Bits.{is-true, is-false, ofBits-toBits, ofBits-fits}
 use lib.Ieee.Exact.{HasValue}
 use lib.Ieee.Positive.{positive}
 use Rattle.root.specs.Root.{count, before, after, lower, upper, scaled, IsRoot, firstFrom, belowUpper, root}
-use Rattle.root.proofs.Patterns.{At, Fields, fields, at-value, at-count, next-count, count-step, count-lt, count-le, hid-pos, two-ones, inf-count, inf-pattern, last-count, plus, positive-plus, Pattern, pattern-of, pattern-pos, positive-at, bits-at, here-or-on}
+use Rattle.root.proofs.Patterns.{At, fields, at-value, at-count, next-count, count-step, count-lt, count-le, hid-pos, two-ones, inf-count, inf-pattern, last-count, plus, positive-plus, Pattern, pattern-of, pattern-pos, positive-at, bits-at, here-or-on}
 
 -- ---- the search
 record Found (test : ℕ → Bool) (k j r : ℕ) : Type 0 where
@@ -82,8 +85,8 @@ at-fails : (f : Format) (v : Float) (K : ℕ) → K < ones f * hid f → T (not 
 at-fails f v K u t = nltb→le (scaled f v) (mid f K * mid f K) (subst (λ (b : Bool). T (not b)) (test-at f v K u) t)
 
 -- ---- no tie
--- Twice a midpoint is an odd number of more binary digits than the format keeps, times a power of two: or an odd number. Its square is as far from
--- even, and has more digits still; four times a value is an even number, or a number of at most `prec` digits times a power of two.
+-- Twice a midpoint is (2 * q + 1) * 2 ^ k, so its square is an odd square times 2 ^ (2 * k). The value, scaled, is n * 2 ^ b, with n of at most `prec`
+-- binary digits and b above 0. Were the two equal, the odd square would be even, or at most n: but where k is not 0, 2 * q + 1 alone has more than `prec` digits.
 odd-even : (q x y : ℕ) → (2 * q + 1) * (2 * q + 1) ≡ x * (2 * y) → ⊥
 odd-even q x y e = parity (2 * (q * q) + 2 * q) (x * y) (omega (arith, e))
   where
@@ -106,8 +109,8 @@ never h q k n b N l B e = go (here-or-on (k + k) b)
         no k b z p w = omega arith
     large (inr g) w = g
 
-    over : (x p : ℕ) → 0 < p → h ≤ q → (2 * q + 1) * (2 * q + 1) * p ≡ n → ⊥
-    over x p P g w =
+    over : (p : ℕ) → 0 < p → h ≤ q → (2 * q + 1) * (2 * q + 1) * p ≡ n → ⊥
+    over p P g w =
         let s : (2 * q + 1) * 1 ≤ (2 * q + 1) * (2 * q + 1) = mul-le-mul-left (2 * q + 1) (omega arith) in
         let t : (2 * q + 1) * (2 * q + 1) * 1 ≤ (2 * q + 1) * (2 * q + 1) * p = mul-le-mul-left ((2 * q + 1) * (2 * q + 1)) P in
         omega (arith, w)
@@ -121,7 +124,7 @@ never h q k n b N l B e = go (here-or-on (k + k) b)
         one-less : (x y : ℕ) → x < y → y - x ≡ suc (y - x - 1)
         one-less x y l = omega arith
     go (inr w) =
-        over 0 (2 ^ (k + k - b)) (pow-pos (k + k - b)) (large l w)
+        over (2 ^ (k + k - b)) (pow-pos (k + k - b)) (large l w)
         (eq-of-mul-eq-mul-right (2 ^ b) (pow-pos b) ((2 * q + 1) * (2 * q + 1) * 2 ^ (k + k - b)) n
         (mul-assoc ((2 * q + 1) * (2 * q + 1)) (2 ^ (k + k - b)) (2 ^ b) ∙ ap (λ (z : ℕ). (2 * q + 1) * (2 * q + 1) * z) (sym (split-pow b (k + k) w)) ∙ e))
 
@@ -247,27 +250,47 @@ root-at f v K p u a b =
     fails-at f v i (lt-of-le-of-lt j w) (le-trans (mul-le-mul m m) (le-of-lt a)) in
     sym (root-search f v p ∙ ap (ofBits f) (found-only (belowUpper f v) (ones f * hid f) (suc K) u (passes-at f v (suc K) u b) none))
 
+-- a positive value by its pattern, which is one more than its lower neighbour's
+record Beside (f : Format) (s : Float) : Type 0 where
+  K : ℕ
+  here : s ≡ ofBits f (suc K)
+  under : suc K < ones f * hid f
+  lower-one : before f s ≡ ofBits f K
+  upper-one : after f s ≡ ofBits f (suc (suc K))
+
+beside : (f : Format) (s : Float) → T (fits f s) → T (positive s) → Beside f s
+beside f s F p = go (toBits f s) refl
+  where
+    go : (n : ℕ) → toBits f s ≡ n → Beside f s
+    go zero e = absurd (lt-irrefl 0 (subst (λ (z : ℕ). 0 < z) e (pattern-pos f s F p)))
+    go (suc n) e = record {
+      K = n;
+      here = sym (ofBits-toBits f s F) ∙ ap (ofBits f) e;
+      under = subst (λ (z : ℕ). z < ones f * hid f) e (pattern-of f s F (positive-plus s p) .below);
+      lower-one = ap (λ (z : ℕ). ofBits f (z - 1)) e ∙ ap (ofBits f) (sub-one (suc n));
+      upper-one = ap (λ (z : ℕ). ofBits f (z + 1)) e ∙ ap (ofBits f) (add-one (suc n));
+    }
+
 -- The root is the only one: a value of the format that is a root of v is `root f v`.
 pub root-only : (f : Format) (v s : Float) → T (positive v) → T (fits f s) → IsRoot f v s → s ≡ root f v
-root-only f v s p S r = go (toBits f s) refl
-  where
-    go : (K : ℕ) → toBits f s ≡ K → s ≡ root f v
-    go zero e = absurd (no (toBits f s) (pattern-pos f s S (r .positive-finite)) e)
-      where
-        no : (x : ℕ) → 0 < x → x ≡ 0 → ⊥
-        no x l z = omega arith
-    go (suc K) e =
-        let i : ofBits f (suc K) ≡ s = ap (ofBits f) (sym e) ∙ ofBits-toBits f s S in
-        let u : suc K < ones f * hid f = subst (λ (z : ℕ). z < ones f * hid f) e (pattern-of f s S (positive-plus s (r .positive-finite)) .below) in
-        let q : IsRoot f v (ofBits f (suc K)) = subst (λ (x : Float). IsRoot f v x) (sym i) r in
-        sym i
-        ∙ root-at f v K p u (subst (λ (z : ℕ). z * z < scaled f v) (lower-at f K u) (q .above-lower)) (subst (λ (z : ℕ). scaled f v < z * z) (upper-at f (suc K) u) (q .below-upper))
+root-only f v s p S r =
+    let b = beside f s S (r .positive-finite) in
+    let u = b .under in
+    let q : IsRoot f v (ofBits f (suc (b .K))) = subst (λ (x : Float). IsRoot f v x) (b .here) r in
+    b .here
+    ∙ root-at f v (b .K) p u (subst (λ (z : ℕ). z * z < scaled f v) (lower-at f (b .K) u) (q .above-lower)) (subst (λ (z : ℕ). scaled f v < z * z) (upper-at f (suc (b .K)) u) (q .below-upper))
 
 -- No tie can happen: the variance is never at a midpoint's square (the reason stands at "no tie" above).
 pub no-tie : (f : Format) (v s : Float) → T (fits f v) → T (positive v) → T (fits f s) → T (positive s) → scaled f v ≡ upper f s * upper f s → ⊥
 no-tie f v s F p S q e =
     let P = pattern-of f s S (positive-plus s q) in
     tie-at f v (toBits f s) F p (P .below) (e ∙ ap (λ (z : ℕ). z * z) (ap (upper f) (sym (P .is)) ∙ upper-at f (toBits f s) (P .below)))
+
+-- nor at the square of the one below
+pub no-tie-lower : (f : Format) (v s : Float) → T (fits f v) → T (positive v) → T (fits f s) → T (positive s) → scaled f v ≡ lower f s * lower f s → ⊥
+no-tie-lower f v s F p S q e =
+    let b = beside f s S q in
+    tie-at f v (b .K) F p (le-of-lt (b .under)) (e ∙ ap (λ (x : ℕ). x * x) (ap (lower f) (b .here) ∙ lower-at f (b .K) (b .under)))
 
 -- ---- the special cases
 pub root-nan : (f : Format) → root f nan ≡ nan
@@ -328,6 +351,24 @@ root-not-below f (fin true zero e) F = subst (λ (x : Float). T (not (lt x zero-
 root-not-below f (fin false zero e) F = subst (λ (x : Float). T (not (lt x zero-value))) (sym (root-zero f false e)) (nothing-below (0 * up e * 1) (0 * 1 * down e) (zero-times 1 (down e)))
 root-not-below f (fin true (suc m) e) F = subst (λ (x : Float). T (not (lt x zero-value))) (sym (root-minus f m e)) tt
 root-not-below f (fin false (suc m) e) F = plus-not-below (root f (fin false (suc m) e)) (root-positive f (fin false (suc m) e) F (lt→ltb 0 (suc m) (zero-lt-suc m)))
+
+-- a root is a NaN exactly where the value is a NaN or below zero
+pub root-nan-exactly : (f : Format) (v : Float) → T (fits f v) → isNan (root f v) ≡ (isNan v || lt v zero-value)
+unfolding isNan lt
+root-nan-exactly f nan F = ap isNan (root-nan f)
+root-nan-exactly f (inf true) F = ap isNan (root-minus-inf f)
+root-nan-exactly f (inf false) F = ap isNan (root-inf f)
+root-nan-exactly f (fin s zero e) F = ap isNan (root-zero f s e) ∙ sym (is-false (lt (fin s zero e) zero-value) (subst (λ (x : Float). T (not (lt x zero-value))) (root-zero f s e) (root-not-below f (fin s zero e) F)))
+root-nan-exactly f (fin true (suc m) e) F =
+    ap isNan (root-minus f m e) ∙ sym (is-true (ltb 0 (suc m * up e * 1 + 0 * 1 * down e)) (lt→ltb 0 (suc m * up e * 1 + 0 * 1 * down e) (omega (arith, mul-pos (zero-lt-suc m) (up-pos e)))))
+root-nan-exactly f (fin false (suc m) e) F =
+    let p : T (positive (fin false (suc m) e)) = lt→ltb 0 (suc m) (zero-lt-suc m) in
+    number (root f (fin false (suc m) e)) (root-positive f (fin false (suc m) e) F p) ∙ sym (is-false (lt (fin false (suc m) e) zero-value) (plus-not-below (fin false (suc m) e) p))
+  where
+    number : (x : Float) → T (positive x) → isNan x ≡ false
+    number nan p = absurd p
+    number (inf s) p = absurd p
+    number (fin s m e) p = refl
 
 -- ---- the count is exact, and orders values as `lt` does
 pub count-exact : (f : Format) (s : Bool) (m : ℕ) (e : ℤ) → T (fits f (fin s m e)) → count f (fin s m e) * down e ≡ m * up e * 2 ^ low f
@@ -448,27 +489,6 @@ none-at f K x u F a b =
         let m : toBits f x < suc K = pattern-lt f (suc K) (toBits f x) (le-of-lt (P .below)) (subst (λ (z : Float). count f z < count f (ofBits f (suc K))) (sym (P .is)) c) in
         not-le-of-lt m l
 
--- a positive value by its pattern, which is one more than its lower neighbour's
-record Beside (f : Format) (s : Float) : Type 0 where
-  K : ℕ
-  here : s ≡ ofBits f (suc K)
-  under : suc K < ones f * hid f
-  lower-one : before f s ≡ ofBits f K
-  upper-one : after f s ≡ ofBits f (suc (suc K))
-
-beside : (f : Format) (s : Float) → T (fits f s) → T (positive s) → Beside f s
-beside f s F p = go (toBits f s) refl
-  where
-    go : (n : ℕ) → toBits f s ≡ n → Beside f s
-    go zero e = absurd (lt-irrefl 0 (subst (λ (z : ℕ). 0 < z) e (pattern-pos f s F p)))
-    go (suc n) e = record {
-      K = n;
-      here = sym (ofBits-toBits f s F) ∙ ap (ofBits f) e;
-      under = subst (λ (z : ℕ). z < ones f * hid f) e (pattern-of f s F (positive-plus s p) .below);
-      lower-one = ap (λ (z : ℕ). ofBits f (z - 1)) e ∙ ap (ofBits f) (sub-one (suc n));
-      upper-one = ap (λ (z : ℕ). ofBits f (z + 1)) e ∙ ap (ofBits f) (add-one (suc n));
-    }
-
 -- `before` and `after` are the floats beside a positive s: they lie on each side of s, and no value of the format lies strictly between.
 pub before-lt : (f : Format) (s : Float) → T (fits f s) → T (positive s) → T (lt (before f s) s)
 before-lt f s F p =
@@ -495,7 +515,6 @@ pub half-gap : (f : Format) (s : Float) (k : ℕ) → T (fits f s) → T (positi
     → (count f s ≡ count f (before f s) + 2 ^ k) × (count f (after f s) ≡ count f s + 2 ^ suc k)
 half-gap f s k F p e =
     let b = beside f s F p in
-    let h = hid f in
     let J = k * hid f + (2 * hid f - 1) in
     let H = hid-pos f in
     let here : count f s ≡ count f (ofBits f (suc (b .K))) = ap (count f) (b .here) in

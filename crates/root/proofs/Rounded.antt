@@ -3,7 +3,7 @@
 use mathlib.Core.Path.{_≡_, refl, sym, ap, ap₂, _∙_, subst, subst₂}
 use mathlib.Core.Logic.{_⊎_, inl, inr}
 use Prim.Native.Nat.{ℕ, zero, suc, _+_, _-_, _*_, _/_, _%_, _^_, _≤_, _<_}
-use native.Mathlib.Nat.{le-refl, le-trans, le-of-eq, le-of-lt, lt-of-lt-of-le, lt-of-le-of-lt, not-le-of-lt, lt-irrefl, eq-or-lt-of-le, mul-le-mul, mul-le-mul-left, mul-le-mul-right, mul-lt-mul-of-pos-right, mul-pos, mul-assoc, mul-comm, mul-one, le-div-iff-mul-le, div-lt-iff-lt-mul, div-add-mod', pow-succ', mod-lt, pow-suc}
+use native.Mathlib.Nat.{le-refl, le-of-lt, lt-of-lt-of-le, lt-of-le-of-lt, not-le-of-lt, lt-irrefl, eq-or-lt-of-le, mul-le-mul, mul-le-mul-left, mul-le-mul-right, mul-lt-mul-of-pos-right, mul-pos, mul-assoc, mul-one, le-div-iff-mul-le, div-lt-iff-lt-mul, pow-succ', mod-lt}
 use native.Mathlib.Omega.{arith}
 use lib.Dec.{T, lit<, lit≤}
 use lib.Pow.{pow-add, pow-pos, pow-mono}
@@ -11,7 +11,7 @@ use lib.Ieee.{Float, Format, binary32, binary64, prec, emax, low, hid, ones, ofB
 use lib.Ieee.Positive.{positive}
 use Rattle.root.specs.Root.{count, scaled, root}
 use Rattle.root.specs.Whole.{IsWholeRoot, IsScaled}
-use Rattle.root.proofs.Patterns.{At, at-count, subnormal-at, normal-at, hid-pos, two-ones, here-or-on}
+use Rattle.root.proofs.Patterns.{At, at-count, subnormal-at, normal-at, hid-pos, here-or-on}
 use Rattle.root.proofs.Roots.{mid, mid-is, root-at}
 use Rattle.root.proofs.Wholes.{root-under, root-over}
 

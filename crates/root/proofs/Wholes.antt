@@ -1,11 +1,11 @@
 -- The root of a whole number, digit by digit and by division, over any base. On plain numbers. Assumes nothing.
-use mathlib.Core.Path.{_≡_, refl, sym, ap, _∙_, subst}
+use mathlib.Core.Path.{_≡_, sym, ap, _∙_, subst}
 use mathlib.Core.Logic.{inl, inr}
 use Prim.Native.Nat.{ℕ, zero, suc, _+_, _-_, _*_, _/_, _%_, _^_, _≤_, _<_}
-use native.Mathlib.Nat.{le-refl, le-trans, le-of-lt, lt-of-lt-of-le, lt-of-le-of-lt, not-le-of-lt, mul-le-mul, mul-le-mul-left, mul-le-mul-right, div-add-mod', mod-lt, div-div-eq-div-mul, div-lt-iff-lt-mul, mul-pos, lt-irrefl, div-le-self, div-one, not-suc-le-zero}
+use native.Mathlib.Nat.{le-trans, mul-le-mul, mul-le-mul-left, mul-le-mul-right, div-add-mod', mod-lt, div-div-eq-div-mul, div-lt-iff-lt-mul, mul-pos, lt-irrefl, div-le-self, div-one, not-suc-le-zero}
 use native.Mathlib.Numerals.{add-one}
 use native.Mathlib.Omega.{arith}
-use lib.Pow.{pow-add, pow-pos}
+use lib.Pow.{pow-add}
 use Rattle.root.specs.Whole.{IsWholeRoot}
 use Rattle.root.proofs.Patterns.{here-or-on}
 

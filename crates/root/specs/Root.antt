@@ -27,7 +27,8 @@ lower f s = count f (before f s) + count f s
 abbrev pub upper : Format → Float → ℕ
 upper f s = count f s + count f (after f s)
 
--- the variance, on the scale of the squares of doubled midpoints: v is count * 2 ^ -low, and a midpoint's square is lower * lower / 4 * 2 ^ -(low + low)
+-- The variance on the scale of those squares: v is count * 2 ^ -low, and a midpoint's square is lower * lower / 4 * 2 ^ -(2 * low),
+-- so each is multiplied by 4 * 2 ^ (2 * low).
 abbrev pub scaled : Format → Float → ℕ
 scaled f v = 4 * (count f v * 2 ^ low f)
 
@@ -37,7 +38,7 @@ pub record IsRoot (f : Format) (v s : Float) : Type 0 where
   pub above-lower : lower f s * lower f s < scaled f v
   pub below-upper : scaled f v < upper f s * upper f s
 
--- the first k that passes the test, counting up from k, and after n that fail the next
+-- the first number from k on that passes the test, and k + n if the n numbers from k on all fail
 unfoldable pub firstFrom : (ℕ → Bool) → ℕ → ℕ → ℕ
 firstFrom test zero k = k
 firstFrom test (suc n) k = cond (test k) k (firstFrom test n (suc k))

@@ -1,7 +1,7 @@
 -- What the steps of the calculation promise each other. Nothing outside this crate rests on it. Definitions only.
 use mathlib.Core.Path.{_≡_}
-use Prim.Native.Nat.{ℕ, suc, _+_, _-_, _*_, _^_, _≤_, _<_}
-use lib.Ieee.{Float, Format, prec, emax, hid}
+use Prim.Native.Nat.{ℕ, _+_, _-_, _*_, _^_, _≤_, _<_}
+use lib.Ieee.{Float, Format, emax, hid}
 use Rattle.root.specs.Root.{count}
 
 -- root is the largest whole number whose square is at most n, and rest is what the square leaves of n
