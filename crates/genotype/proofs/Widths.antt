@@ -1,5 +1,5 @@
 -- Laws of block widths, over plain numbers.
-use mathlib.Core.Path.{_≡_, refl, ap, _∙_}
+use mathlib.Core.Path.{_≡_, refl, sym, ap, subst, _∙_}
 use Prim.Native.Nat.{ℕ, _+_, _-_, _*_, _/_, _^_, _≤_, _<_}
 use native.Mathlib.Nat.{zero-mul, le-div-iff-mul-le, div-lt-iff-lt-mul}
 use native.Mathlib.Omega.{arith}
@@ -48,19 +48,18 @@ quotient-passes w s p h = let q : 18446744073709551612 < s * w = div-lt-iff-lt-m
 quotient-keeps : (w s : ℕ) → 0 < w → s ≤ 18446744073709551612 / w → 3 + w * s ≤ 2 ^ 64 - 1
 quotient-keeps w s p h = let q : s * w ≤ 18446744073709551612 = le-div-iff-mul-le p .0 h in omega arith
 
-module _ (i s : ℕ) (hi : i ≤ countLimit) (hs : s ≤ countLimit) where
-  pub no-items : i ≡ 0 → divAnswer i s ≡ done (pos 0 ∷ [])
-  no-items e =
-      let w : blockWidth i ≡ 0 = width-none i e in
-      let z : blockWidth i * s ≡ 0 = rw w (zero-mul s) in
-      has-width i s hi hs (omega arith) ∙ ap (λ (n : ℕ). done (pos n ∷ [])) w
+module _ (i s : ℕ) (hi : i ≤ countLimit) (hs : s ≤ countLimit) (w : ℕ) (e : w ≡ blockWidth i) where
+  pub no-width : w ≡ 0 → divAnswer i s ≡ done (pos 0 ∷ [])
+  no-width z =
+      let k : blockWidth i ≡ 0 = sym e ∙ z in
+      let p : blockWidth i * s ≡ 0 = rw k (zero-mul s) in
+      has-width i s hi hs (omega arith) ∙ ap (λ (n : ℕ). done (pos n ∷ [])) k
 
-  module _ (n : i ≡ 0 → ⊥) where
-    pub quotient-below : 18446744073709551612 / ((i - 1) / 4 + 1) < s → divAnswer i s ≡ refused 4 []
-    quotient-below h =
-        too-big i s hi hs (rw (width-some i n) (quotient-passes ((i - 1) / 4 + 1) s (omega arith) h))
+  module _ (p : 0 < w) where
+    pub quotient-below : 18446744073709551612 / w < s → divAnswer i s ≡ refused 4 []
+    quotient-below h = too-big i s hi hs (subst (λ (k : ℕ). 2 ^ 64 - 1 < 3 + k * s) e (quotient-passes w s p h))
 
-    pub quotient-enough : s ≤ 18446744073709551612 / ((i - 1) / 4 + 1) → divAnswer i s ≡ done (pos ((i - 1) / 4 + 1) ∷ [])
+    pub quotient-enough : s ≤ 18446744073709551612 / w → divAnswer i s ≡ done (pos w ∷ [])
     quotient-enough h =
-        has-width i s hi hs (rw (width-some i n) (quotient-keeps ((i - 1) / 4 + 1) s (omega arith) h))
-        ∙ ap (λ (k : ℕ). done (pos k ∷ [])) (width-some i n)
+        has-width i s hi hs (subst (λ (k : ℕ). 3 + k * s ≤ 2 ^ 64 - 1) e (quotient-keeps w s p h))
+        ∙ ap (λ (k : ℕ). done (pos k ∷ [])) (sym e)

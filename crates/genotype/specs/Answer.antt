@@ -1,5 +1,5 @@
 -- What a call answers, and its checks in order.
-use mathlib.Core.Bool.{Bool, true, false}
+use mathlib.Core.Bool.{Bool, true, false, cond}
 use mathlib.Core.List.{List, [], _∷_}
 use mathlib.Core.Option.{Option, some, none}
 use Prim.Native.Nat.{ℕ, _^_, _-_}
@@ -21,6 +21,11 @@ unfoldable pub checkEntry : Option ℤ → ℕ → Answer → Answer
 checkEntry none n later = later
 checkEntry (some e) n later = refused n (e ∷ [])
 
+-- whether nothing was refused
+unfoldable pub isDone : Answer → Bool
+isDone (done vs) = true
+isDone (refused n vs) = false
+
 -- 18: "a count, a piece's height, width or start, or a range bound exceeds 2^63 − 1"
 abbrev pub countLimit : ℕ
 countLimit = 2 ^ 63 - 1
@@ -28,3 +33,8 @@ countLimit = 2 ^ 63 - 1
 unfoldable pub checkCount : ℕ → Answer → Answer
 unfolding check
 checkCount n later = check (leb n countLimit) 18 later
+
+-- "Every refusal leaves all lent bytes and values unchanged": a buffer's later contents, new if nothing was refused, else old
+unfoldable pub ifDone : {A : Type 0} → Answer → A → A → A
+unfolding isDone
+ifDone answer new old = cond (isDone answer) new old

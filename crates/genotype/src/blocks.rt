@@ -2,7 +2,7 @@
 ghost use mathlib.Core.Path.{_≡_};
 ghost use Prim.Native.Nat.{_*_};
 ghost use lib.Dec.{eqb, leb};
-ghost use Rattle.genotype.specs.Block.{divAnswer};
+ghost use Rattle.genotype.specs.Block.{blockWidth, divAnswer};
 ghost use Rattle.genotype.specs.Says.{divSays};
 
 // What `try_div_4` answers: the block width, or 18, or 4.
@@ -10,6 +10,16 @@ pub enum DivAnswer {
     Width(usize),
     CountTooLarge,
     IndexesTooBigForFiles,
+}
+
+// The width of a block of `count` items.
+pub fn block_width(count: usize) -> usize
+    ensures { λ r. ⌜ r ≡ blockWidth count ⌝ }
+{
+    if count == 0 {
+        return 0;
+    }
+    (count - 1) / 4 + 1
 }
 
 // The width of a block of `in_iid_count` items, for `in_sid_count` blocks.
@@ -22,10 +32,10 @@ pub fn try_div_4(in_iid_count: usize, in_sid_count: usize) -> DivAnswer
     if in_sid_count > 9223372036854775807 {
         return DivAnswer::CountTooLarge;
     }
-    if in_iid_count == 0 {
+    let width = block_width(in_iid_count);
+    if width == 0 {
         return DivAnswer::Width(0);
     }
-    let width = (in_iid_count - 1) / 4 + 1;
     if in_sid_count > 18446744073709551612 / width {
         return DivAnswer::IndexesTooBigForFiles;
     }
