@@ -23,9 +23,6 @@ unfolding isGood
 magnitude-good count (pos i) = refl
 magnitude-good count (negsuc k) = refl
 
-below : (count : ℕ) (z : ℤ) → isGood count z ≡ true → mag z < count
-below count z g = ltb-true (mag z) count (magnitude-good count z ∙ g)
-
 from-back : (count : ℕ) (z : ℤ) → ltZ z (pos 0) ≡ true → count - 1 - mag z ≡ means count z
 unfolding means
 from-back count (pos i) h = absurd (let b : i < 0 = ltb-true i 0 h in omega arith)
@@ -54,18 +51,20 @@ module _ (count : ℕ) (z : ℤ) (f : SFits w64 z) where
     pub tests-good : ltb m count ≡ isGood count z
     tests-good = ap (λ (k : ℕ). ltb k count) e′ ∙ magnitude-good count z
 
-    module _ (g : isGood count z ≡ true) where
-      pub place-below : m < count
-      place-below = subst (λ (k : ℕ). k < count) (sym e′) (below count z g)
+    pub number-back : ltZ (toZ w64 (ofZ w64 z)) (pos 0) ≡ true → count - 1 - m ≡ means count z
+    number-back h = ap (λ (k : ℕ). count - 1 - k) e′ ∙ from-back count z (subst (λ (y : ℤ). ltZ y (pos 0) ≡ true) back h)
 
-      pub number-back : ltZ (toZ w64 (ofZ w64 z)) (pos 0) ≡ true → count - 1 - m ≡ means count z
-      number-back h = ap (λ (k : ℕ). count - 1 - k) e′ ∙ from-back count z (subst (λ (y : ℤ). ltZ y (pos 0) ≡ true) back h)
+    pub number-none : ltZ (toZ w64 (ofZ w64 z)) (pos 0) ≡ true → count ≤ m → 0 ≡ means count z
+    number-none h g = let k : count - 1 - m ≡ 0 = omega arith in sym k ∙ number-back h
 
-      pub number-front : ltZ (toZ w64 (ofZ w64 z)) (pos 0) ≡ false → m ≡ means count z
-      number-front h = e′ ∙ from-front count z (subst (λ (y : ℤ). ltZ y (pos 0) ≡ false) back h)
+    pub number-front : ltZ (toZ w64 (ofZ w64 z)) (pos 0) ≡ false → m ≡ means count z
+    number-front h = e′ ∙ from-front count z (subst (λ (y : ℤ). ltZ y (pos 0) ≡ false) back h)
 
   pub still-good : (b : Bool) → b ≡ isGood count (toZ w64 (ofZ w64 z)) → b ≡ isGood count z
   still-good b e = e ∙ ap (isGood count) back
+
+  pub means-back : (n : ℕ) → n ≡ means count (toZ w64 (ofZ w64 z)) → n ≡ means count z
+  means-back n h = h ∙ ap (means count) back
 
   -- the meaning, from the test and the number
   pub meaning-good : (b : Bool) (n : ℕ) → b ≡ isGood count (toZ w64 (ofZ w64 z)) → b ≡ true → n ≡ means count (toZ w64 (ofZ w64 z)) → some n ≡ meaning count z

@@ -43,9 +43,6 @@ all-good count (e ∷ es) (suc i) n h = all-good count es i (by-test (isGood cou
     by-test false m = absurd (let q : _≡_ {A = ℕ} 0 1 = cc in omega arith)
 
 -- as the machine holds the entry
-pub still-all-good : (count : ℕ) (list : List ℤ) (i : ℕ) → firstBad count list ≡ none → i < length list → mag (getD list i (pos 0)) < 2 ^ 63 → isGood count (toZ w64 (ofZ w64 (getD list i (pos 0)))) ≡ true
-still-all-good count list i n h f = ap (isGood count) (toZ-ofZ w64 (getD list i (pos 0)) (record { sfits = f })) ∙ all-good count list i n h
-
 pub still-means : (count : ℕ) (list : List ℤ) (i k : ℕ) → mag (getD list i (pos 0)) < 2 ^ 63 → k ≡ means count (toZ w64 (ofZ w64 (getD list i (pos 0)))) → k ≡ means count (getD list i (pos 0))
 still-means count list i k f e = e ∙ ap (means count) (toZ-ofZ w64 (getD list i (pos 0)) (record { sfits = f }))
 

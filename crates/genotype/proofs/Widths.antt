@@ -3,13 +3,14 @@ use mathlib.Core.Path.{_≡_, refl, sym, ap, subst, _∙_}
 use Prim.Native.Nat.{ℕ, _+_, _-_, _*_, _/_, _^_, _≤_, _<_}
 use native.Mathlib.Nat.{zero-mul, le-div-iff-mul-le, div-lt-iff-lt-mul}
 use native.Mathlib.Omega.{arith}
-use borrow.Author.Tests.{ne-eqb, eq-eqb, le-leb, lt-leb}
+use borrow.Author.Tests.{ne-eqb, eq-eqb, le-leb, lt-leb, leb-true}
 use lib.Dec.{leb}
 use lib.IntN.{pos}
 use mathlib.Core.List.{[], _∷_}
 use mathlib.Core.Bool.{true, false}
-use Rattle.genotype.specs.Answer.{done, refused, countLimit}
+use Rattle.genotype.specs.Answer.{done, refused, countLimit, isDone}
 use Rattle.genotype.specs.Block.{blockWidth, fileLength, divAnswer}
+use Rattle.genotype.proofs.AnswerLaws.{check-done, count-done}
 
 -- "Block width is 0 for nothing in a block"
 pub width-none : (n : ℕ) → n ≡ 0 → blockWidth n ≡ 0
@@ -63,3 +64,20 @@ module _ (i s : ℕ) (hi : i ≤ countLimit) (hs : s ≤ countLimit) (w : ℕ) (
     quotient-enough h =
         has-width i s hi hs (subst (λ (k : ℕ). 3 + k * s ≤ 2 ^ 64 - 1) e (quotient-keeps w s p h))
         ∙ ap (λ (k : ℕ). done (pos k ∷ [])) (sym e)
+
+-- what is known where `try_div_4` answers a width
+pub record Sized (i s w : ℕ) : Type 0 where
+  pub first-fits : i ≤ countLimit
+  pub second-fits : s ≤ countLimit
+  pub length-fits : fileLength i s ≤ 2 ^ 64 - 1
+  pub width-is : w ≡ blockWidth i
+
+pub width-given : (i s w : ℕ) → done (pos w ∷ []) ≡ divAnswer i s → Sized i s w
+unfolding divAnswer isDone
+width-given i s w e =
+    let d0 = count-done i _ (sym (ap isDone e)) in
+    let d1 = count-done s _ (d0 .1) in
+    let d2 = check-done (leb (fileLength i s) (2 ^ 64 - 1)) 4 (done (pos (blockWidth i) ∷ [])) (d1 .1) in
+    let l = leb-true (fileLength i s) (2 ^ 64 - 1) (d2 .0) in
+    let g : done (pos w ∷ []) ≡ done (pos (blockWidth i) ∷ []) = e ∙ has-width i s (d0 .0) (d1 .0) l in
+    record { first-fits = d0 .0; second-fits = d1 .0; length-fits = l; width-is = cc }

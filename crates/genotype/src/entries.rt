@@ -1,8 +1,6 @@
 // Entries of a list: what they mean for a count.
 ghost use mathlib.Core.Path.{_≡_};
-ghost use mathlib.Core.Bool.{true};
 ghost use mathlib.Core.List.{[], _∷_};
-ghost use mathlib.Core.Option.{none};
 ghost use Prim.Native.Nat.{_<_, min, max};
 ghost use lib.ListN.{length};
 ghost use lib.IntN.{pos};
@@ -63,15 +61,31 @@ fn is_good(count: usize, entry: i64) -> bool
     magnitude(entry) < count
 }
 
+// The number that a good entry means.
 fn number(count: usize, entry: i64) -> usize
-    requires { ⌜ isGood count entry ≡ true ⌝ }
     ensures { λ r. ⌜ r ≡ means count entry ⌝ }
 {
     let place = magnitude(entry);
     if entry < 0 {
-        return count - 1 - place;
+        if place < count {
+            return count - 1 - place;
+        }
+        return 0;
     }
     place
+}
+
+// The animal that a good entry means, and the marker.
+pub fn iid_of(iid_count: usize, entry: i64) -> IidIndex
+    ensures { λ r. ⌜ r .0 ≡ means «iid_count» entry ⌝ }
+{
+    IidIndex(number(iid_count, entry))
+}
+
+pub fn sid_of(sid_count: usize, entry: i64) -> SidIndex
+    ensures { λ r. ⌜ r .0 ≡ means «sid_count» entry ⌝ }
+{
+    SidIndex(number(sid_count, entry))
 }
 
 pub enum FirstBad {
@@ -134,9 +148,9 @@ struct Span {
     length: usize,
 }
 
-// The span of a list that is good and not empty: one walk.
-fn good_span(count: usize, list: &[i64]) -> Span
-    requires { ⌜ (firstBad count (now list) ≡ none) × (0 < length (now list)) ⌝ }
+// The span of a list that is not empty: one walk.
+fn list_span(count: usize, list: &[i64]) -> Span
+    requires { ⌜ 0 < length (now list) ⌝ }
     ensures { λ r. ⌜ pos (r .lowest) ∷ pos (r .length) ∷ [] ≡ span count (now (list .entry)) ⌝ }
 {
     let first = number(count, list[0]) / 4;
@@ -170,6 +184,6 @@ pub fn byte_span(count: usize, list: &[i64]) -> SpanAnswer
     if list.len() == 0 {
         return SpanAnswer::Span(0, 0);
     }
-    let s = good_span(count, list);
+    let s = list_span(count, list);
     SpanAnswer::Span(s.lowest, s.length)
 }

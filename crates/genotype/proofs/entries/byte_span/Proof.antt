@@ -31,17 +31,14 @@ returns-3 c =
     span-empty _ _ (c .before .before .before .before .if1 .left)
     (sym (c .before .before .before .first-bad .ensures) ∙ ap badEntry (c .before .enum-told .given .1)) (c .if2 .taken)
 
-good-span-requires : tie.Need-good-span-requires
-good-span-requires c κs = (
-  sym (c .before .before .before .first-bad .ensures) ∙ ap badEntry (c .before .enum-told .given .1),
-  pos-of-ne-zero (c .if2 .left),
-)
+list-span-requires : tie.Need-list-span-requires
+list-span-requires c κs = pos-of-ne-zero (c .if2 .left)
 
 returns-4 : tie.Need-returns-4
 returns-4 c =
     span-good _ _ (c .before .before .before .before .before .if1 .left)
     (sym (c .before .before .before .before .first-bad .ensures) ∙ ap badEntry (c .before .before .enum-told .given .1)) _
-    (c .good-span .ensures)
+    (c .list-span .ensures)
 
 pub byte-span-spec : {M : Type 1} → statement M
 byte-span-spec =
@@ -53,5 +50,5 @@ byte-span-spec =
     returns-2
     enum-told
     returns-3
-    good-span-requires
+    list-span-requires
     returns-4)

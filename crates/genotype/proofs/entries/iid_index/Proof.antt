@@ -1,20 +1,17 @@
 -- `iid_index` is `meaning`.
-use mathlib.Core.Path.{sym, _∙_}
+use Rattle.genotype.proofs.EntryLaws.{meaning-good, meaning-bad}
 use borrow.Author.Needs.{needs}
 use Rattle.genotype.proofs.entries.iid_index.Statement.{statement}
 use Rattle.genotype.proofs.entries.iid_index.Tie as tie
-use Rattle.genotype.proofs.EntryLaws.{meaning-good, meaning-bad}
 
 is-good-requires : tie.Need-is-good-requires
 is-good-requires c κs = search needs
 
 number-requires : tie.Need-number-requires
-number-requires c κs = sym (c .before .is-good .ensures) ∙ c .if1 .taken
+number-requires c κs = search needs
 
 returns : tie.Need-returns
-returns c =
-    let s = c .before .before .before in
-    meaning-good _ _ (s .fits .entry) _ _ (c .before .before .is-good .ensures) (c .before .if1 .taken) (c .number .ensures)
+returns c = meaning-good _ _ (c .before .before .before .fits .entry) _ _ (c .before .before .is-good .ensures) (c .before .if1 .taken) (c .number .ensures)
 
 returns-2 : tie.Need-returns-2
 returns-2 c = meaning-bad _ _ (c .before .before .fits .entry) _ (c .before .is-good .ensures) (c .if1 .left)

@@ -1,26 +1,27 @@
--- `number` is `means` for a good entry: the place is below the count, so neither difference wraps.
-use native.Mathlib.Omega.{arith}
+-- `number` is `means`, from the front and from the back.
+use Rattle.genotype.proofs.EntryLaws.{number-back, number-none, number-front}
 use borrow.Author.Needs.{needs}
 use Rattle.genotype.proofs.entries.number.Statement.{statement}
 use Rattle.genotype.proofs.entries.number.Tie as tie
-use Rattle.genotype.proofs.EntryLaws.{place-below, number-back, number-front}
 
 magnitude-requires : tie.Need-magnitude-requires
 magnitude-requires c κs = search needs
 
 sub-result : tie.Need-sub-result
-sub-result c =
-    let s = c .before .before in omega (arith, place-below _ _ (s .fits .entry) _ (c .before .magnitude .ensures) (s .pre))
+sub-result c = search needs
 
 sub-result-2 : tie.Need-sub-result-2
-sub-result-2 c =
-    let s = c .before .before in omega (arith, place-below _ _ (s .fits .entry) _ (c .before .magnitude .ensures) (s .pre))
+sub-result-2 c = search needs
 
 returns : tie.Need-returns
-returns c = let s = c .before .before in number-back _ _ (s .fits .entry) _ (c .before .magnitude .ensures) (s .pre) (c .if1 .taken)
+returns c = number-back _ _ (c .before .before .before .fits .entry) _ (c .before .before .magnitude .ensures) (c .before .if1 .taken)
 
 returns-2 : tie.Need-returns-2
-returns-2 c = let s = c .before .before in number-front _ _ (s .fits .entry) _ (c .before .magnitude .ensures) (s .pre) (c .if1 .left)
+returns-2 c = number-none _ _ (c .before .before .before .fits .entry) _ (c .before .before .magnitude .ensures) (c .before .if1 .taken) (c .if2 .left)
+
+returns-3 : tie.Need-returns-3
+returns-3 c = number-front _ _ (c .before .before .fits .entry) _ (c .before .magnitude .ensures) (c .if1 .left)
 
 pub number-spec : {M : Type 1} → statement M
-number-spec = tie.close (tie.spec magnitude-requires sub-result sub-result-2 returns returns-2)
+number-spec =
+    tie.close (tie.spec magnitude-requires sub-result sub-result-2 returns returns-2 returns-3)

@@ -1,12 +1,12 @@
--- `good_span`: the span so far and the bytes that are left make the span of the whole list.
+-- `list_span`: the span so far and the bytes that are left make the span of the whole list.
 use mathlib.Core.Path.{_≡_}
 use Prim.Native.Nat.{_-_}
 use native.Mathlib.Omega.{arith}
 use borrow.Author.Needs.{needs}
 use lib.ListN.{length}
-use Rattle.genotype.proofs.entries.good_span.Statement.{statement}
-use Rattle.genotype.proofs.entries.good_span.Tie as tie
-use Rattle.genotype.proofs.SpanLaws.{Sofar, sofar-first, sofar-more, sofar-all, still-all-good, still-means}
+use Rattle.genotype.proofs.SpanLaws.{Sofar, sofar-first, sofar-more, sofar-all, still-means}
+use Rattle.genotype.proofs.entries.list_span.Statement.{statement}
+use Rattle.genotype.proofs.entries.list_span.Tie as tie
 
 abbrev Inv-loop : tie.InvT-loop
 Inv-loop count list first sofar₀ i₀ sofar i = Sofar count list (sofar .lowest) (sofar .highest) i
@@ -18,13 +18,13 @@ shared-slice-copy-out-number : tie.Need-shared-slice-copy-out-number Inv-loop μ
 shared-slice-copy-out-number c = search needs
 
 number-requires : tie.Need-number-requires Inv-loop μ-loop
-number-requires c κs = still-all-good _ _ 0 (c .before .pre .0) (c .before .pre .1) (c .number-arg .given)
+number-requires c κs = search needs
 
 loop-holds : tie.Need-loop-holds Inv-loop μ-loop
 loop-holds c =
     let a = c .before .before .args in
     sofar-first (a .count) (a .list .now) (c .number .result) (still-means (a .count) (a .list .now) 0 _ (c .before .number-arg .given) (c .number .ensures))
-    (omega (arith, c .number .ok)) (c .before .before .pre .1)
+    (omega (arith, c .number .ok)) (c .before .before .pre)
 
 mul-number : tie.Need-mul-number Inv-loop μ-loop
 mul-number c = search needs
@@ -33,9 +33,7 @@ shared-slice-copy-out-number-2 : tie.Need-shared-slice-copy-out-number-2 Inv-loo
 shared-slice-copy-out-number-2 c = search needs
 
 number-requires-2 : tie.Need-number-requires-2 Inv-loop μ-loop
-number-requires-2 c κs =
-    let s = c .before .before .before .before .before in
-    still-all-good (s .args .count) (s .args .list .now) _ (s .pre .0) (c .before .loop-test .taken) (c .number-arg2 .given)
+number-requires-2 c κs = search needs
 
 widened-requires : tie.Need-widened-requires Inv-loop μ-loop
 widened-requires c κs = search needs
@@ -62,10 +60,10 @@ add-t16 c = omega arith
 returns : tie.Need-returns Inv-loop μ-loop
 returns c =
     let s = c .before .before .before .before .before in
-    sofar-all (s .args .count) (s .args .list .now) _ _ _ (c .before .before .loop .inv) (c .before .loop-test .left) (s .pre .1)
+    sofar-all (s .args .count) (s .args .list .now) _ _ _ (c .before .before .loop .inv) (c .before .loop-test .left) (s .pre)
 
-pub good-span-spec : {M : Type 1} → statement M
-good-span-spec =
+pub list-span-spec : {M : Type 1} → statement M
+list-span-spec =
     tie.close
     (tie.spec
     Inv-loop

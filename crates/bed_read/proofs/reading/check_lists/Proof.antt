@@ -1,0 +1,27 @@
+-- In mode 0 the lists trade places.
+use mathlib.Core.Path.{_∙_}
+use Rattle.bed_read.proofs.ReadLaws.{lists-mode-1, lists-mode-0}
+use borrow.Author.Needs.{needs}
+use Rattle.bed_read.proofs.reading.check_lists.Statement.{statement}
+use Rattle.bed_read.proofs.reading.check_lists.Tie as tie
+
+check-within-then-blocks-requires : tie.Need-check-within-then-blocks-requires
+check-within-then-blocks-requires c κs = search needs
+
+check-within-then-blocks-requires-2 : tie.Need-check-within-then-blocks-requires-2
+check-within-then-blocks-requires-2 c κs = search needs
+
+returns : tie.Need-returns
+returns c = c .check-within-then-blocks .ensures ∙ lists-mode-1 _ _ _ _ _ _ (c .before .if1 .taken)
+
+returns-2 : tie.Need-returns-2
+returns-2 c = c .check-within-then-blocks2 .ensures ∙ lists-mode-0 _ _ _ _ _ _ (c .before .if1 .left)
+
+pub check-lists-spec : {M : Type 1} → statement M
+check-lists-spec =
+    tie.close
+    (tie.spec
+    check-within-then-blocks-requires
+    check-within-then-blocks-requires-2
+    returns
+    returns-2)

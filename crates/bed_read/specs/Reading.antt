@@ -1,0 +1,53 @@
+-- Reading.
+use mathlib.Core.Bool.{Bool, true, false}
+use mathlib.Core.List.{List, [], _∷_, map}
+use Prim.Native.Nat.{ℕ, _*_}
+use lib.Dec.{eqb}
+use lib.IntN.{ℤ, pos}
+use lib.ListN.{length, getD}
+use Rattle.genotype.specs.Answer.{Answer, done, check, checkCount, checkEntry, ifDone}
+use Rattle.genotype.specs.Entry.{firstBad, means}
+use Rattle.genotype.specs.Value.{Width, valueOf}
+use Rattle.genotype.specs.Matrix.{matrix}
+use Rattle.bed_read.specs.File.{isMode1, checkFile}
+use Rattle.bed_read.specs.Calls.{callCode}
+
+-- 5: "first bad entry of the within-block list; carries it"; 6: "first bad entry of the block list; carries it". In mode 1 the animal list
+-- is the one within a block; in mode 0 lists trade places, "so a bad marker entry is then refusal 5 and is looked for first".
+unfoldable pub checkLists : Bool → ℕ → ℕ → List ℤ → List ℤ → Answer → Answer
+unfolding checkEntry
+checkLists true iids sids iidList sidList later = checkEntry (firstBad iids iidList) 5 (checkEntry (firstBad sids sidList) 6 later)
+checkLists false iids sids iidList sidList later = checkEntry (firstBad sids sidList) 5 (checkEntry (firstBad iids iidList) 6 later)
+
+-- "Reading checks 18, 15, 1 (under 3 bytes), 2 (first two bytes), 3, 4, 2 (length), 5, 6."
+-- 15: "value buffer is not the product of the two list lengths"
+unfoldable pub readAnswer : List ℕ → ℕ → ℕ → List ℤ → List ℤ → ℕ → Answer
+unfolding checkCount check checkFile checkLists
+readAnswer file iids sids iidList sidList valLength =
+    checkCount iids
+    (checkCount sids
+    (check (eqb (length iidList * length sidList) valLength) 15
+    (checkFile file iids sids
+    (checkLists (isMode1 file) iids sids iidList sidList (done [])))))
+
+-- the code read for place k of the animal list and place m of the marker list: that of the animal and the marker that the entries mean
+unfoldable pub readCode : List ℕ → ℕ → ℕ → List ℤ → List ℤ → ℕ → ℕ → ℕ
+readCode file iids sids iidList sidList k m =
+    callCode file iids sids (means iids (getD iidList k (pos 0))) (means sids (getD sidList m (pos 0)))
+
+-- the matrix of the codes read, in the order asked
+unfoldable pub codesRead : Bool → List ℕ → ℕ → ℕ → List ℤ → List ℤ → List ℕ
+codesRead animalOrder file iids sids iidList sidList =
+    matrix animalOrder (length iidList) (length sidList) (readCode file iids sids iidList sidList)
+
+-- the matrix read: the value of each code
+unfoldable pub valuesRead : (w : Width) → Bool → w .Value → Bool → List ℕ → ℕ → ℕ → List ℤ → List ℤ → List (w .Value)
+valuesRead w flag missing animalOrder file iids sids iidList sidList =
+    map (valueOf w flag missing) (codesRead animalOrder file iids sids iidList sidList)
+
+-- the later value buffer
+unfoldable pub readBuffer :
+    (w : Width) → List ℕ → ℕ → ℕ → Bool → List ℤ → List ℤ → w .Value → Bool → List (w .Value) → List (w .Value)
+readBuffer w file iids sids flag iidList sidList missing animalOrder old =
+    ifDone (readAnswer file iids sids iidList sidList (length old))
+    (valuesRead w flag missing animalOrder file iids sids iidList sidList) old

@@ -1,0 +1,3 @@
+// Reading a .bed file from lent bytes.
+pub mod file;
+pub mod reading;

@@ -1,0 +1,171 @@
+// Reading into a lent matrix.
+ghost use mathlib.Core.Path.{_≡_};
+ghost use mathlib.Core.Bool.{Bool, true, false, cond};
+ghost use mathlib.Core.List.{[], map};
+ghost use mathlib.Core.Option.{none};
+ghost use Prim.Native.Nat.{_+_, _-_, _*_, _<_, _≤_};
+ghost use lib.Ieee.{nan};
+ghost use lib.IntN.{pos};
+ghost use lib.ListN.{length, getD};
+ghost use Rattle.genotype.specs.Answer.{done, isDone};
+ghost use Rattle.genotype.specs.Code.{codeTable};
+ghost use Rattle.genotype.specs.Entry.{firstBad, means};
+ghost use Rattle.genotype.specs.Lists.{tabulate};
+ghost use Rattle.genotype.specs.Value.{i8, float};
+ghost use Rattle.bed_read.specs.Calls.{callCode};
+ghost use Rattle.bed_read.specs.Reading.{checkLists, readAnswer, codesRead, readBuffer};
+ghost use Rattle.bed_read.specs.Inner.{Shaped, lineValue};
+ghost use Rattle.bed_read.specs.Says.{readSays};
+use crate::file::AcceptAnswer;
+use genotype::entries::FirstBad;
+use genotype::entries::IidIndex;
+use genotype::entries::SidIndex;
+
+pub enum ReadAnswer {
+    Done,
+    CountTooLarge,
+    IndexMismatch,
+    ReadError,
+    IllFormed,
+    BadMode,
+    IndexesTooBigForFiles,
+    IidIndexTooBig(i64),
+    SidIndexTooBig(i64),
+}
+
+// The lists' checks: 5 for the list within a block, then 6 for the list of blocks.
+pub fn check_lists(
+    mode_1: bool,
+    iid_count: usize,
+    sid_count: usize,
+    iid_index: &[i64],
+    sid_index: &[i64],
+) -> ReadAnswer
+    ensures { λ r. ⌜ readSays r ≡ checkLists «mode_1» «iid_count» «sid_count» (now («iid_index» .entry)) (now («sid_index» .entry)) (done []) ⌝ }
+{
+    if mode_1 {
+        check_within_then_blocks(iid_count, iid_index, sid_count, sid_index)
+    } else {
+        check_within_then_blocks(sid_count, sid_index, iid_count, iid_index)
+    }
+}
+
+fn check_within_then_blocks(
+    items: usize,
+    within: &[i64],
+    blocks: usize,
+    outside: &[i64],
+) -> ReadAnswer
+    ensures { λ r. ⌜ readSays r ≡ checkLists true items blocks (now (within .entry)) (now (outside .entry)) (done []) ⌝ }
+{
+    let bad = genotype::entries::first_bad(items, within);
+    if let FirstBad::Entry(e) = bad {
+        return ReadAnswer::IidIndexTooBig(e);
+    }
+    let bad_block = genotype::entries::first_bad(blocks, outside);
+    if let FirstBad::Entry(e) = bad_block {
+        return ReadAnswer::SidIndexTooBig(e);
+    }
+    ReadAnswer::Done
+}
+
+// All checks of reading, whatever the width of the values.
+fn check_read(
+    file: &[u8],
+    iid_count: usize,
+    sid_count: usize,
+    iid_index: &[i64],
+    sid_index: &[i64],
+    val_len: usize,
+) -> ReadAnswer
+    ensures { λ r. ⌜ readSays r ≡ readAnswer (now (file .entry)) «iid_count» «sid_count» (now («iid_index» .entry)) (now («sid_index» .entry)) «val_len» ⌝ }
+{
+    if iid_count > 9223372036854775807 {
+        return ReadAnswer::CountTooLarge;
+    }
+    if sid_count > 9223372036854775807 {
+        return ReadAnswer::CountTooLarge;
+    }
+    if genotype::blocks::product_is(iid_index.len(), sid_index.len(), val_len) {
+        match crate::file::accept(file, iid_count, sid_count) {
+            AcceptAnswer::Accepted => check_lists(
+                file[2] == 1,
+                iid_count,
+                sid_count,
+                iid_index,
+                sid_index,
+            ),
+            AcceptAnswer::CountTooLarge => ReadAnswer::CountTooLarge,
+            AcceptAnswer::ReadError => ReadAnswer::ReadError,
+            AcceptAnswer::IllFormed => ReadAnswer::IllFormed,
+            AcceptAnswer::BadMode => ReadAnswer::BadMode,
+            AcceptAnswer::IndexesTooBigForFiles => ReadAnswer::IndexesTooBigForFiles,
+        }
+    } else {
+        ReadAnswer::IndexMismatch
+    }
+}
+
+fn is_done(answer: ReadAnswer) -> bool
+    ensures { λ r. ⌜ r ≡ isDone (readSays answer) ⌝ }
+{
+    match answer {
+        ReadAnswer::Done => true,
+        ReadAnswer::CountTooLarge => false,
+        ReadAnswer::IndexMismatch => false,
+        ReadAnswer::ReadError => false,
+        ReadAnswer::IllFormed => false,
+        ReadAnswer::BadMode => false,
+        ReadAnswer::IndexesTooBigForFiles => false,
+        ReadAnswer::IidIndexTooBig(_) => false,
+        ReadAnswer::SidIndexTooBig(_) => false,
+    }
+}
+
+// How an accepted file holds its calls.
+struct Shape {
+    mode1: bool,
+    width: usize,
+    iids: usize,
+    sids: usize,
+}
+
+struct BlockItem {
+    block: usize,
+    item: usize,
+}
+
+// The block and the item that hold the call of an animal at a marker, by the mode.
+fn block_item(mode_1: bool, iid: IidIndex, sid: SidIndex) -> BlockItem
+    ensures { λ r. ⌜ (r .block ≡ cond «mode_1» (sid .0) (iid .0)) × (r .item ≡ cond «mode_1» (iid .0) (sid .0)) ⌝ }
+{
+    if mode_1 {
+        BlockItem {
+            block: sid.0,
+            item: iid.0,
+        }
+    } else {
+        BlockItem {
+            block: iid.0,
+            item: sid.0,
+        }
+    }
+}
+
+fn wide(byte: u8) -> usize
+    ensures { λ r. ⌜ (r ≡ byte) × (r < 256) ⌝ }
+{
+    byte as usize
+}
+
+// The code of the call of an animal at a marker, by the table of codes.
+fn call_code(file: &[u8], shape: Shape, iid: IidIndex, sid: SidIndex, codes: &[u8; 1024]) -> usize
+    requires { ⌜ Shaped (now file) (shape .mode1) (shape .width) (shape .iids) (shape .sids) × (iid .0 < shape .iids) × (sid .0 < shape .sids) × (now codes ≡ codeTable) ⌝ }
+    ensures { λ r. ⌜ (r < 4) × (r ≡ callCode (now (file .entry)) (shape .iids) (shape .sids) (iid .0) (sid .0)) ⌝ }
+{
+    let at = block_item(shape.mode1, iid, sid);
+    let item = at.item;
+    let byte = 3 + at.block * shape.width + item / 4;
+    let place = wide(file[byte]) * 4 + item % 4;
+    wide(codes[place])
+}
