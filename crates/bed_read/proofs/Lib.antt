@@ -1,3 +1,5 @@
 pub mod FileLaws
 pub mod CallLaws
 pub mod ReadLaws
+pub mod ColumnLaws
+pub mod LineLaws

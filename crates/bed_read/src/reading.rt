@@ -1,21 +1,21 @@
 // Reading into a lent matrix.
 ghost use mathlib.Core.Path.{_≡_};
-ghost use mathlib.Core.Bool.{Bool, true, false, cond};
-ghost use mathlib.Core.List.{[], map};
-ghost use mathlib.Core.Option.{none};
-ghost use Prim.Native.Nat.{_+_, _-_, _*_, _<_, _≤_};
-ghost use lib.Ieee.{nan};
-ghost use lib.IntN.{pos};
-ghost use lib.ListN.{length, getD};
+ghost use mathlib.Core.Bool.{true, cond};
+ghost use mathlib.Core.List.{[]};
+ghost use Prim.Native.Nat.{_<_, _≤_};
+ghost use lib.ListN.{length};
 ghost use Rattle.genotype.specs.Answer.{done, isDone};
 ghost use Rattle.genotype.specs.Code.{codeTable};
-ghost use Rattle.genotype.specs.Entry.{firstBad, means};
-ghost use Rattle.genotype.specs.Lists.{tabulate};
-ghost use Rattle.genotype.specs.Value.{i8, float};
+ghost use Rattle.genotype.specs.Block.{blockWidth};
+ghost use Rattle.bed_read.specs.File.{isMode1, items};
 ghost use Rattle.bed_read.specs.Calls.{callCode};
-ghost use Rattle.bed_read.specs.Reading.{checkLists, readAnswer, codesRead, readBuffer};
-ghost use Rattle.bed_read.specs.Inner.{Shaped, lineValue};
+ghost use Rattle.bed_read.specs.Reading.{checkLists, readAnswer};
+ghost use Rattle.bed_read.specs.Inner.{Shaped};
 ghost use Rattle.bed_read.specs.Says.{readSays};
+
+pub mod read_f64;
+pub mod read_i8;
+
 use crate::file::AcceptAnswer;
 use genotype::entries::FirstBad;
 use genotype::entries::IidIndex;
@@ -168,4 +168,46 @@ fn call_code(file: &[u8], shape: Shape, iid: IidIndex, sid: SidIndex, codes: &[u
     let byte = 3 + at.block * shape.width + item / 4;
     let place = wide(file[byte]) * 4 + item % 4;
     wide(codes[place])
+}
+
+// The shape of an accepted file.
+fn shape_of(file: &[u8], iid_count: usize, sid_count: usize) -> Shape
+    requires { ⌜ 3 ≤ length (now file) ⌝ }
+    ensures { λ r. ⌜ (r .mode1 ≡ isMode1 (now (file .entry))) × (r .width ≡ blockWidth (items (isMode1 (now (file .entry))) «iid_count» «sid_count»)) × (r .iids ≡ «iid_count») × (r .sids ≡ «sid_count») ⌝ }
+{
+    if file[2] == 1 {
+        return Shape {
+            mode1: true,
+            width: genotype::blocks::block_width(iid_count),
+            iids: iid_count,
+            sids: sid_count,
+        };
+    }
+    Shape {
+        mode1: false,
+        width: genotype::blocks::block_width(sid_count),
+        iids: iid_count,
+        sids: sid_count,
+    }
+}
+
+// How many values stand beside each other for one animal in animal order, for one marker in marker order.
+fn inner_count(animal_order: bool, iids: usize, sids: usize) -> usize
+    ensures { λ r. ⌜ r ≡ cond «animal_order» sids iids ⌝ }
+{
+    if animal_order { sids } else { iids }
+}
+
+// The end of the tile that starts at `from`: all that is left where the matrix goes along the blocks, and 16 values where it goes across them.
+fn tile_end(along: bool, from: usize, inner: usize) -> usize
+    requires { ⌜ from < inner ⌝ }
+    ensures { λ r. ⌜ (from < r) × (r ≤ inner) ⌝ }
+{
+    if along {
+        return inner;
+    }
+    if inner - from < 16 {
+        return inner;
+    }
+    from + 16
 }

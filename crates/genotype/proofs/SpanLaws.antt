@@ -42,6 +42,12 @@ all-good count (e ∷ es) (suc i) n h = all-good count es i (by-test (isGood cou
     by-test true m = m
     by-test false m = absurd (let q : _≡_ {A = ℕ} 0 1 = cc in omega arith)
 
+-- and a list all of whose entries are good has no bad one
+pub none-bad : (count : ℕ) (list : List ℤ) → ((i : ℕ) → i < length list → isGood count (getD list i (pos 0)) ≡ true) → firstBad count list ≡ none
+unfolding firstBad
+none-bad count [] g = refl
+none-bad count (e ∷ es) g = rw (g 0 (omega arith)) (none-bad count es (λ i h. g (suc i) (omega arith)))
+
 -- as the machine holds the entry
 pub still-means : (count : ℕ) (list : List ℤ) (i k : ℕ) → mag (getD list i (pos 0)) < 2 ^ 63 → k ≡ means count (toZ w64 (ofZ w64 (getD list i (pos 0)))) → k ≡ means count (getD list i (pos 0))
 still-means count list i k f e = e ∙ ap (means count) (toZ-ofZ w64 (getD list i (pos 0)) (record { sfits = f }))
