@@ -2,7 +2,8 @@ pub mod Steps
 pub mod Buffers
 pub mod Marks
 pub mod Signed
-pub mod Answers
 pub mod Slices
 pub mod Verdicts
+pub mod Ranges
 pub mod Promised
+pub mod Meaning

@@ -1,8 +1,8 @@
 -- What a slice's start, end and step mean, and its checks: laws over plain values.
 use mathlib.Core.Path.{_≡_, refl, sym, ap, _∙_, subst}
-use mathlib.Core.Bool.{Bool, true, false, not, cond}
+use mathlib.Core.Bool.{Bool, false}
 use mathlib.Core.List.{List, []}
-use Prim.Native.Nat.{ℕ, suc, _+_, _-_, _*_, _^_, _≤_, _<_}
+use Prim.Native.Nat.{ℕ, _+_, _-_, _*_, _^_, _≤_, _<_}
 use native.Mathlib.Nat.{pos-of-ne-zero, mul-one}
 use native.Mathlib.Omega.{arith}
 use borrow.Author.Tests.{eq-eqb, ne-eqb, le-leb, lt-leb, le-ltb}
@@ -16,12 +16,12 @@ use Rattle.genotype.proofs.Tabulate.{tabulate-ext}
 use Rattle.index.specs.declared.RangeNdSlice.{RangeNdSlice}
 use Rattle.index.specs.declared.SliceInfo1.{SliceInfo1}
 use Rattle.index.specs.declared.SliceEnd.{SliceEnd}
-use Rattle.index.specs.declared.SliceEnd.the-variants as SliceEnd
 use Rattle.index.specs.declared.NewSlice.{NewSlice}
+use Rattle.index.specs.declared.SliceEnd.the-variants as SliceEnd
 use Rattle.index.specs.declared.NewSlice.the-variants as NewSlice
 use Rattle.index.specs.Numbers.{fromCount, sliceEnd, stepsBelow, forward, backward, stepped, sliceList}
 use Rattle.index.specs.Checks.{checkEnd, checkSlice}
-use Rattle.index.specs.Inner.{Walk, numberAt, numbers, Resolved, Listed, Checked}
+use Rattle.index.specs.Inner.{walkOf, Walk, numberAt, numbers, Resolved, Listed, Checked}
 use Rattle.index.proofs.Steps.{by-one}
 use Rattle.index.proofs.Buffers.{let-through, stopped}
 
@@ -35,11 +35,7 @@ pub size-bound : (e : ℤ) → SFits w64 e → natAbs e ≤ 2 ^ 63
 size-bound (pos n) f = omega (arith, f .sfits)
 size-bound (negsuc k) f = omega (arith, f .sfits)
 
--- a slice of the code, from its four numbers
-abbrev pub walkOf : ℕ → ℕ → ℕ → Bool → RangeNdSlice
-walkOf start end step reversed = record { start = start; end = end; step = step; «is_reversed» = reversed }
-
--- its numbers are those of the step's sign
+-- the numbers of a slice are those of the step's sign
 same-numbers : (start end : ℕ) (step : ℤ) → numbers (walkOf start end (natAbs step) (ltZ step (pos 0))) ≡ stepped start end step
 unfolding numberAt stepped forward backward
 same-numbers start end (pos n) = tabulate-ext (stepsBelow start end n) _ _ (λ k h. simp (le-ltb n 0 (omega arith)))

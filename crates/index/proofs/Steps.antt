@@ -1,21 +1,21 @@
 -- Which numbers a slice has: laws over plain numbers.
-use mathlib.Core.Path.{_≡_, refl, sym, ap, _∙_}
-use Prim.Native.Nat.{ℕ, suc, _+_, _-_, _*_, _/_, _≤_, _<_}
+use mathlib.Core.Path.{_≡_, sym, ap, _∙_}
+use mathlib.Core.Bool.{true, false}
+use Prim.Native.Nat.{ℕ, suc, _+_, _-_, _*_, _≤_, _<_}
 use native.Mathlib.Nat.{le-div-iff-mul-le, div-eq-of-lt}
 use native.Mathlib.Omega.{arith}
 use lib.ListN.{length}
-use Rattle.genotype.proofs.Tabulate.{length-tabulate}
-use mathlib.Core.Bool.{true, false}
 use mir.Syntax.{w64}
 use mir.Val.{toZ}
 use mir.Facts.{toZ-pos}
+use Rattle.genotype.proofs.Tabulate.{length-tabulate}
 use Rattle.genotype.specs.Lists.{tabulate}
 use Rattle.index.specs.declared.RangeNdSlice.{RangeNdSlice}
 use Rattle.index.specs.Inner.{Walk, numberAt, numbers}
 use Rattle.index.specs.Numbers.{stepsBelow}
 
 module _ (start end step k : ℕ) (p : 0 < step) where
-  -- place k is in the list exactly if start + k · step is below end: the next number after the last is not below it
+  -- place k is in the list exactly if start + k · step is below end
   pub inside : k < stepsBelow start end step → start + k * step < end
   unfolding stepsBelow
   inside h = let q : suc k * step ≤ end - start + step - 1 = le-div-iff-mul-le p .0 h in omega arith
@@ -23,10 +23,6 @@ module _ (start end step k : ℕ) (p : 0 < step) where
   pub reached : start + k * step < end → k < stepsBelow start end step
   unfolding stepsBelow
   reached h = le-div-iff-mul-le p .1 (let q : suc k * step ≤ end - start + step - 1 = omega arith in q)
-
-  -- the same number from the other end: place k is in the list exactly if end − 1 − k · step is not below start
-  pub not-below : k < stepsBelow start end step → (start ≤ end - 1 - k * step) × (end - 1 - k * step + k * step + 1 ≡ end)
-  not-below h = let q : start + k * step < end = inside h in (omega arith, omega arith)
 
 -- "Start ≥ end: empty."
 pub none : (start end step : ℕ) → 0 < step → end ≤ start → stepsBelow start end step ≡ 0

@@ -1,5 +1,5 @@
 -- Words of the contracts between this crate's own functions; no public contract speaks in them.
-use mathlib.Core.Bool.{Bool, true, false, cond}
+use mathlib.Core.Bool.{Bool, cond}
 use mathlib.Core.List.{List, []}
 use mathlib.Core.Path.{_≡_}
 use Prim.Native.Nat.{ℕ, _+_, _-_, _*_, _^_, _≤_, _<_}
@@ -9,10 +9,14 @@ use Rattle.genotype.specs.Answer.{Answer, refused, countLimit}
 use Rattle.genotype.specs.Lists.{tabulate}
 use Rattle.index.specs.declared.RangeNdSlice.{RangeNdSlice}
 use Rattle.index.specs.declared.NewSlice.{NewSlice}
-use Rattle.index.specs.declared.NewSlice.the-variants as NewSlice
 use Rattle.index.specs.declared.SliceInfo1.{SliceInfo1}
+use Rattle.index.specs.declared.NewSlice.the-variants as NewSlice
 use Rattle.index.specs.Numbers.{stepsBelow, sliceList}
 use Rattle.index.specs.Checks.{checkSlice, listAnswer, listBuffer}
+
+-- a slice of the code, from its four parts
+abbrev pub walkOf : ℕ → ℕ → ℕ → Bool → RangeNdSlice
+walkOf start end step reversed = record { start = start; end = end; step = step; «is_reversed» = reversed }
 
 -- a step that is not 0, and numbers that fit
 pub record Walk (s : RangeNdSlice) : Type 0 where

@@ -6,12 +6,12 @@ use lib.IntN.{ℤ, pos, negsuc, natAbs}
 use lib.Dec.{eqb}
 use Rattle.genotype.specs.Lists.{tabulate}
 use Rattle.index.specs.declared.Bound.{Bound}
-use Rattle.index.specs.declared.Bound.the-variants as Bound
 use Rattle.index.specs.declared.SliceEnd.{SliceEnd}
-use Rattle.index.specs.declared.SliceEnd.the-variants as SliceEnd
 use Rattle.index.specs.declared.RangeAny.{RangeAny}
 use Rattle.index.specs.declared.SliceInfo1.{SliceInfo1}
 use Rattle.index.specs.declared.Index.{Index}
+use Rattle.index.specs.declared.Bound.the-variants as Bound
+use Rattle.index.specs.declared.SliceEnd.the-variants as SliceEnd
 use Rattle.index.specs.declared.Index.the-variants as Index
 
 -- "marks (nonzero chosen)": the places of those that are not 0, the first mark's place being `place`
@@ -55,10 +55,12 @@ backward start end step = tabulate (stepsBelow start end step) (λ k. pos (end -
 unfoldable pub rangeList : RangeAny → ℕ → List ℤ
 rangeList r count = tabulate (boundOr count (r .end) - boundOr 0 (r .start)) (λ k. pos (boundOr 0 (r .start) + k))
 
+-- forward for a step above 0, backward for one below
 unfoldable pub stepped : ℕ → ℕ → ℤ → List ℤ
 stepped start end (pos step) = forward start end step
 stepped start end (negsuc k) = backward start end (suc k)
 
+-- "slice"
 unfoldable pub sliceList : SliceInfo1 → ℕ → List ℤ
 sliceList s count = stepped (fromCount count (s .start)) (sliceEnd count (s .end)) (s .step)
 

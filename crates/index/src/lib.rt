@@ -1,13 +1,17 @@
 // What an index chooses among `count` items, as a list of numbers in a lent buffer.
 ghost use mathlib.Core.Path.{_≡_};
-ghost use lib.ListN.{length};
+ghost use mathlib.Core.Bool.{false};
+ghost use mathlib.Core.List.{[], _∷_};
 ghost use Prim.Native.Nat.{_+_, _*_, _≤_, _<_};
+ghost use lib.ListN.{length};
 ghost use Rattle.genotype.specs.Answer.{countLimit};
 ghost use Rattle.index.specs.Numbers.{boundOr, magnitude, fromCount, stepsBelow, marked, rangeList, sliceList};
-ghost use mathlib.Core.List.{[], _∷_};
-ghost use Rattle.index.specs.Inner.{numberAt, numbers, Walk, Resolved, Listed, Checked};
 ghost use Rattle.index.specs.Checks.{checkRange, checkSlice, indexAnswer, indexBuffer, rangeAnswer};
 ghost use Rattle.index.specs.Says.{listSays, rangeSays};
+ghost use Rattle.index.specs.Inner.{walkOf, numberAt, numbers, Walk, Resolved, Listed, Checked};
+
+// The greatest count, and the greatest bound of a range: 2^63 - 1.
+const COUNT_LIMIT: usize = 9223372036854775807;
 
 // A bound of a range.
 pub enum Bound {
@@ -32,7 +36,7 @@ pub struct SliceInfo1 {
     pub step: i64,
 }
 
-// The kinds of an index. The list of `Vec` and the marks of `VecBool` stand beside it.
+// The kinds of an index. An enum holds no slice: the list of `Vec` and the marks of `VecBool` stand beside it.
 pub enum Index {
     All,
     One(i64),
@@ -66,17 +70,17 @@ impl RangeAny {
     pub fn to_range(self, count: usize) -> RangeAnswer
         ensures { λ r. ⌜ rangeSays r ≡ rangeAnswer self count ⌝ }
     {
-        if count > 9223372036854775807 {
+        if count > COUNT_LIMIT {
             return RangeAnswer::CountTooLarge;
         }
         let start_bound = self.start;
-        let end_bound = self.end;
         let start = bound_or(start_bound, 0);
-        if start > 9223372036854775807 {
+        if start > COUNT_LIMIT {
             return RangeAnswer::CountTooLarge;
         }
+        let end_bound = self.end;
         let end = bound_or(end_bound, count);
-        if end > 9223372036854775807 {
+        if end > COUNT_LIMIT {
             return RangeAnswer::CountTooLarge;
         }
         if start > end {
@@ -211,6 +215,18 @@ impl RangeNdSlice {
     }
 }
 
+// start, start + 1 and so on below end.
+fn consecutive(start: usize, end: usize) -> RangeNdSlice
+    ensures { λ r. ⌜ r ≡ walkOf start end 1 false ⌝ }
+{
+    RangeNdSlice {
+        start,
+        end,
+        step: 1,
+        is_reversed: false,
+    }
+}
+
 // One number into the buffer.
 fn one_to_vec(one: i64, list: &mut [i64]) -> ListAnswer
     ensures { λ r. ⌜ Listed (one ∷ []) (now (list .entry)) (listSays r) (now (list .exit)) ⌝ }
@@ -226,16 +242,15 @@ fn one_to_vec(one: i64, list: &mut [i64]) -> ListAnswer
 fn vec_to_vec(vec: &[i64], list: &mut [i64]) -> ListAnswer
     ensures { λ r. ⌜ Listed (now (vec .entry)) (now (list .entry)) (listSays r) (now (list .exit)) ⌝ }
 {
-    let n = vec.len();
-    if n > list.len() {
+    if vec.len() > list.len() {
         return ListAnswer::ListTooShort;
     }
     let mut k: usize = 0;
-    while k < n {
+    while k < vec.len() {
         list[k] = vec[k];
         k += 1;
     }
-    ListAnswer::Length(n)
+    ListAnswer::Length(vec.len())
 }
 
 // How many marks are not 0.
@@ -245,10 +260,10 @@ fn count_marked(marks: &[u8]) -> usize
     let mut n: usize = 0;
     let mut i: usize = 0;
     while i < marks.len() {
-        if marks[i] == 0 {
+        if marks[i] != 0 {
+            n += 1;
             i += 1;
         } else {
-            n += 1;
             i += 1;
         }
     }
@@ -284,15 +299,7 @@ fn range_to_vec(range: RangeAny, count: usize, list: &mut [i64]) -> ListAnswer
 {
     let found = range.to_range(count);
     match found {
-        RangeAnswer::Range { start, end } => {
-            let walk = RangeNdSlice {
-                start,
-                end,
-                step: 1,
-                is_reversed: false,
-            };
-            walk.to_vec(list)
-        }
+        RangeAnswer::Range { start, end } => consecutive(start, end).to_vec(list),
         RangeAnswer::CountTooLarge => ListAnswer::CountTooLarge,
         RangeAnswer::StartGreaterThanEnd => ListAnswer::StartGreaterThanEnd,
     }
@@ -317,19 +324,11 @@ impl Index {
     pub fn to_vec(self, count: usize, vec: &[i64], marks: &[u8], list: &mut [i64]) -> ListAnswer
         ensures { λ r. ⌜ (listSays r ≡ indexAnswer self count (now (vec .entry)) (now (marks .entry)) (length (now (list .entry)))) × (now (list .exit) ≡ indexBuffer self count (now (vec .entry)) (now (marks .entry)) (now (list .entry))) ⌝ }
     {
-        if count > 9223372036854775807 {
+        if count > COUNT_LIMIT {
             return ListAnswer::CountTooLarge;
         }
         match self {
-            Index::All => {
-                let walk = RangeNdSlice {
-                    start: 0,
-                    end: count,
-                    step: 1,
-                    is_reversed: false,
-                };
-                walk.to_vec(list)
-            }
+            Index::All => consecutive(0, count).to_vec(list),
             Index::One(one) => one_to_vec(one, list),
             Index::Vec => vec_to_vec(vec, list),
             Index::VecBool => {

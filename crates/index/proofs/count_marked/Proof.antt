@@ -1,14 +1,12 @@
+-- `count_marked`: after i turns n is the number of places marked before i.
 use mathlib.Core.Path.{_≡_, refl, sym, ap, _∙_}
-use Prim.Native.Nat.{_≤_, _-_, _+_}
-use lib.ListN.{length, take}
-use borrow.Author.Needs.{needs}
+use Prim.Native.Nat.{_≤_, _-_}
 use native.Mathlib.Omega.{arith}
+use lib.ListN.{length, take}
 use Rattle.index.specs.Numbers.{marked}
 use Rattle.index.proofs.Marks.{unmarked, one-more, all-marked}
 use Rattle.index.proofs.count_marked.Statement.{statement}
 use Rattle.index.proofs.count_marked.Tie as tie
-use Rattle.index.proofs.count_marked.Reads as reads
-use Rattle.index.proofs.count_marked.Lts as lts
 
 abbrev Inv-loop : tie.InvT-loop
 Inv-loop marks n₀ i₀ n i = (i ≤ length marks) × (n ≤ i) × (n ≡ length (marked 0 (take i marks)))
@@ -16,44 +14,42 @@ Inv-loop marks n₀ i₀ n i = (i ≤ length marks) × (n ≤ i) × (n ≡ lengt
 abbrev μ-loop : tie.MeasureT-loop
 μ-loop marks n₀ i₀ n i = length marks - i
 
--- src/lib.rt:203:5
 loop-holds : tie.Need-loop-holds Inv-loop μ-loop
 unfolding marked
 loop-holds c = (omega arith, omega arith, refl)
 
--- src/lib.rt:204:12
 shared-slice-read-if1 : tie.Need-shared-slice-read-if1 Inv-loop μ-loop
 shared-slice-read-if1 c = omega arith
 
--- src/lib.rt:205:13
-add-i : tie.Need-add-i Inv-loop μ-loop
-add-i c = omega arith
-
--- src/lib.rt:203:5
-loop-less : tie.Need-loop-less Inv-loop μ-loop
-loop-less c = omega arith
-
--- src/lib.rt:203:5
-loop-again : tie.Need-loop-again Inv-loop μ-loop
-loop-again c = (omega arith, omega arith, c .before .before .before .loop .inv .2 ∙ sym (ap length (unmarked _ _ (c .before .before .loop-test .taken) (c .if1 .taken))))
-
--- src/lib.rt:207:13
 add-n : tie.Need-add-n Inv-loop μ-loop
 add-n c = omega arith
 
--- src/lib.rt:208:13
+add-i : tie.Need-add-i Inv-loop μ-loop
+add-i c = omega arith
+
+loop-less : tie.Need-loop-less Inv-loop μ-loop
+loop-less c = omega arith
+
+loop-again : tie.Need-loop-again Inv-loop μ-loop
+loop-again c = (
+  omega arith,
+  omega arith,
+  one-more _ _ _ (c .before .before .loop-test .taken) (c .if1 .taken) (c .before .before .before .loop .inv .2),
+)
+
 add-i-2 : tie.Need-add-i-2 Inv-loop μ-loop
 add-i-2 c = omega arith
 
--- src/lib.rt:203:5
 loop-less-2 : tie.Need-loop-less-2 Inv-loop μ-loop
 loop-less-2 c = omega arith
 
--- src/lib.rt:203:5
 loop-again-2 : tie.Need-loop-again-2 Inv-loop μ-loop
-loop-again-2 c = (omega arith, omega arith, one-more _ _ _ (c .before .before .loop-test .taken) (c .if1 .left) (c .before .before .before .loop .inv .2))
+loop-again-2 c = (
+  omega arith,
+  omega arith,
+  c .before .before .before .loop .inv .2 ∙ sym (ap length (unmarked _ _ (c .before .before .loop-test .taken) (c .if1 .left))),
+)
 
--- src/lib.rt:198:1
 returns : tie.Need-returns Inv-loop μ-loop
 returns c = c .before .loop .inv .2 ∙ sym (ap length (all-marked _ _ (c .loop-test .left)))
 
@@ -65,10 +61,10 @@ count-marked-spec =
     μ-loop
     loop-holds
     shared-slice-read-if1
+    add-n
     add-i
     loop-less
     loop-again
-    add-n
     add-i-2
     loop-less-2
     loop-again-2

@@ -1,27 +1,21 @@
+-- `one_to_vec`: one store.
 use mathlib.Core.Path.{refl}
-use mathlib.Core.List.{[]}
-use mir.Facts.{toZ-ofZ}
-use borrow.Author.Needs.{needs}
 use native.Mathlib.Omega.{arith}
+use borrow.Author.Needs.{needs}
+use mir.Facts.{toZ-ofZ}
 use Rattle.index.proofs.Buffers.{too-short, placed, filled-none, filled-more}
 use Rattle.index.proofs.one_to_vec.Statement.{statement}
 use Rattle.index.proofs.one_to_vec.Tie as tie
-use Rattle.index.proofs.one_to_vec.Reads as reads
-use Rattle.index.proofs.one_to_vec.Lts as lts
 
--- src/lib.rt:175:9
 returns : tie.Need-returns
 returns c = too-short _ _ (search needs)
 
--- src/lib.rt:177:5
 slice-set-from-one : tie.Need-slice-set-from-one
 slice-set-from-one c = search needs
 
--- src/lib.rt:171:1
 same-length : tie.Need-same-length
 same-length c = search needs
 
--- src/lib.rt:171:1
 returns-2 : tie.Need-returns-2
 returns-2 c = placed _ _ refl (omega arith) refl (filled-more _ (c .before .args .one) _ (filled-none _) (omega arith) refl (toZ-ofZ (c .before .fits .one)))
 

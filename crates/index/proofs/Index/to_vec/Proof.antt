@@ -1,123 +1,93 @@
+-- `Index::to_vec` answers `indexAnswer` and leaves `indexBuffer`: a law for each kind.
+use borrow.Author.Needs.{needs}
 use mir.Syntax.{w64}
 use mir.Val.{SFits}
 use mir.Facts.{toZ-ofZ}
-use borrow.Author.Needs.{needs}
-use Rattle.index.proofs.Promised.{count-too-large, marks-differ, is-all, is-one, is-vec, is-marks, is-range, is-slice}
+use Rattle.index.proofs.Promised.{count-too-large, marks-differ, is-all, is-one, is-vec, is-marks, is-range, is-slice, all-walk}
 use Rattle.index.proofs.Index.to_vec.Statement.{statement}
 use Rattle.index.proofs.Index.to_vec.Tie as tie
-use Rattle.index.proofs.Index.to_vec.Reads as reads
-use Rattle.index.proofs.Index.to_vec.Lts as lts
-use Rattle.index.proofs.RangeNdSlice.to_vec.Reads as to-vec-reads
-use Rattle.index.proofs.marked_to_vec.Reads as marked-to-vec-reads
-use Rattle.index.proofs.one_to_vec.Reads as one-to-vec-reads
-use Rattle.index.proofs.range_to_vec.Reads as range-to-vec-reads
-use Rattle.index.proofs.slice_to_vec.Reads as slice-to-vec-reads
-use Rattle.index.proofs.vec_to_vec.Reads as vec-to-vec-reads
 
 one-bits : (c : tie.After-known-told) → SFits w64 (c .before .self .given .0 .0)
 one-bits c = search needs
 
--- src/lib.rt:321:13
 returns : tie.Need-returns
 returns c = count-too-large _ _ _ _ _ (c .if1 .taken)
 
--- src/lib.rt:325:21
 enum-told : tie.Need-enum-told
 enum-told c = search needs
 
--- src/lib.rt:331:17
-to-vec-requires : tie.Need-to-vec-requires
-to-vec-requires c κs = search needs
+consecutive-requires : tie.Need-consecutive-requires
+consecutive-requires c κs = search needs
 
--- src/lib.rt:333:24
+to-vec-requires : tie.Need-to-vec-requires
+to-vec-requires c κs = all-walk _ (c .before .before .before .before .if1 .left) (c .before .consecutive .ensures)
+
 enum-known-self : tie.Need-enum-known-self
 enum-known-self c = search needs
 
--- src/lib.rt:333:32
 one-to-vec-requires : tie.Need-one-to-vec-requires
 one-to-vec-requires c κs = search needs
 
--- src/lib.rt:334:43
 enum-told-2 : tie.Need-enum-told-2
 enum-told-2 c = search needs
 
--- src/lib.rt:334:27
 vec-to-vec-requires : tie.Need-vec-to-vec-requires
 vec-to-vec-requires c κs = search needs
 
--- src/lib.rt:336:20
 enum-told-3 : tie.Need-enum-told-3
 enum-told-3 c = search needs
 
--- src/lib.rt:337:21
 returns-2 : tie.Need-returns-2
 returns-2 c = marks-differ _ _ _ _ _ (c .before .before .before .if1 .left) (c .before .enum-told3 .given .1) (c .if2 .taken)
 
--- src/lib.rt:339:17
 marked-to-vec-requires : tie.Need-marked-to-vec-requires
 marked-to-vec-requires c κs = search needs
 
--- src/lib.rt:341:29
 enum-known-self-2 : tie.Need-enum-known-self-2
 enum-known-self-2 c = search needs
 
--- src/lib.rt:341:39
 range-to-vec-requires : tie.Need-range-to-vec-requires
 range-to-vec-requires c κs = search needs
 
--- src/lib.rt:342:32
 enum-known-self-3 : tie.Need-enum-known-self-3
 enum-known-self-3 c = search needs
 
--- src/lib.rt:342:42
 slice-to-vec-requires : tie.Need-slice-to-vec-requires
 slice-to-vec-requires c κs = search needs
 
--- src/lib.rt:317:5
 same-length : tie.Need-same-length
 same-length c = search needs
 
--- src/lib.rt:317:5
 returns-3 : tie.Need-returns-3
-returns-3 c = is-all _ _ _ _ _ (c .before .before .before .before .before .if1 .left) (c .before .before .before .enum-told .given .1) (c .before .to-vec .ensures)
+returns-3 c = is-all _ _ _ _ _ (c .before .before .before .before .before .before .if1 .left) (c .before .before .before .before .enum-told .given .1) (c .before .before .before .consecutive .ensures) (c .before .to-vec .ensures)
 
--- src/lib.rt:317:5
 same-length-2 : tie.Need-same-length-2
 same-length-2 c = search needs
 
--- src/lib.rt:317:5
 returns-4 : tie.Need-returns-4
 returns-4 c = is-one _ _ _ _ _ (c .before .before .before .before .before .before .if1 .left) _ _ (c .before .before .before .before .self .given .1) (toZ-ofZ (one-bits (c .before .before .before))) (c .before .one-to-vec .ensures)
 
--- src/lib.rt:317:5
 same-length-3 : tie.Need-same-length-3
 same-length-3 c = search needs
 
--- src/lib.rt:317:5
 returns-5 : tie.Need-returns-5
 returns-5 c = is-vec _ _ _ _ _ (c .before .before .before .before .before .if1 .left) (c .before .before .before .enum-told2 .given .1) (c .before .vec-to-vec .ensures)
 
--- src/lib.rt:317:5
 same-length-4 : tie.Need-same-length-4
 same-length-4 c = search needs
 
--- src/lib.rt:317:5
 returns-6 : tie.Need-returns-6
 returns-6 c = is-marks _ _ _ _ _ (c .before .before .before .before .before .before .if1 .left) (c .before .before .before .before .enum-told3 .given .1) (c .before .before .before .if2 .left) (c .before .marked-to-vec .ensures)
 
--- src/lib.rt:317:5
 same-length-5 : tie.Need-same-length-5
 same-length-5 c = search needs
 
--- src/lib.rt:317:5
 returns-7 : tie.Need-returns-7
 returns-7 c = is-range _ _ _ _ _ (c .before .before .before .before .before .before .if1 .left) _ (c .before .before .before .before .self2 .given .1) (c .before .range-to-vec .ensures)
 
--- src/lib.rt:317:5
 same-length-6 : tie.Need-same-length-6
 same-length-6 c = search needs
 
--- src/lib.rt:317:5
 returns-8 : tie.Need-returns-8
 returns-8 c = is-slice _ _ _ _ _ (c .before .before .before .before .before .before .if1 .left) _ (c .before .before .before .before .self3 .given .1) (c .before .slice-to-vec .ensures)
 
@@ -127,6 +97,7 @@ to-vec-spec =
     (tie.spec
     returns
     enum-told
+    consecutive-requires
     to-vec-requires
     enum-known-self
     one-to-vec-requires

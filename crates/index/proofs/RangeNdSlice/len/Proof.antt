@@ -1,33 +1,26 @@
+-- `RangeNdSlice::len` is the number of steps below the end.
 use mathlib.Core.Path.{refl, sym}
+use borrow.Author.Needs.{needs}
 use Rattle.index.specs.Numbers.{stepsBelow}
 use Rattle.index.proofs.Steps.{none}
-use borrow.Author.Needs.{needs}
 use Rattle.index.proofs.RangeNdSlice.len.Statement.{statement}
 use Rattle.index.proofs.RangeNdSlice.len.Tie as tie
-use Rattle.index.proofs.RangeNdSlice.len.Reads as reads
-use Rattle.index.proofs.RangeNdSlice.len.Lts as lts
 
--- src/lib.rt:135:13
 returns : tie.Need-returns
 returns c = sym (none _ _ _ (c .before .before .pre .step) (c .if1 .taken))
 
--- src/lib.rt:137:10
 sub-result : tie.Need-sub-result
 sub-result c = search needs
 
--- src/lib.rt:137:10
 add-result : tie.Need-add-result
 add-result c = search needs
 
--- src/lib.rt:137:10
 sub-result-2 : tie.Need-sub-result-2
 sub-result-2 c = search needs
 
--- src/lib.rt:137:9
 div-result : tie.Need-div-result
 div-result c = search needs
 
--- src/lib.rt:130:5
 returns-2 : tie.Need-returns-2
 unfolding stepsBelow
 returns-2 c = refl

@@ -1,6 +1,6 @@
+-- `RangeNdSlice::new` makes the checks of a slice and finds what its numbers mean.
 use mathlib.Core.Path.{_≡_, refl, sym, ap, _∙_, subst}
 use Prim.Native.Nat.{ℕ, _≤_, _<_}
-use native.Mathlib.Omega.{arith}
 use borrow.Author.Needs.{needs}
 use lib.IntN.{ℤ, pos, natAbs}
 use lib.Signed.{ltZ}
@@ -12,10 +12,6 @@ use Rattle.index.proofs.Signed.{of-bits}
 use Rattle.index.proofs.Slices.{step-zero, start-above, end-above, no-end, with-end}
 use Rattle.index.proofs.RangeNdSlice.new.Statement.{statement}
 use Rattle.index.proofs.RangeNdSlice.new.Tie as tie
-use Rattle.index.proofs.RangeNdSlice.new.Reads as reads
-use Rattle.index.proofs.RangeNdSlice.new.Lts as lts
-use Rattle.index.proofs.from_count.Reads as from-count-reads
-use Rattle.index.proofs.magnitude.Reads as magnitude-reads
 
 step-bits : (c : tie.Start) → SFits w64 (c .args .nd-slice-info .step)
 step-bits c = search needs
@@ -44,51 +40,39 @@ from-is c = c .from-count .ensures ∙ ap (fromCount (c .before .before .before 
 end-is : (c : tie.After-magnitude3) → c .magnitude3 .result ≡ natAbs (c .before .before .slice-end .given .0 .0)
 end-is c = of-bits (end-bits (c .before)) (c .magnitude3 .ensures)
 
--- src/lib.rt:141:13
 magnitude-requires : tie.Need-magnitude-requires
 magnitude-requires c κs = search needs
 
--- src/lib.rt:143:13
 returns : tie.Need-returns
 returns c = step-zero _ _ (sym (step-is (c .before)) ∙ c .if1 .taken)
 
--- src/lib.rt:146:12
 magnitude-requires-2 : tie.Need-magnitude-requires-2
 magnitude-requires-2 c κs = search needs
 
--- src/lib.rt:147:13
 returns-2 : tie.Need-returns-2
 returns-2 c = start-above _ _ (step-not-zero (c .before .before .before .before .before)) (subst (λ (n : ℕ). c .before .before .before .before .before .before .before .before .args .count < n) (start-is (c .before)) (c .if2 .taken))
 
--- src/lib.rt:149:13
 from-count-requires : tie.Need-from-count-requires
 from-count-requires c κs = search needs
 
--- src/lib.rt:152:48
 enum-told : tie.Need-enum-told
 enum-told c = search needs
 
--- src/lib.rt:158:26
 enum-known-slice-end : tie.Need-enum-known-slice-end
 enum-known-slice-end c = search needs
 
--- src/lib.rt:159:20
 magnitude-requires-3 : tie.Need-magnitude-requires-3
 magnitude-requires-3 c κs = search needs
 
--- src/lib.rt:160:21
 returns-3 : tie.Need-returns-3
 returns-3 c = end-above _ _ (step-not-zero (c .before .before .before .before .before .before .before .before .before .before .before .before)) (start-fits (c .before .before .before .before .before .before .before)) _ (c .before .before .before .slice-end .given .1) (subst (λ (n : ℕ). c .before .before .before .before .before .before .before .before .before .before .before .before .before .before .before .args .count < n) (end-is (c .before)) (c .if3 .taken))
 
--- src/lib.rt:162:21
 from-count-requires-2 : tie.Need-from-count-requires-2
 from-count-requires-2 c κs = search needs
 
--- src/lib.rt:137:5
 returns-4 : tie.Need-returns-4
 returns-4 c = no-end _ _ (step-not-zero (c .before .before .before .before .before .before .before .before .before)) (start-fits (c .before .before .before .before)) _ _ _ _ (step-bits (c .before .before .before .before .before .before .before .before .before .before .before .before)) (c .before .before .before .before .before .before .before .before .before .before .before .before .pre) (from-is (c .before .before)) (step-is (c .before .before .before .before .before .before .before .before .before .before)) (ap (λ (z : ℤ). ltZ z (pos 0)) (toZ-ofZ (step-bits (c .before .before .before .before .before .before .before .before .before .before .before .before)))) (c .enum-told .given .1) refl
 
--- src/lib.rt:137:5
 returns-5 : tie.Need-returns-5
 returns-5 c = with-end _ _ (step-not-zero (c .before .before .before .before .before .before .before .before .before .before .before .before .before)) (start-fits (c .before .before .before .before .before .before .before .before)) _ _ _ _ (step-bits (c .before .before .before .before .before .before .before .before .before .before .before .before .before .before .before .before)) (c .before .before .before .before .before .before .before .before .before .before .before .before .before .before .before .before .pre) (from-is (c .before .before .before .before .before .before)) (step-is (c .before .before .before .before .before .before .before .before .before .before .before .before .before .before)) (ap (λ (z : ℤ). ltZ z (pos 0)) (toZ-ofZ (step-bits (c .before .before .before .before .before .before .before .before .before .before .before .before .before .before .before .before)))) _ (c .before .before .before .before .slice-end .given .1) (subst (λ (n : ℕ). n ≤ c .before .before .before .before .before .before .before .before .before .before .before .before .before .before .before .before .args .count) (end-is (c .before .before)) (c .before .if3 .left)) (c .from-count2 .ensures ∙ ap (fromCount (c .before .before .before .before .before .before .before .before .before .before .before .before .before .before .before .before .args .count)) (toZ-ofZ (end-bits (c .before .before .before))))
 
