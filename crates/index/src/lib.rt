@@ -203,7 +203,8 @@ impl RangeNdSlice {
         ensures { λ r. ⌜ Listed (numbers self) (now (list .entry)) (listSays r) (now (list .exit)) ⌝ }
     {
         let n = self.len();
-        if n > list.len() {
+        let room = list.len();
+        if n > room {
             return ListAnswer::ListTooShort;
         }
         let mut k: usize = 0;

@@ -13,10 +13,10 @@ use Rattle.index.proofs.RangeNdSlice.to_vec.Statement.{statement}
 use Rattle.index.proofs.RangeNdSlice.to_vec.Tie as tie
 
 abbrev Inv-loop : tie.InvT-loop
-Inv-loop self list₀ n k₀ list k = (k ≤ n) × (n ≤ length list₀) × Filled (tabulate k (numberAt self)) list₀ k list
+Inv-loop self list₀ n room k₀ list k = (k ≤ n) × (n ≤ length list₀) × Filled (tabulate k (numberAt self)) list₀ k list
 
 abbrev μ-loop : tie.MeasureT-loop
-μ-loop self list₀ n k₀ list k = n - k
+μ-loop self list₀ n room k₀ list k = n - k
 
 len-requires : tie.Need-len-requires Inv-loop μ-loop
 len-requires c κs = c .pre
