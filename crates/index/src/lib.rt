@@ -296,7 +296,9 @@ fn marked_to_vec(marks: &[u8], list: &mut [i64]) -> ListAnswer
 // A range into the buffer.
 fn range_to_vec(range: RangeAny, count: usize, list: &mut [i64]) -> ListAnswer
     requires { ⌜ count ≤ countLimit ⌝ }
-    ensures { λ r. ⌜ Checked (checkRange range count) (rangeList range count) (now (list .entry)) (listSays r) (now (list .exit)) ⌝ }
+    ensures { λ r. ⌜
+        Checked (checkRange range count) (rangeList range count) (now (list .entry)) (listSays r) (now (list .exit))
+        ⌝ }
 {
     let found = range.to_range(count);
     match found {
@@ -309,7 +311,9 @@ fn range_to_vec(range: RangeAny, count: usize, list: &mut [i64]) -> ListAnswer
 // A slice into the buffer.
 fn slice_to_vec(nd_slice_info: SliceInfo1, count: usize, list: &mut [i64]) -> ListAnswer
     requires { ⌜ count ≤ countLimit ⌝ }
-    ensures { λ r. ⌜ Checked (checkSlice «nd_slice_info» count) (sliceList «nd_slice_info» count) (now (list .entry)) (listSays r) (now (list .exit)) ⌝ }
+    ensures { λ r. ⌜
+        Checked (checkSlice «nd_slice_info» count) (sliceList «nd_slice_info» count) (now (list .entry)) (listSays r) (now (list .exit))
+        ⌝ }
 {
     let new = RangeNdSlice::new(nd_slice_info, count);
     match new {
@@ -321,9 +325,13 @@ fn slice_to_vec(nd_slice_info: SliceInfo1, count: usize, list: &mut [i64]) -> Li
 }
 
 impl Index {
-    // The numbers that an index chooses among `count` items, into the buffer `list`. `vec` is the list of `Vec`, and `marks` those of `VecBool`.
+    // The numbers that an index chooses among `count` items, into the buffer `list`.
+    // `vec` is the list of `Vec`, and `marks` are those of `VecBool`.
     pub fn to_vec(self, count: usize, vec: &[i64], marks: &[u8], list: &mut [i64]) -> ListAnswer
-        ensures { λ r. ⌜ (listSays r ≡ indexAnswer self count (now (vec .entry)) (now (marks .entry)) (length (now (list .entry)))) × (now (list .exit) ≡ indexBuffer self count (now (vec .entry)) (now (marks .entry)) (now (list .entry))) ⌝ }
+        ensures { λ r. ⌜
+            (listSays r ≡ indexAnswer self count (now (vec .entry)) (now (marks .entry)) (length (now (list .entry))))
+            × (now (list .exit) ≡ indexBuffer self count (now (vec .entry)) (now (marks .entry)) (now (list .entry)))
+            ⌝ }
     {
         if count > COUNT_LIMIT {
             return ListAnswer::CountTooLarge;
