@@ -23,10 +23,10 @@ laid-more front [] x h = absurd (not-suc-le-zero h)
 laid-more [] (y ∷ old) x h = refl
 laid-more (a ∷ front) (y ∷ old) x h = ap (λ (l : List ℤ). a ∷ l) (laid-more front old x (le-of-suc-le-suc h))
 
-tabulate-suc : (n : ℕ) (f : ℕ → ℤ) → tabulate (suc n) f ≡ tabulate n f ++ (f n ∷ [])
+pub tabulate-suc : {A : Type 0} (n : ℕ) (f : ℕ → A) → tabulate (suc n) f ≡ tabulate n f ++ (f n ∷ [])
 unfolding tabulate
 tabulate-suc zero f = refl
-tabulate-suc (suc n) f = ap (λ (l : List ℤ). f 0 ∷ l) (tabulate-suc n (λ k. f (suc k)))
+tabulate-suc (suc n) f = ap (λ l. f 0 ∷ l) (tabulate-suc n (λ k. f (suc k)))
 
 pub tabulate-more : (n : ℕ) (f : ℕ → ℤ) → tabulate (n + 1) f ≡ tabulate n f ++ (f n ∷ [])
 tabulate-more n f = rw add-one (tabulate-suc n f)

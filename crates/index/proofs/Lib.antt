@@ -1,3 +1,4 @@
+pub mod Below
 pub mod Steps
 pub mod Buffers
 pub mod Marks

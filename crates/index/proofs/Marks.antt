@@ -1,58 +1,62 @@
 -- The places of the marks that are not 0.
-use mathlib.Core.Path.{_≡_, sym, ap, _∙_}
-use mathlib.Core.Bool.{Bool, true, false, cond}
-use mathlib.Core.List.{List, [], _∷_, _++_, append-nil}
-use Prim.Native.Nat.{ℕ, suc, _+_, _≤_, _<_}
-use native.Mathlib.Nat.{add-zero, add-suc, suc-add, zero-add}
+use mathlib.Core.Path.{_≡_, refl, sym, ap, _∙_}
+use mathlib.Core.Bool.{Bool, not}
+use mathlib.Core.List.{List, [], _∷_, _++_, map}
+use Prim.Native.Nat.{ℕ, _+_, _-_, _≤_, _<_}
 use native.Mathlib.Numerals.{add-one}
 use native.Mathlib.Omega.{arith}
 use borrow.Author.Tests.{eq-eqb, ne-eqb}
 use lib.IntN.{ℤ, pos}
 use lib.Dec.{eqb}
-use lib.ListN.{length, take, drop, getD, length-append, take-append-drop}
-use lib.Seq.{take-suc, length-take-le, take-all}
-use Rattle.index.specs.Numbers.{marked}
+use lib.ListN.{length, getD, length-append, length-map}
+use Rattle.index.specs.Numbers.{numbersBelow, marked}
+use Rattle.index.proofs.Below.{below-more, below-same, below-grows}
 
-marked-append : (p : ℕ) (a b : List ℕ) → marked p (a ++ b) ≡ marked p a ++ marked (p + length a) b
-unfolding marked
-marked-append p [] b = rw add-zero
-marked-append p (m ∷ a) b = both (eqb m 0) _ (marked (suc p) a) (marked (p + suc (length a)) b) (marked-append (suc p) a b ∙ ap (λ (n : ℕ). marked (suc p) a ++ marked n b) (suc-add p (length a) ∙ sym (add-suc p (length a))))
-  where
-    both : (t : Bool) (x y z : List ℤ) → x ≡ y ++ z → cond t x (pos p ∷ x) ≡ cond t y (pos p ∷ y) ++ z
-    both true x y z e = e
-    both false x y z e = ap (λ (l : List ℤ). pos p ∷ l) e
+abbrev isMarked : List ℕ → ℕ → Bool
+isMarked marks i = not (eqb (getD marks i 0) 0)
 
-module _ (marks : List ℕ) (i : ℕ) (h : i < length marks) where
-  next : marked 0 (take (i + 1) marks) ≡ marked 0 (take i marks) ++ marked i (getD marks i 0 ∷ [])
-  next =
-      ap (λ (n : ℕ). marked 0 (take n marks)) (add-one i) ∙ ap (λ (l : List ℕ). marked 0 l) (take-suc marks i 0 h)
-      ∙ marked-append 0 (take i marks) (getD marks i 0 ∷ [])
-      ∙ ap (λ (n : ℕ). marked 0 (take i marks) ++ marked n (getD marks i 0 ∷ [])) (zero-add (length (take i marks)) ∙ length-take-le i marks (omega arith))
+-- the places marked before place i
+unfoldable pub markedBefore : List ℕ → ℕ → List ℤ
+markedBefore marks i = map pos (numbersBelow i (isMarked marks))
 
-  pub unmarked : getD marks i 0 ≡ 0 → marked 0 (take (i + 1) marks) ≡ marked 0 (take i marks)
-  unfolding marked
-  unmarked e = next ∙ simp (eq-eqb (getD marks i 0) 0 e, append-nil)
+map-append : (a b : List ℕ) → map pos (a ++ b) ≡ map pos a ++ map pos b
+map-append [] b = refl
+map-append (x ∷ a) b = ap (λ (l : List ℤ). pos x ∷ l) (map-append a b)
 
-  pub is-marked : (getD marks i 0 ≡ 0 → ⊥) → marked 0 (take (i + 1) marks) ≡ marked 0 (take i marks) ++ (pos i ∷ [])
-  unfolding marked
-  is-marked n = next ∙ simp (ne-eqb (getD marks i 0) 0 n)
+pub none-before : (marks : List ℕ) → markedBefore marks 0 ≡ []
+unfolding markedBefore numbersBelow
+none-before marks = refl
 
--- no more places before mark i than in all
-pub at-most : (marks : List ℕ) (i : ℕ) → length (marked 0 (take i marks)) ≤ length (marked 0 marks)
-at-most marks i =
-    let e : length (marked 0 (take i marks ++ drop i marks)) ≡ length (marked 0 (take i marks)) + length (marked (0 + length (take i marks)) (drop i marks)) =
-    ap length (marked-append 0 (take i marks) (drop i marks)) ∙ length-append (marked 0 (take i marks)) (marked (0 + length (take i marks)) (drop i marks)) in
-    let w : length (marked 0 (take i marks ++ drop i marks)) ≡ length (marked 0 marks) = ap (λ (l : List ℕ). length (marked 0 l)) (take-append-drop i marks) in
-    omega arith
+pub all-marked : (marks : List ℕ) (i : ℕ) → i ≤ length marks → length marks ≤ i → marked marks ≡ markedBefore marks i
+unfolding markedBefore marked
+all-marked marks i a b = ap (λ (n : ℕ). map pos (numbersBelow n (isMarked marks))) (omega arith)
 
--- the number of places grows by one at a mark
-pub one-more : (marks : List ℕ) (i n : ℕ) → i < length marks → (getD marks i 0 ≡ 0 → ⊥) → n ≡ length (marked 0 (take i marks)) → n + 1 ≡ length (marked 0 (take (i + 1) marks))
-one-more marks i n h m e =
-    ap (λ (j : ℕ). j + 1) e ∙ sym (length-append (marked 0 (take i marks)) (pos i ∷ [])) ∙ sym (ap length (is-marked marks i h m))
+module _ (marks : List ℕ) (i : ℕ) where
+  pub unmarked : getD marks i 0 ≡ 0 → markedBefore marks (i + 1) ≡ markedBefore marks i
+  unfolding markedBefore
+  unmarked e =
+      ap (λ (n : ℕ). map pos (numbersBelow n (isMarked marks))) (add-one i)
+      ∙ ap (map pos) (below-same (isMarked marks) i (ap not (eq-eqb (getD marks i 0) 0 e)))
 
--- a place that is left for a mark that is not 0
-pub room-for : (marks : List ℕ) (i n room : ℕ) → i < length marks → (getD marks i 0 ≡ 0 → ⊥) → n ≡ length (marked 0 (take i marks)) → length (marked 0 marks) ≤ room → n < room
-room-for marks i n room h m e r = let o : n + 1 ≡ length (marked 0 (take (i + 1) marks)) = one-more marks i n h m e in omega (arith, at-most marks (i + 1))
+  module _ (n : getD marks i 0 ≡ 0 → ⊥) where
+    pub is-marked : markedBefore marks (i + 1) ≡ markedBefore marks i ++ (pos i ∷ [])
+    unfolding markedBefore
+    is-marked =
+        ap (λ (m : ℕ). map pos (numbersBelow m (isMarked marks))) (add-one i)
+        ∙ ap (map pos) (below-more (isMarked marks) i (ap not (ne-eqb (getD marks i 0) 0 n)))
+        ∙ map-append (numbersBelow i (isMarked marks)) (i ∷ [])
 
-pub all-marked : (marks : List ℕ) (i : ℕ) → length marks ≤ i → marked 0 marks ≡ marked 0 (take i marks)
-all-marked marks i b = sym (ap (λ (l : List ℕ). marked 0 l) (take-all i marks b))
+    -- the number of places grows by one at a mark
+    pub one-more : (count : ℕ) → count ≡ length (markedBefore marks i) → count + 1 ≡ length (markedBefore marks (i + 1))
+    one-more count e =
+        ap (λ (j : ℕ). j + 1) e ∙ sym (length-append (markedBefore marks i) (pos i ∷ [])) ∙ sym (ap length is-marked)
+
+    -- a place is left for it where there is room for all
+    pub room-for : (count room : ℕ) → i < length marks → count ≡ length (markedBefore marks i) → length (marked marks) ≤ room → count < room
+    unfolding markedBefore marked
+    room-for count room h e r =
+        let o : count + 1 ≡ length (markedBefore marks (i + 1)) = one-more count e in
+        let l : i + 1 + (length marks - (i + 1)) ≡ length marks = omega arith in
+        let g : length (numbersBelow (i + 1) (isMarked marks)) ≤ length (numbersBelow (length marks) (isMarked marks)) =
+        rw l at (below-grows (isMarked marks) (i + 1) (length marks - (i + 1))) in
+        omega (arith, length-map (numbersBelow (i + 1) (isMarked marks)) pos, length-map (numbersBelow (length marks) (isMarked marks)) pos)

@@ -7,42 +7,46 @@ use native.Mathlib.Omega.{arith}
 use borrow.Author.Tests.{lt-leb}
 use lib.IntN.{ℤ, pos, negsuc}
 use lib.ListN.{length, getD}
-use Rattle.genotype.specs.Answer.{done, refused, check, checkCount, countLimit}
+use Rattle.genotype.specs.Answer.{refused, check, checkCount, countLimit}
 use Rattle.genotype.specs.Lists.{tabulate}
 use Rattle.genotype.proofs.Tabulate.{length-tabulate, getD-tabulate}
 use Rattle.index.specs.declared.Index.{Index}
 use Rattle.index.specs.declared.Bound.the-variants as Bound
 use Rattle.index.specs.declared.SliceEnd.the-variants as SliceEnd
 use Rattle.index.specs.declared.Index.the-variants as Index
-use Rattle.index.specs.Numbers.{stepsBelow, forward, backward, stepped, sliceList, sliceEnd, fromCount, indexList, boundOr, rangeList, marked}
+use Rattle.index.specs.Numbers.{numbersBelow, distances, forward, backward, stepped, sliceList, sliceEnd, fromCount, indexList, boundOr, rangeList, marked}
+use Rattle.index.specs.Inner.{stepsBelow}
 use Rattle.index.specs.Checks.{checkIndex, checkSlice, checkEnd, checkRange, checkBound, listAnswer, listBuffer, indexAnswer, indexBuffer}
-use Rattle.index.proofs.Steps.{inside, reached}
+use Rattle.index.proofs.Steps.{inside, reached, forward-is, backward-is}
 
 module _ (start end step k : ℕ) (p : 0 < step) where
   -- a forward slice has a place k exactly if start + k · step is below end, and that number stands there
   pub forward-exact : (k < length (forward start end step)) ↔ (start + k * step < end)
-  unfolding forward
   forward-exact =
-      let e = length-tabulate (stepsBelow start end step) (λ (j : ℕ). pos (start + j * step)) in
-      (λ h. inside start end step k p (omega arith), λ h. let g : k < stepsBelow start end step = reached start end step k p h in omega arith)
+      let e : length (forward start end step) ≡ stepsBelow (end - start) step =
+      ap length (forward-is start end step p) ∙ length-tabulate (stepsBelow (end - start) step) (λ j. pos (start + j * step)) in (
+        λ h. let g : k * step < end - start = inside (end - start) step k p (omega arith) in omega arith,
+        λ h. let g : k < stepsBelow (end - start) step = reached (end - start) step k p (omega arith) in omega arith,
+      )
 
   pub forward-number : start + k * step < end → getD (forward start end step) k (pos 0) ≡ pos (start + k * step)
-  unfolding forward
-  forward-number h = getD-tabulate (stepsBelow start end step) (λ j. pos (start + j * step)) k (pos 0) (reached start end step k p h)
+  forward-number h =
+      ap (λ (l : List ℤ). getD l k (pos 0)) (forward-is start end step p)
+      ∙ getD-tabulate (stepsBelow (end - start) step) (λ j. pos (start + j * step)) k (pos 0) (reached (end - start) step k p (omega arith))
 
   -- a backward slice has a place k exactly if end − 1 − k · step is not below start, and that number stands there
   pub backward-exact : (k < length (backward start end step)) ↔ (start + k * step + 1 ≤ end)
-  unfolding backward
   backward-exact =
-      let e = length-tabulate (stepsBelow start end step) (λ (j : ℕ). pos (end - 1 - j * step)) in (
-        λ h. let g : start + k * step < end = inside start end step k p (omega arith) in omega arith,
-        λ h. let g : k < stepsBelow start end step = reached start end step k p (omega arith) in omega arith,
+      let e : length (backward start end step) ≡ stepsBelow (end - start) step =
+      ap length (backward-is start end step p) ∙ length-tabulate (stepsBelow (end - start) step) (λ j. pos (end - 1 - j * step)) in (
+        λ h. let g : k * step < end - start = inside (end - start) step k p (omega arith) in omega arith,
+        λ h. let g : k < stepsBelow (end - start) step = reached (end - start) step k p (omega arith) in omega arith,
       )
 
   pub backward-number : (n : ℕ) → n + k * step + 1 ≡ end → start ≤ n → getD (backward start end step) k (pos 0) ≡ pos n
-  unfolding backward
   backward-number n q h =
-      getD-tabulate (stepsBelow start end step) (λ j. pos (end - 1 - j * step)) k (pos 0) (reached start end step k p (omega arith))
+      ap (λ (l : List ℤ). getD l k (pos 0)) (backward-is start end step p)
+      ∙ getD-tabulate (stepsBelow (end - start) step) (λ j. pos (end - 1 - j * step)) k (pos 0) (reached (end - start) step k p (omega arith))
       ∙ ap pos (omega arith)
 
 -- a slice, as an index
@@ -51,16 +55,16 @@ slice start end step = Index.NDSliceInfo (record { start = start; end = SliceEnd
 
 -- "Count 6, slice 1 to 6 step −2: 5, 3, 1."
 pub slice-down : indexList (slice (pos 1) (pos 6) (negsuc 1)) 6 [] [] ≡ pos 5 ∷ pos 3 ∷ pos 1 ∷ []
-unfolding indexList sliceList stepped backward stepsBelow sliceEnd fromCount tabulate
+unfolding indexList sliceList stepped backward distances numbersBelow sliceEnd fromCount
 slice-down = refl
 
 -- −2^63 as a step, a start and an end
 abbrev least : ℤ
 least = negsuc (2 ^ 63 - 1)
 
-pub least-step : indexAnswer (slice (pos 0) (negsuc 0) least) countLimit [] [] 1 ≡ done (pos 1 ∷ [])
-unfolding indexAnswer checkIndex checkSlice checkEnd checkCount check listAnswer indexList sliceList stepped backward stepsBelow sliceEnd fromCount tabulate
-least-step = refl
+pub least-step : stepped 0 countLimit least ≡ pos (2 ^ 63 - 2) ∷ []
+unfolding stepped stepsBelow tabulate
+least-step = backward-is 0 countLimit (2 ^ 63) (omega arith)
 
 pub least-start : indexAnswer (slice least least (pos 1)) countLimit [] [] 0 ≡ refused 10 []
 unfolding indexAnswer checkIndex checkSlice checkEnd checkCount check
@@ -82,7 +86,7 @@ range-past = refl
 
 -- "nonzero chosen"
 pub marks-chosen : indexList Index.VecBool 4 [] (0 ∷ 255 ∷ 0 ∷ 2 ∷ []) ≡ pos 1 ∷ pos 3 ∷ []
-unfolding indexList marked
+unfolding indexList marked numbersBelow
 marks-chosen = refl
 
 -- 19 for a list that is longer than any buffer

@@ -53,7 +53,7 @@ module _ (index : Index) (count : ℕ) (vec : List ℤ) (marks : List ℕ) (old 
     unfolding checkIndex indexList
     is-vec e = listed _ (λ later. ap (λ (i : Index). checkIndex i count marks later) e) (ap (λ (i : Index). indexList i count vec marks) e)
 
-    pub is-marks : index ≡ Index.VecBool → length marks ≡ count → Listed (marked 0 marks) old says new → Promised says new
+    pub is-marks : index ≡ Index.VecBool → length marks ≡ count → Listed (marked marks) old says new → Promised says new
     unfolding checkIndex indexList check
     is-marks e h = listed _ (λ later. ap (λ (i : Index). checkIndex i count marks later) e ∙ simp (eq-eqb (length marks) count h)) (ap (λ (i : Index). indexList i count vec marks) e)
 

@@ -9,9 +9,9 @@ use lib.IntN.{ℤ, pos}
 use lib.Dec.{leb}
 use Rattle.genotype.specs.Answer.{Answer, done, refused, check, checkCount, countLimit}
 use Rattle.index.specs.declared.Bound.{Bound}
-use Rattle.index.specs.declared.Bound.the-variants as Bound
 use Rattle.index.specs.declared.RangeAny.{RangeAny}
 use Rattle.index.specs.declared.RangeNdSlice.{RangeNdSlice}
+use Rattle.index.specs.declared.Bound.the-variants as Bound
 use Rattle.index.specs.Numbers.{boundOr, rangeList}
 use Rattle.index.specs.Checks.{checkBound, checkRange, rangeAnswer}
 use Rattle.index.specs.Inner.{walkOf, Walk, numbers, Listed, Checked}

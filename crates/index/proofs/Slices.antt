@@ -1,8 +1,8 @@
 -- What a slice's start, end and step mean, and its checks: laws over plain values.
-use mathlib.Core.Path.{_≡_, refl, sym, ap, _∙_, subst}
+use mathlib.Core.Path.{_≡_, sym, ap, _∙_, subst}
 use mathlib.Core.Bool.{Bool, false}
 use mathlib.Core.List.{List, []}
-use Prim.Native.Nat.{ℕ, _+_, _-_, _*_, _^_, _≤_, _<_}
+use Prim.Native.Nat.{ℕ, suc, _+_, _-_, _*_, _^_, _≤_, _<_}
 use native.Mathlib.Nat.{pos-of-ne-zero, mul-one}
 use native.Mathlib.Omega.{arith}
 use borrow.Author.Tests.{eq-eqb, ne-eqb, le-leb, lt-leb, le-ltb}
@@ -19,10 +19,10 @@ use Rattle.index.specs.declared.SliceEnd.{SliceEnd}
 use Rattle.index.specs.declared.NewSlice.{NewSlice}
 use Rattle.index.specs.declared.SliceEnd.the-variants as SliceEnd
 use Rattle.index.specs.declared.NewSlice.the-variants as NewSlice
-use Rattle.index.specs.Numbers.{fromCount, sliceEnd, stepsBelow, forward, backward, stepped, sliceList}
+use Rattle.index.specs.Numbers.{fromCount, sliceEnd, stepped, sliceList}
 use Rattle.index.specs.Checks.{checkEnd, checkSlice}
-use Rattle.index.specs.Inner.{walkOf, Walk, numberAt, numbers, Resolved, Listed, Checked}
-use Rattle.index.proofs.Steps.{by-one}
+use Rattle.index.specs.Inner.{walkOf, Walk, stepsBelow, numberAt, numbers, Resolved, Listed, Checked}
+use Rattle.index.proofs.Steps.{by-one, forward-is, backward-is}
 use Rattle.index.proofs.Buffers.{let-through, stopped}
 
 -- a start or an end that passes its check is at most count
@@ -35,18 +35,19 @@ pub size-bound : (e : ℤ) → SFits w64 e → natAbs e ≤ 2 ^ 63
 size-bound (pos n) f = omega (arith, f .sfits)
 size-bound (negsuc k) f = omega (arith, f .sfits)
 
--- the numbers of a slice are those of the step's sign
-same-numbers : (start end : ℕ) (step : ℤ) → numbers (walkOf start end (natAbs step) (ltZ step (pos 0))) ≡ stepped start end step
-unfolding numberAt stepped forward backward
-same-numbers start end (pos n) = tabulate-ext (stepsBelow start end n) _ _ (λ k h. simp (le-ltb n 0 (omega arith)))
-same-numbers start end (negsuc k) = refl
+-- the numbers of a slice of the code are those of the step's sign
+same-numbers : (start end : ℕ) (step : ℤ) → 0 < natAbs step → numbers (walkOf start end (natAbs step) (ltZ step (pos 0))) ≡ stepped start end step
+unfolding numberAt stepped
+same-numbers start end (pos n) p =
+    tabulate-ext (stepsBelow (end - start) n) _ (λ k. pos (start + k * n)) (λ k h. simp (le-ltb n 0 (omega arith))) ∙ sym (forward-is start end n p)
+same-numbers start end (negsuc k) p = sym (backward-is start end (suc k) p)
 
 -- those of a step of 1
 pub consecutive : (start end n : ℕ) (f : ℕ → ℤ) → n ≡ end - start → ((k : ℕ) → f k ≡ pos (start + k)) → numbers (walkOf start end 1 false) ≡ tabulate n f
 unfolding numberAt
 consecutive start end n f e g =
-    tabulate-ext (stepsBelow start end 1) (λ k. pos (start + k * 1)) f (λ k h. ap (λ (j : ℕ). pos (start + j)) (mul-one k) ∙ sym (g k))
-    ∙ ap (λ (m : ℕ). tabulate m f) (by-one start end ∙ sym e)
+    tabulate-ext (stepsBelow (end - start) 1) (λ k. pos (start + k * 1)) f (λ k h. ap (λ (j : ℕ). pos (start + j)) (mul-one k) ∙ sym (g k))
+    ∙ ap (λ (m : ℕ). tabulate m f) (by-one (end - start) ∙ sym e)
 
 module _ (s : SliceInfo1) (count : ℕ) where
   pub step-zero : natAbs (s .step) ≡ 0 → Resolved s count NewSlice.StepZero
@@ -72,7 +73,7 @@ module _ (s : SliceInfo1) (count : ℕ) where
               ∙ ap (λ (b : ℕ). numbers (walkOf (fromCount count (s .start)) b step reversed)) ee
               ∙ ap (λ (m : ℕ). numbers (walkOf (fromCount count (s .start)) (sliceEnd count (s .end)) m reversed)) en
               ∙ ap (λ (t : Bool). numbers (walkOf (fromCount count (s .start)) (sliceEnd count (s .end)) (natAbs (s .step)) t)) er
-              ∙ same-numbers (fromCount count (s .start)) (sliceEnd count (s .end)) (s .step),
+              ∙ same-numbers (fromCount count (s .start)) (sliceEnd count (s .end)) (s .step) (pos-of-ne-zero n),
           λ later. simp (ne-eqb (natAbs (s .step)) 0 n, le-leb (natAbs (s .start)) count hs, passes),
         )
 

@@ -2,7 +2,7 @@
 use mathlib.Core.Bool.{Bool, cond}
 use mathlib.Core.List.{List, []}
 use mathlib.Core.Path.{_≡_}
-use Prim.Native.Nat.{ℕ, _+_, _-_, _*_, _^_, _≤_, _<_}
+use Prim.Native.Nat.{ℕ, _+_, _-_, _*_, _/_, _^_, _≤_, _<_}
 use lib.IntN.{ℤ, pos}
 use lib.ListN.{length}
 use Rattle.genotype.specs.Answer.{Answer, refused, countLimit}
@@ -11,7 +11,7 @@ use Rattle.index.specs.declared.RangeNdSlice.{RangeNdSlice}
 use Rattle.index.specs.declared.NewSlice.{NewSlice}
 use Rattle.index.specs.declared.SliceInfo1.{SliceInfo1}
 use Rattle.index.specs.declared.NewSlice.the-variants as NewSlice
-use Rattle.index.specs.Numbers.{stepsBelow, sliceList}
+use Rattle.index.specs.Numbers.{sliceList}
 use Rattle.index.specs.Checks.{checkSlice, listAnswer, listBuffer}
 
 -- a slice of the code, from its four parts
@@ -24,12 +24,17 @@ pub record Walk (s : RangeNdSlice) : Type 0 where
   pub stepFits : s .step ≤ 2 ^ 63
   pub endFits : s .end ≤ countLimit
 
--- the number at place k of a slice, and its numbers
+-- the number at place k of a slice
 unfoldable pub numberAt : RangeNdSlice → ℕ → ℤ
 numberAt s k = cond (s .«is_reversed») (pos (s .end - 1 - k * s .step)) (pos (s .start + k * s .step))
 
+-- how many of 0, step, 2 · step and so on are below n
+unfoldable pub stepsBelow : ℕ → ℕ → ℕ
+stepsBelow n step = (n + step - 1) / step
+
+-- its numbers
 abbrev pub numbers : RangeNdSlice → List ℤ
-numbers s = tabulate (stepsBelow (s .start) (s .end) (s .step)) (numberAt s)
+numbers s = tabulate (stepsBelow (s .end - s .start) (s .step)) (numberAt s)
 
 -- an answer and a later buffer are those of a list, with 19 the only check
 pub record Listed (means old : List ℤ) (says : Answer) (new : List ℤ) : Type 0 where

@@ -2,13 +2,13 @@
 ghost use mathlib.Core.Path.{_≡_};
 ghost use mathlib.Core.Bool.{false};
 ghost use mathlib.Core.List.{[], _∷_};
-ghost use Prim.Native.Nat.{_+_, _*_, _≤_, _<_};
+ghost use Prim.Native.Nat.{_+_, _-_, _*_, _≤_, _<_};
 ghost use lib.ListN.{length};
 ghost use Rattle.genotype.specs.Answer.{countLimit};
-ghost use Rattle.index.specs.Numbers.{boundOr, magnitude, fromCount, stepsBelow, marked, rangeList, sliceList};
+ghost use Rattle.index.specs.Numbers.{boundOr, magnitude, fromCount, marked, rangeList, sliceList};
 ghost use Rattle.index.specs.Checks.{checkRange, checkSlice, indexAnswer, indexBuffer, rangeAnswer};
 ghost use Rattle.index.specs.Says.{listSays, rangeSays};
-ghost use Rattle.index.specs.Inner.{walkOf, numberAt, numbers, Walk, Resolved, Listed, Checked};
+ghost use Rattle.index.specs.Inner.{walkOf, numberAt, stepsBelow, numbers, Walk, Resolved, Listed, Checked};
 
 // The greatest count, and the greatest bound of a range: 2^63 - 1.
 const COUNT_LIMIT: usize = 9223372036854775807;
@@ -177,7 +177,7 @@ impl RangeNdSlice {
     // How many numbers it has.
     fn len(self) -> usize
         requires { ⌜ Walk self ⌝ }
-        ensures { λ r. ⌜ r ≡ stepsBelow (self .start) (self .end) (self .step) ⌝ }
+        ensures { λ r. ⌜ r ≡ stepsBelow (self .end - self .start) (self .step) ⌝ }
     {
         if self.start >= self.end {
             return 0;
@@ -256,7 +256,7 @@ fn vec_to_vec(vec: &[i64], list: &mut [i64]) -> ListAnswer
 
 // How many marks are not 0.
 fn count_marked(marks: &[u8]) -> usize
-    ensures { λ r. ⌜ r ≡ length (marked 0 (now (marks .entry))) ⌝ }
+    ensures { λ r. ⌜ r ≡ length (marked (now (marks .entry))) ⌝ }
 {
     let mut n: usize = 0;
     let mut i: usize = 0;
@@ -273,7 +273,7 @@ fn count_marked(marks: &[u8]) -> usize
 
 // The places of the marks that are not 0 into the buffer.
 fn marked_to_vec(marks: &[u8], list: &mut [i64]) -> ListAnswer
-    ensures { λ r. ⌜ Listed (marked 0 (now (marks .entry))) (now (list .entry)) (listSays r) (now (list .exit)) ⌝ }
+    ensures { λ r. ⌜ Listed (marked (now (marks .entry))) (now (list .entry)) (listSays r) (now (list .exit)) ⌝ }
 {
     let n = count_marked(marks);
     if n > list.len() {

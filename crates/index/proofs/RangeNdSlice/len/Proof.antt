@@ -1,13 +1,14 @@
 -- `RangeNdSlice::len` is the number of steps below the end.
 use mathlib.Core.Path.{refl, sym}
+use native.Mathlib.Omega.{arith}
 use borrow.Author.Needs.{needs}
-use Rattle.index.specs.Numbers.{stepsBelow}
+use Rattle.index.specs.Inner.{stepsBelow}
 use Rattle.index.proofs.Steps.{none}
 use Rattle.index.proofs.RangeNdSlice.len.Statement.{statement}
 use Rattle.index.proofs.RangeNdSlice.len.Tie as tie
 
 returns : tie.Need-returns
-returns c = sym (none _ _ _ (c .before .before .pre .step) (c .if1 .taken))
+returns c = sym (none _ _ (c .before .before .pre .step) (omega (arith, c .if1 .taken)))
 
 sub-result : tie.Need-sub-result
 sub-result c = search needs

@@ -1,6 +1,6 @@
 -- `RangeNdSlice::to_vec`: after k turns the buffer's first k places hold the slice's first k numbers.
 use mathlib.Core.Path.{_∙_}
-use Prim.Native.Nat.{_≤_, _-_}
+use Prim.Native.Nat.{_≤_, _<_, _-_, _*_}
 use native.Mathlib.Omega.{arith}
 use borrow.Author.Needs.{sfits-of}
 use lib.ListN.{length}
@@ -29,7 +29,10 @@ unfolding tabulate
 loop-holds c = (omega arith, c .if1 .left, filled-none _)
 
 number-at-requires : tie.Need-number-at-requires Inv-loop μ-loop
-number-at-requires c κs = (c .before .before .before .before .pre, inside _ _ _ _ (c .before .before .before .before .pre .step) (omega (arith, c .before .before .before .len .ensures)))
+number-at-requires c κs =
+    let s = c .before .before .before .before .args .self in
+    let b : c .before .loop .k * s .step < s .end - s .start = inside (s .end - s .start) (s .step) (c .before .loop .k) (c .before .before .before .before .pre .step) (omega (arith, c .before .before .before .len .ensures)) in
+    (c .before .before .before .before .pre, omega arith)
 
 mul-t9 : tie.Need-mul-t9 Inv-loop μ-loop
 mul-t9 c = omega arith
