@@ -50,7 +50,7 @@ module _ (start end step k : ℕ) (p : 0 < step) where
       ∙ ap pos (omega arith)
 
 -- a slice, as an index
-abbrev slice : ℤ → ℤ → ℤ → Index
+abbrev pub slice : ℤ → ℤ → ℤ → Index
 slice start end step = Index.NDSliceInfo (record { start = start; end = SliceEnd.At end; step = step })
 
 -- "Count 6, slice 1 to 6 step −2: 5, 3, 1."
@@ -59,7 +59,7 @@ unfolding indexList sliceList stepped backward distances numbersBelow sliceEnd f
 slice-down = refl
 
 -- −2^63 as a step, a start and an end
-abbrev least : ℤ
+abbrev pub least : ℤ
 least = negsuc (2 ^ 63 - 1)
 
 pub least-step : stepped 0 countLimit least ≡ pos (2 ^ 63 - 2) ∷ []
