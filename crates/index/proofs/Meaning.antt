@@ -7,7 +7,7 @@ use native.Mathlib.Omega.{arith}
 use borrow.Author.Tests.{lt-leb}
 use lib.IntN.{ℤ, pos, negsuc}
 use lib.ListN.{length, getD}
-use Rattle.genotype.specs.Answer.{refused, check, checkCount, countLimit}
+use Rattle.genotype.specs.Answer.{done, refused, check, checkCount, countLimit}
 use Rattle.genotype.specs.Lists.{tabulate}
 use Rattle.genotype.proofs.Tabulate.{length-tabulate, getD-tabulate}
 use Rattle.index.specs.declared.Index.{Index}
@@ -16,7 +16,7 @@ use Rattle.index.specs.declared.SliceEnd.the-variants as SliceEnd
 use Rattle.index.specs.declared.Index.the-variants as Index
 use Rattle.index.specs.Numbers.{numbersBelow, distances, forward, backward, stepped, sliceList, sliceEnd, fromCount, indexList, boundOr, rangeList, marked}
 use Rattle.index.specs.Inner.{stepsBelow}
-use Rattle.index.specs.Checks.{checkIndex, checkSlice, checkEnd, checkRange, checkBound, listAnswer, listBuffer, indexAnswer, indexBuffer}
+use Rattle.index.specs.Checks.{checkIndex, checkSlice, checkEnd, checkRange, checkBound, listAnswer, listBuffer, indexAnswer, indexBuffer, rangeAnswer}
 use Rattle.index.proofs.Steps.{inside, reached, forward-is, backward-is}
 
 module _ (start end step k : ℕ) (p : 0 < step) where
@@ -58,7 +58,7 @@ pub slice-down : indexList (slice (pos 1) (pos 6) (negsuc 1)) 6 [] [] ≡ pos 5 
 unfolding indexList sliceList stepped backward distances numbersBelow sliceEnd fromCount
 slice-down = refl
 
--- −2^63 as a step, a start and an end
+-- −2^63 as a step, a start (10 comes before 11) and an end
 abbrev pub least : ℤ
 least = negsuc (2 ^ 63 - 1)
 
@@ -74,10 +74,28 @@ pub least-end : indexAnswer (slice (negsuc 0) least (pos 1)) countLimit [] [] 0 
 unfolding indexAnswer checkIndex checkSlice checkEnd checkCount check
 least-end = refl
 
--- 9 comes before 10, 11 and 19
-pub zero-first : indexAnswer (slice least least (pos 0)) 1 [] [] 0 ≡ refused 9 []
+-- 9 comes before 10 and 11
+pub zero-first : indexAnswer (slice least least (pos 0)) 1 [] [] 1 ≡ refused 9 []
 unfolding indexAnswer checkIndex checkSlice checkCount check
 zero-first = refl
+
+-- 9 and 8 come before 19
+pub zero-before-short : indexAnswer (slice (pos 0) (pos 1) (pos 0)) 1 [] [] 0 ≡ refused 9 []
+unfolding indexAnswer checkIndex checkSlice checkCount check
+zero-before-short = refl
+
+pub marks-before-short : indexAnswer Index.VecBool 2 [] (1 ∷ []) 0 ≡ refused 8 []
+unfolding indexAnswer checkIndex checkCount check
+marks-before-short = refl
+
+-- 18 comes before 12, and an absent bound does not meet it
+pub bound-first : rangeAnswer (record { start = Bound.At (2 ^ 63); end = Bound.At 0 }) 1 ≡ refused 18 []
+unfolding rangeAnswer checkRange checkBound checkCount check
+bound-first = refl
+
+pub bounds-absent : rangeAnswer (record { start = Bound.Absent; end = Bound.Absent }) countLimit ≡ done (pos 0 ∷ pos countLimit ∷ [])
+unfolding rangeAnswer checkRange checkBound checkCount check boundOr
+bounds-absent = refl
 
 -- "end may pass count"; later places are unchanged
 pub range-past : indexBuffer (Index.RangeAny (record { start = Bound.At 2; end = Bound.At 5 })) 3 [] [] (pos 9 ∷ pos 9 ∷ pos 9 ∷ pos 8 ∷ []) ≡ pos 2 ∷ pos 3 ∷ pos 4 ∷ pos 8 ∷ []
