@@ -1,0 +1,10 @@
+pub mod Below
+pub mod Steps
+pub mod Buffers
+pub mod Marks
+pub mod Signed
+pub mod Slices
+pub mod Verdicts
+pub mod Ranges
+pub mod Promised
+pub mod Meaning
