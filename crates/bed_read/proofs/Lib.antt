@@ -3,3 +3,4 @@ pub mod CallLaws
 pub mod ReadLaws
 pub mod ColumnLaws
 pub mod LineLaws
+pub mod TileLaws

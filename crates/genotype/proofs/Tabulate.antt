@@ -1,6 +1,6 @@
 -- Laws of `tabulate`.
 use mathlib.Core.Path.{_≡_, refl, sym, ap, _∙_}
-use mathlib.Core.List.{List, [], _∷_}
+use mathlib.Core.List.{List, [], _∷_, map}
 use Prim.Native.Nat.{ℕ, zero, suc, _<_, _≤_}
 use native.Mathlib.Nat.{le-of-suc-le-suc, not-suc-le-zero}
 use native.Mathlib.Omega.{arith}
@@ -30,3 +30,8 @@ pub is-tabulate : {A : Type 0} (l : List A) (n : ℕ) (f : ℕ → A) (d : A) �
 is-tabulate l n f d e h =
     ext-getD d l (tabulate n f) (e ∙ sym (length-tabulate n f))
     (λ k b. let b' : k < n = omega arith in h k b' ∙ sym (getD-tabulate n f k d b'))
+
+pub map-tabulate : {A B : Type 0} (h : A → B) (n : ℕ) (f : ℕ → A) → map h (tabulate n f) ≡ tabulate n (λ k. h (f k))
+unfolding tabulate
+map-tabulate h zero f = refl
+map-tabulate h (suc n) f = ap (λ l. h (f 0) ∷ l) (map-tabulate h n (λ k. f (suc k)))
