@@ -4,3 +4,4 @@ pub mod ReadLaws
 pub mod ColumnLaws
 pub mod LineLaws
 pub mod TileLaws
+pub mod BufferLaws
