@@ -164,8 +164,8 @@ padded-equal n x y px py same =
     by-lt i n (same i)
     (λ g. px .pads i g (subst (λ (k : ℕ). i < 4 * k) (px .right-length) h) ∙ sym (py .pads i g (subst (λ (k : ℕ). i < 4 * k) (px .right-length) h))))
 
-pub padded-codes : (n : ℕ) (x y : List ℕ) → x ≡ y → (i : ℕ) → itemCode x i ≡ itemCode y i
-padded-codes n x y e i = ap (λ (block : List ℕ). itemCode block i) e
+pub equal-codes : (x y : List ℕ) → x ≡ y → (i : ℕ) → itemCode x i ≡ itemCode y i
+equal-codes x y e i = ap (λ (block : List ℕ). itemCode block i) e
 
 packed-byte-below : (codes : List ℕ) → Codes codes → (k : ℕ) → k < blockWidth (length codes) → getD (packed codes) k 0 < 256
 unfolding packed packedByte
