@@ -1,0 +1,92 @@
+use Rattle.product.proofs.add_all.Statement.{statement}
+use Rattle.product.proofs.add_all.Tie as tie
+use Rattle.product.proofs.add_all.Reads as reads
+use Rattle.product.proofs.add_all.Lts as lts
+use Rattle.product.proofs.add_four.Reads as add-four-reads
+use Rattle.product.proofs.add_one.Reads as add-one-reads
+
+abbrev Inv-loop : tie.InvT-loop
+Inv-loop x y n sums₀ i₀ sums i = ?
+
+abbrev μ-loop : tie.MeasureT-loop
+μ-loop x y n sums₀ i₀ sums i = ?
+
+abbrev Inv-loop2 : tie.InvT-loop2
+Inv-loop2 x y n sums₀ i₀ sums i = ?
+
+abbrev μ-loop2 : tie.MeasureT-loop2
+μ-loop2 x y n sums₀ i₀ sums i = ?
+
+-- src/lib.rt:161:5
+loop-holds : tie.Need-loop-holds Inv-loop μ-loop Inv-loop2 μ-loop2
+loop-holds c = ?
+
+-- src/lib.rt:161:11
+add-loop : tie.Need-add-loop Inv-loop μ-loop Inv-loop2 μ-loop2
+add-loop c = ?
+
+-- src/lib.rt:162:9
+add-four-requires : tie.Need-add-four-requires Inv-loop μ-loop Inv-loop2 μ-loop2
+add-four-requires c κs = ?
+
+-- src/lib.rt:163:9
+add-i : tie.Need-add-i Inv-loop μ-loop Inv-loop2 μ-loop2
+add-i c = ?
+
+-- src/lib.rt:161:5
+loop-less : tie.Need-loop-less Inv-loop μ-loop Inv-loop2 μ-loop2
+loop-less c = ?
+
+-- src/lib.rt:161:5
+loop-again : tie.Need-loop-again Inv-loop μ-loop Inv-loop2 μ-loop2
+loop-again c = ?
+
+-- src/lib.rt:165:5
+loop2-holds : tie.Need-loop2-holds Inv-loop μ-loop Inv-loop2 μ-loop2
+loop2-holds c = ?
+
+-- src/lib.rt:166:9
+add-one-requires : tie.Need-add-one-requires Inv-loop μ-loop Inv-loop2 μ-loop2
+add-one-requires c κs = ?
+
+-- src/lib.rt:167:9
+add-i-2 : tie.Need-add-i-2 Inv-loop μ-loop Inv-loop2 μ-loop2
+add-i-2 c = ?
+
+-- src/lib.rt:165:5
+loop2-less : tie.Need-loop2-less Inv-loop μ-loop Inv-loop2 μ-loop2
+loop2-less c = ?
+
+-- src/lib.rt:165:5
+loop2-again : tie.Need-loop2-again Inv-loop μ-loop Inv-loop2 μ-loop2
+loop2-again c = ?
+
+-- src/lib.rt:156:1
+same-length : tie.Need-same-length Inv-loop μ-loop Inv-loop2 μ-loop2
+same-length c = ?
+
+-- src/lib.rt:156:1
+returns : tie.Need-returns Inv-loop μ-loop Inv-loop2 μ-loop2
+returns c = ?
+
+pub add-all-spec : {M : Type 1} → statement M
+add-all-spec =
+    tie.close
+    (tie.spec
+    Inv-loop
+    μ-loop
+    Inv-loop2
+    μ-loop2
+    loop-holds
+    add-loop
+    add-four-requires
+    add-i
+    loop-less
+    loop-again
+    loop2-holds
+    add-one-requires
+    add-i-2
+    loop2-less
+    loop2-again
+    same-length
+    returns)
