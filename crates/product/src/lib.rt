@@ -101,7 +101,7 @@ fn load_tile(
     m: usize,
     x: &mut [f64],
 )
-    requires { ⌜ (n ≤ 32) × (m ≤ 64) × (length (now x) ≡ 2048) × LinesIn (length (now bytes)) base line step (c + m) k n ⌝ }
+    requires { ⌜ (n ≤ 32) × (k + n < 2 ^ 64) × (0 < m) × (m ≤ 64) × (length (now x) ≡ 2048) × LinesIn (length (now bytes)) base line step (c + m) k n ⌝ }
     ensures { λ _. ⌜ ((i j : ℕ) → i < n → j < m → getD (now (x .exit)) (i * 64 + j) nan ≡ lineValue (now (bytes .entry)) base line step (c + j) (k + i)) ⌝ }
 {
     let mut i = 0;

@@ -1,3 +1,14 @@
+use mathlib.Core.Path.{_≡_, refl, _∙_}
+use Prim.Native.Nat.{ℕ, _+_, _-_, _*_, _≤_, _<_}
+use native.Mathlib.Nat.{not-suc-le-zero, add-sub-cancel-left}
+use native.Mathlib.Omega.{arith}
+use borrow.Author.Needs.{needs}
+use lib.ListN.{length, getD, take, drop}
+use borrow.Rule.Slice.PartMut.{same-len-mid}
+use Rattle.product.proofs.Parts.{length-part}
+use Rattle.product.proofs.Tile.{tile-more}
+use lib.Ieee.{nan}
+use Rattle.product.specs.Steps.{lineValue}
 use Rattle.product.proofs.load_tile.Statement.{statement}
 use Rattle.product.proofs.load_tile.Tie as tie
 use Rattle.product.proofs.load_tile.Reads as reads
@@ -5,86 +16,96 @@ use Rattle.product.proofs.load_tile.Lts as lts
 use Rattle.product.proofs.load.Reads as load-reads
 
 abbrev Inv-loop : tie.InvT-loop
-Inv-loop bytes base line step k n c m x₀ i₀ x i = ?
+Inv-loop bytes base line step k n c m x₀ i₀ x i =
+    (i ≤ n) × (length x ≡ length x₀) × ((i' j : ℕ) → i' < i → j < m → getD x (i' * 64 + j) nan ≡ lineValue bytes base line step (c + j) (k + i'))
 
 abbrev μ-loop : tie.MeasureT-loop
-μ-loop bytes base line step k n c m x₀ i₀ x i = ?
+μ-loop bytes base line step k n c m x₀ i₀ x i = n - i
 
 -- src/lib.rt:108:5
 loop-holds : tie.Need-loop-holds Inv-loop μ-loop
-loop-holds c = ?
+loop-holds c = (search needs, refl, λ i' j h h'. absurd (not-suc-le-zero h))
 
 -- src/lib.rt:109:20
 mul-from : tie.Need-mul-from Inv-loop μ-loop
-mul-from c = ?
+mul-from c = omega arith
 
 -- src/lib.rt:110:19
 add-end : tie.Need-add-end Inv-loop μ-loop
-add-end c = ?
+add-end c = omega arith
 
 -- src/lib.rt:113:25
 mul-load : tie.Need-mul-load Inv-loop μ-loop
-mul-load c = ?
+mul-load c = omega (arith, c .before .before .before .before .pre .5 (c .before .before .before .before .args .c) (c .before .loop .i) (omega arith) (omega arith))
 
 -- src/lib.rt:113:37
 add-load : tie.Need-add-load Inv-loop μ-loop
-add-load c = ?
+add-load c = omega (arith, c .before .before .before .before .pre .5 (c .before .before .before .before .args .c) (c .before .loop .i) (omega arith) (omega arith))
 
 -- src/lib.rt:113:36
 mul-load-2 : tie.Need-mul-load-2 Inv-loop μ-loop
-mul-load-2 c = ?
+mul-load-2 c = omega (arith, c .before .before .before .before .pre .5 (c .before .before .before .before .args .c) (c .before .loop .i) (omega arith) (omega arith))
 
 -- src/lib.rt:113:25
 add-load-2 : tie.Need-add-load-2 Inv-loop μ-loop
-add-load-2 c = ?
+add-load-2 c = omega (arith, c .before .before .before .before .pre .5 (c .before .before .before .before .args .c) (c .before .loop .i) (omega arith) (omega arith))
 
 -- src/lib.rt:113:20
 mul-load-3 : tie.Need-mul-load-3 Inv-loop μ-loop
-mul-load-3 c = ?
+mul-load-3 c = omega (arith, c .before .before .before .before .pre .5 (c .before .before .before .before .args .c) (c .before .loop .i) (omega arith) (omega arith))
 
 -- src/lib.rt:113:13
 add-load-3 : tie.Need-add-load-3 Inv-loop μ-loop
-add-load-3 c = ?
+add-load-3 c = omega (arith, c .before .before .before .before .pre .5 (c .before .before .before .before .args .c) (c .before .loop .i) (omega arith) (omega arith))
 
 -- src/lib.rt:115:13
 mul-load-4 : tie.Need-mul-load-4 Inv-loop μ-loop
-mul-load-4 c = ?
+mul-load-4 c = omega arith
 
 -- src/lib.rt:115:13
 sub-load : tie.Need-sub-load Inv-loop μ-loop
-sub-load c = ?
+sub-load c = omega arith
 
 -- src/lib.rt:115:13
 part-load-start : tie.Need-part-load-start Inv-loop μ-loop
-part-load-start c = ?
+part-load-start c = omega arith
 
 -- src/lib.rt:115:13
 part-load-end : tie.Need-part-load-end Inv-loop μ-loop
-part-load-end c = ?
+part-load-end c = omega arith
 
 -- src/lib.rt:111:9
 load-requires : tie.Need-load-requires Inv-loop μ-loop
-load-requires c κs = ?
+load-requires c κs =
+    let s = c .before .before .before .before .before in
+    let w = c .before .before .loop in
+    λ j h.
+        let e : length (take (w .i * 64 + s .args .m - w .i * 64) (drop (w .i * 64) (w .x))) ≡ w .i * 64 + s .args .m - w .i * 64 = length-part (w .i * 64) (w .i * 64 + s .args .m - w .i * 64) (w .x) (omega arith) in
+        omega (arith, s .pre .5 (s .args .c + j) (w .i) (omega arith) (omega arith))
 
 -- src/lib.rt:117:9
 add-i : tie.Need-add-i Inv-loop μ-loop
-add-i c = ?
+add-i c = omega arith
 
 -- src/lib.rt:108:5
 loop-less : tie.Need-loop-less Inv-loop μ-loop
-loop-less c = ?
+loop-less c = omega arith
 
 -- src/lib.rt:108:5
 loop-again : tie.Need-loop-again Inv-loop μ-loop
-loop-again c = ?
+loop-again c =
+    let s = c .before .before .before .before .before .before .before .before in
+    let w = c .before .before .before .before .before .loop in
+    let q = c .before .before .load in
+    (omega arith, same-len-mid (w .i * 64) (w .i * 64 + s .args .m - w .i * 64) (w .x) (q .last .1 .1 .1 .0) (q .kept .1 .1 .1 .0) ∙ w .inv .1, tile-more (s .args .bytes .now) (s .args .base) (s .args .line) (s .args .step) (s .args .k) (s .args .c) (s .args .m) (w .i) (w .i * 64 + s .args .m - w .i * 64) (w .x) (q .last .1 .1 .1 .0) (add-sub-cancel-left (w .i * 64) (s .args .m)) (omega arith) (omega arith) (q .ensures) (w .inv .2))
 
 -- src/lib.rt:93:1
 same-length : tie.Need-same-length Inv-loop μ-loop
-same-length c = ?
+same-length c = c .before .loop .inv .1
 
 -- src/lib.rt:93:1
 returns : tie.Need-returns Inv-loop μ-loop
-returns c = ?
+returns c = λ i j h h'. c .before .loop .inv .2 i j (omega arith) h'
 
 pub load-tile-spec : {M : Type 1} → statement M
 load-tile-spec =
