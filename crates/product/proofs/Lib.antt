@@ -4,3 +4,7 @@ pub mod Sums
 pub mod Rows
 pub mod Parts
 pub mod Tile
+pub mod Grid
+pub mod Lower
+pub mod Terms
+pub mod Turn

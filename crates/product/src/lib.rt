@@ -183,7 +183,7 @@ fn add_rows(
     width: usize,
     piece: &mut [f64],
 )
-    requires { ⌜ (n ≤ 32) × (m ≤ 64) × (c + m ≤ width) × LinesIn (length (now bytes)) base line step height k n × ((i j : ℕ) → i < n → j < m → getD (now x) (i * 64 + j) nan ≡ lineValue (now bytes) base line step (c + j) (k + i)) × (now piece ≡ lowerPiece binary64 height width (lineValue (now bytes) base line step) (λ r' c'. cond (ltb c' c) (k + n) k)) ⌝ }
+    requires { ⌜ (0 < n) × (n ≤ 32) × (0 < m) × (m ≤ 64) × (c + m ≤ width) × LinesIn (length (now bytes)) base line step height k n × ((i j : ℕ) → i < n → j < m → getD (now x) (i * 64 + j) nan ≡ lineValue (now bytes) base line step (c + j) (k + i)) × (now piece ≡ lowerPiece binary64 height width (lineValue (now bytes) base line step) (λ r' c'. cond (ltb c' c) (k + n) k)) ⌝ }
     ensures { λ _. ⌜ now (piece .exit) ≡ lowerPiece binary64 height width (lineValue (now (bytes .entry)) base line step) (λ r' c'. cond (ltb c' (c + m)) (k + n) k) ⌝ }
 {
     let mut y = [0.0f64; 32];
@@ -208,7 +208,7 @@ fn add_tiles(
     width: usize,
     piece: &mut [f64],
 )
-    requires { ⌜ (n ≤ 32) × (width ≤ height) × LinesIn (length (now bytes)) base line step height k n × (now piece ≡ lowerPiece binary64 height width (lineValue (now bytes) base line step) (λ r c. k)) ⌝ }
+    requires { ⌜ (0 < n) × (n ≤ 32) × (k + n < 2 ^ 64) × (width ≤ height) × LinesIn (length (now bytes)) base line step height k n × (now piece ≡ lowerPiece binary64 height width (lineValue (now bytes) base line step) (λ r c. k)) ⌝ }
     ensures { λ _. ⌜ now (piece .exit) ≡ lowerPiece binary64 height width (lineValue (now (bytes .entry)) base line step) (λ r c. k + n) ⌝ }
 {
     let mut x = [0.0f64; 2048];

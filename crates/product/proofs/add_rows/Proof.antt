@@ -1,3 +1,17 @@
+use mathlib.Core.Path.{_≡_, refl, _∙_}
+use Prim.Native.Nat.{ℕ, _+_, _-_, _*_, _≤_, _<_}
+use native.Mathlib.Omega.{arith}
+use borrow.Author.Needs.{needs}
+use lib.ListN.{length, getD, take, drop}
+use lib.Seq.{length-take-le, length-front}
+use borrow.Rule.Slice.PartMut.{same-len-mid}
+use Rattle.product.proofs.Parts.{length-part}
+use Rattle.product.proofs.Turn.{row-turn}
+use Rattle.product.proofs.Grid.{row-below}
+use lib.Ieee.{nan, binary64}
+use Rattle.product.specs.Steps.{lineValue, lowerPiece}
+use Rattle.product.proofs.Terms.{rowsTo, rows-none, rows-all, row-size}
+use Rattle.product.proofs.Lower.{lower-ext, row-place}
 use Rattle.product.proofs.add_rows.Statement.{statement}
 use Rattle.product.proofs.add_rows.Tie as tie
 use Rattle.product.proofs.add_rows.Reads as reads
@@ -7,114 +21,148 @@ use Rattle.product.proofs.least.Reads as least-reads
 use Rattle.product.proofs.load.Reads as load-reads
 
 abbrev Inv-loop : tie.InvT-loop
-Inv-loop bytes base line step k n c m x height width piece₀ y₀ r₀ piece y r = ?
+Inv-loop bytes base line step k n c m x height width piece₀ y₀ r₀ piece y r =
+    (c ≤ r) × (length y ≡ 32) × (length piece ≡ length piece₀) × (piece ≡ lowerPiece binary64 height width (lineValue bytes base line step) (rowsTo k n c m r))
 
 abbrev μ-loop : tie.MeasureT-loop
-μ-loop bytes base line step k n c m x height width piece₀ y₀ r₀ piece y r = ?
+μ-loop bytes base line step k n c m x height width piece₀ y₀ r₀ piece y r = height - r
 
 -- src/lib.rt:191:5
 loop-holds : tie.Need-loop-holds Inv-loop μ-loop
-loop-holds c = ?
+loop-holds c =
+    let s = c .before .before in
+    let a = s .args in
+    (search needs, refl, refl, s .pre .7 ∙ lower-ext binary64 (a .height) (a .width) (lineValue (a .bytes .now) (a .base) (a .line) (a .step)) _ _ (omega arith) (λ r' c' h h' h''. rows-none (a .k) (a .n) (a .c) (a .m) r' c' h''))
 
--- src/lib.rt:192:33
+inside : (c : tie.In-loop Inv-loop μ-loop) → c .before .loop .r * c .before .before .before .before .args .width + c .before .before .before .before .args .width ≤ length (c .before .loop .piece)
+inside c =
+    let a = c .before .before .before .before .args in
+    row-place binary64 (a .height) (a .width) (lineValue (a .bytes .now) (a .base) (a .line) (a .step)) (rowsTo (a .k) (a .n) (a .c) (a .m) (c .before .loop .r)) (c .before .loop .piece) (c .before .loop .r) (c .before .loop .inv .3) (omega arith)
+
 mul-load : tie.Need-mul-load Inv-loop μ-loop
-mul-load c = ?
+mul-load c = omega (arith, c .before .before .before .before .pre .5 (c .before .loop .r) 0 (omega arith) (omega arith))
 
 -- src/lib.rt:192:44
 mul-load-2 : tie.Need-mul-load-2 Inv-loop μ-loop
-mul-load-2 c = ?
+mul-load-2 c = omega (arith, c .before .before .before .before .pre .5 (c .before .loop .r) 0 (omega arith) (omega arith))
 
 -- src/lib.rt:192:33
 add-load : tie.Need-add-load Inv-loop μ-loop
-add-load c = ?
+add-load c = omega (arith, c .before .before .before .before .pre .5 (c .before .loop .r) 0 (omega arith) (omega arith))
 
 -- src/lib.rt:192:28
 mul-load-3 : tie.Need-mul-load-3 Inv-loop μ-loop
-mul-load-3 c = ?
+mul-load-3 c = omega (arith, c .before .before .before .before .pre .5 (c .before .loop .r) 0 (omega arith) (omega arith))
 
 -- src/lib.rt:192:21
 add-load-2 : tie.Need-add-load-2 Inv-loop μ-loop
-add-load-2 c = ?
+add-load-2 c = omega (arith, c .before .before .before .before .pre .5 (c .before .loop .r) 0 (omega arith) (omega arith))
 
 -- src/lib.rt:192:61
 sub-load : tie.Need-sub-load Inv-loop μ-loop
-sub-load c = ?
+sub-load c = omega arith
 
 -- src/lib.rt:192:61
 part-y-start : tie.Need-part-y-start Inv-loop μ-loop
-part-y-start c = ?
+part-y-start c = omega arith
 
 -- src/lib.rt:192:61
 part-y-end : tie.Need-part-y-end Inv-loop μ-loop
-part-y-end c = ?
+part-y-end c = omega arith
 
 -- src/lib.rt:192:9
 load-requires : tie.Need-load-requires Inv-loop μ-loop
-load-requires c κs = ?
+load-requires c κs =
+    let s = c .before .before .before .before .before in
+    let w = c .before .before .loop in
+    λ i h.
+        let e : length (take (s .args .n - 0) (w .y)) ≡ s .args .n - 0 = length-take-le (s .args .n - 0) (w .y) (omega arith) in
+        omega (arith, s .pre .5 (w .r) i (omega arith) (omega arith))
 
 -- src/lib.rt:193:20
 mul-from : tie.Need-mul-from Inv-loop μ-loop
-mul-from c = ?
+mul-from c = omega (arith, inside (c .before .before .before))
 
 -- src/lib.rt:193:20
 add-from : tie.Need-add-from Inv-loop μ-loop
-add-from c = ?
+add-from c = omega (arith, inside (c .before .before .before))
 
 -- src/lib.rt:194:35
 sub-least : tie.Need-sub-least Inv-loop μ-loop
-sub-least c = ?
+sub-least c = omega arith
 
 -- src/lib.rt:194:35
 add-least : tie.Need-add-least Inv-loop μ-loop
-add-least c = ?
+add-least c = omega arith
 
 -- src/lib.rt:194:26
 least-requires : tie.Need-least-requires Inv-loop μ-loop
-least-requires c κs = ?
+least-requires c κs = tt
 
 -- src/lib.rt:194:19
 add-end : tie.Need-add-end Inv-loop μ-loop
-add-end c = ?
+add-end c = omega (arith, inside (c .before .before .before .before), row-size (c .before .before .before .before .before .before .before .before .args .k) (c .before .before .before .before .before .before .before .before .args .n) (c .before .before .before .before .before .before .before .before .args .c) (c .before .before .before .before .before .before .before .before .args .m) (c .before .before .before .before .before .loop .r) (c .least .result) (omega arith) (c .least .ensures))
 
 -- src/lib.rt:195:27
 mul-add-all : tie.Need-mul-add-all Inv-loop μ-loop
-mul-add-all c = ?
+mul-add-all c = omega (arith, inside (c .before .before .before .before .before))
 
 -- src/lib.rt:195:27
 sub-add-all : tie.Need-sub-add-all Inv-loop μ-loop
-sub-add-all c = ?
+sub-add-all c = omega arith
 
 -- src/lib.rt:195:27
 part-add-all-start : tie.Need-part-add-all-start Inv-loop μ-loop
-part-add-all-start c = ?
+part-add-all-start c = omega arith
 
 -- src/lib.rt:195:27
 part-add-all-end : tie.Need-part-add-all-end Inv-loop μ-loop
-part-add-all-end c = ?
+part-add-all-end c = omega (arith, inside (c .before .before .before .before .before), row-size (c .before .before .before .before .before .before .before .before .before .args .k) (c .before .before .before .before .before .before .before .before .before .args .n) (c .before .before .before .before .before .before .before .before .before .args .c) (c .before .before .before .before .before .before .before .before .before .args .m) (c .before .before .before .before .before .before .loop .r) (c .before .least .result) (omega arith) (c .before .least .ensures))
 
 -- src/lib.rt:195:9
 add-all-requires : tie.Need-add-all-requires Inv-loop μ-loop
-add-all-requires c κs = ?
+add-all-requires c κs =
+    let a = c .before .before .before .before .before .before .before .before .before .before .args in
+    let w = c .before .before .before .before .before .before .before .loop in
+    let size = c .before .before .least .result in
+    let from = w .r * a .width + a .c in
+    let e : length (take (from + size - from) (drop from (w .piece))) ≡ from + size - from = length-part from (from + size - from) (w .piece) (omega (arith, inside (c .before .before .before .before .before .before), row-size (c .before .before .before .before .before .before .before .before .before .before .args .k) (c .before .before .before .before .before .before .before .before .before .before .args .n) (c .before .before .before .before .before .before .before .before .before .before .args .c) (c .before .before .before .before .before .before .before .before .before .before .args .m) (c .before .before .before .before .before .before .before .loop .r) (c .before .before .least .result) (omega arith) (c .before .before .least .ensures))) in
+    (omega arith, omega (arith, row-size (c .before .before .before .before .before .before .before .before .before .before .args .k) (c .before .before .before .before .before .before .before .before .before .before .args .n) (c .before .before .before .before .before .before .before .before .before .before .args .c) (c .before .before .before .before .before .before .before .before .before .before .args .m) (c .before .before .before .before .before .before .before .loop .r) (c .before .before .least .result) (omega arith) (c .before .before .least .ensures)))
 
 -- src/lib.rt:196:9
 add-r : tie.Need-add-r Inv-loop μ-loop
-add-r c = ?
+add-r c = omega arith
 
 -- src/lib.rt:191:5
 loop-less : tie.Need-loop-less Inv-loop μ-loop
-loop-less c = ?
+loop-less c = omega arith
 
 -- src/lib.rt:191:5
 loop-again : tie.Need-loop-again Inv-loop μ-loop
-loop-again c = ?
+loop-again c =
+    let s = c .before .before .before .before .before .before .before .before .before .before .before .before .before in
+    let a = s .args in
+    let w = c .before .before .before .before .before .before .before .before .before .before .loop in
+    let y = c .before .before .before .before .before .before .before .load in
+    let q = c .before .before .add-all in
+    let size = c .before .before .before .before .before .least in
+    let from = w .r * a .width + a .c in
+    (omega arith,
+     length-front (w .y) (y .last .1 .1 .1 .0) (a .n - 0) (y .kept .1 .1 .1 .0) ∙ w .inv .1,
+     same-len-mid from (from + size .result - from) (w .piece) (q .last .1 .1 .1 .0) (q .kept .1 .1 .1 .0) ∙ w .inv .2,
+     row-turn (a .bytes .now) (a .base) (a .line) (a .step) (a .k) (a .n) (w .r) (w .y) (y .last .1 .1 .1 .0) (omega arith) (y .ensures) (a .c) (a .m) (size .result) (a .height) (a .width) (a .x .now) (w .piece) (q .last .1 .1 .1 .0) (omega arith) (omega arith) (omega arith) (omega arith) (size .ensures) (s .pre .6) (w .inv .3) (q .ensures))
 
 -- src/lib.rt:172:1
 same-length : tie.Need-same-length Inv-loop μ-loop
-same-length c = ?
+same-length c = c .before .loop .inv .2
 
 -- src/lib.rt:172:1
 returns : tie.Need-returns Inv-loop μ-loop
-returns c = ?
+returns c =
+    let a = c .before .before .before .before .args in
+    let w = c .before .loop in
+    w .inv .3
+    ∙ lower-ext binary64 (a .height) (a .width) (lineValue (a .bytes .now) (a .base) (a .line) (a .step)) _ _ (omega arith) (λ r' c' h h' h''. rows-all (a .k) (a .n) (a .c) (a .m) (w .r) r' c' (row-below (a .height) (a .width) r' c' (w .r) h (omega arith)))
 
 pub add-rows-spec : {M : Type 1} → statement M
 add-rows-spec =
