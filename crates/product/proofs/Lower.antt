@@ -44,8 +44,8 @@ module _ (f : Format) (h w : ℕ) (v : ℕ → ℕ → Float) where
   entry-same t t' r c e = ⊎-elim (λ b. simp (lt-leb c r b)) (λ b. ap (λ (n : ℕ). cond (leb c r) (sumMore f plusZero (v r) (v c) n) plusZero) (e b)) (below-or r c)
 
   -- pieces that agree in the terms on and below the diagonal are the same
-  pub lower-ext : (t t' : ℕ → ℕ → ℕ) → 0 < w → ((r c : ℕ) → r * w + c < h * w → c < w → c ≤ r → t r c ≡ t' r c) → lowerPiece f h w v t ≡ lowerPiece f h w v t'
-  lower-ext t t' p e = lower-grid t ∙ grid-ext (h * w) w (entry t) (entry t') p (λ r c b b'. entry-same t t' r c (e r c b b')) ∙ sym (lower-grid t')
+  pub lower-ext : (t t' : ℕ → ℕ → ℕ) → ((r c : ℕ) → r * w + c < h * w → c < w → c ≤ r → t r c ≡ t' r c) → lowerPiece f h w v t ≡ lowerPiece f h w v t'
+  lower-ext t t' e = lower-grid t ∙ grid-ext h w (entry t) (entry t') (λ r c b b'. entry-same t t' r c (e r c b b')) ∙ sym (lower-grid t')
 
   -- n terms more for m sums of row r from column c on
   pub lower-row : (t t' : ℕ → ℕ → ℕ) (r c m size k n : ℕ) (l part : List Float) (x : ℕ → ℕ → Float) (y : ℕ → Float) → l ≡ lowerPiece f h w v t → r < h → 0 < w → size ≡ m → c + m ≤ w → c + m ≤ r + 1

@@ -9,6 +9,13 @@ use lib.Dec.{leb, ltb}
 use borrow.Author.Tests.{lt-ltb, le-ltb}
 use Rattle.product.proofs.Parts.{below-or}
 
+-- the least of two numbers above 0
+pub least-above : (a b s : ℕ) → 0 < a → 0 < b → s ≡ min a b → (0 < s) × (s ≤ a) × (s ≤ b)
+least-above a b s p q e =
+    ⊎-elim (λ g. let m : min a b ≡ a = min-eq-left (let u : a ≤ b = omega arith in u) in omega arith)
+    (λ g. let m : min a b ≡ b = min-eq-right g in omega arith)
+    (below-or a b)
+
 module _ (k n c m : ℕ) where
   unfoldable pub rowsTo : ℕ → ℕ → ℕ → ℕ
   rowsTo r r' c' = cond (ltb c' c) (k + n) (cond (ltb c' (c + m)) (cond (ltb r' r) (k + n) k) k)
@@ -70,3 +77,10 @@ module _ (k n c m : ℕ) where
             ⊎-elim (λ g. let e : min m (r - c + 1) ≡ m = min-eq-left (let u : m ≤ r - c + 1 = omega arith in u) in omega arith)
             (λ g. let e : min m (r - c + 1) ≡ r - c + 1 = min-eq-right g in omega arith)
             (below-or m (r - c + 1))
+
+-- no column passed, and every column passed
+pub none-passed : (k n c' : ℕ) → k ≡ cond (ltb c' 0) (k + n) k
+none-passed k n c' = sym (ap (λ (t : Bool). cond t (k + n) k) (le-ltb c' 0 (omega arith)))
+
+pub all-passed : (k n c c' : ℕ) → c' < c → cond (ltb c' c) (k + n) k ≡ k + n
+all-passed k n c c' b = ap (λ (t : Bool). cond t (k + n) k) (lt-ltb c' c b)

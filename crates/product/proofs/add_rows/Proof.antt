@@ -32,7 +32,7 @@ loop-holds : tie.Need-loop-holds Inv-loop μ-loop
 loop-holds c =
     let s = c .before .before in
     let a = s .args in
-    (search needs, refl, refl, s .pre .7 ∙ lower-ext binary64 (a .height) (a .width) (lineValue (a .bytes .now) (a .base) (a .line) (a .step)) _ _ (omega arith) (λ r' c' h h' h''. rows-none (a .k) (a .n) (a .c) (a .m) r' c' h''))
+    (search needs, refl, refl, s .pre .7 ∙ lower-ext binary64 (a .height) (a .width) (lineValue (a .bytes .now) (a .base) (a .line) (a .step)) _ _ (λ r' c' h h' h''. rows-none (a .k) (a .n) (a .c) (a .m) r' c' h''))
 
 inside : (c : tie.In-loop Inv-loop μ-loop) → c .before .loop .r * c .before .before .before .before .args .width + c .before .before .before .before .args .width ≤ length (c .before .loop .piece)
 inside c =
@@ -162,7 +162,7 @@ returns c =
     let a = c .before .before .before .before .args in
     let w = c .before .loop in
     w .inv .3
-    ∙ lower-ext binary64 (a .height) (a .width) (lineValue (a .bytes .now) (a .base) (a .line) (a .step)) _ _ (omega arith) (λ r' c' h h' h''. rows-all (a .k) (a .n) (a .c) (a .m) (w .r) r' c' (row-below (a .height) (a .width) r' c' (w .r) h (omega arith)))
+    ∙ lower-ext binary64 (a .height) (a .width) (lineValue (a .bytes .now) (a .base) (a .line) (a .step)) _ _ (λ r' c' h h' h''. rows-all (a .k) (a .n) (a .c) (a .m) (w .r) r' c' (row-below (a .height) (a .width) r' c' (w .r) h (omega arith)))
 
 pub add-rows-spec : {M : Type 1} → statement M
 add-rows-spec =

@@ -1,3 +1,13 @@
+use mathlib.Core.Path.{_≡_, refl, sym, _∙_}
+use mathlib.Core.Bool.{cond}
+use Prim.Native.Nat.{ℕ, _+_, _-_, _*_, _≤_, _<_}
+use native.Mathlib.Omega.{arith}
+use lib.Dec.{ltb}
+use lib.ListN.{length, getD}
+use lib.Ieee.{binary64}
+use Rattle.product.specs.Steps.{lineValue, lowerPiece}
+use Rattle.product.proofs.Terms.{least-above, none-passed, all-passed}
+use Rattle.product.proofs.Lower.{lower-ext}
 use Rattle.product.proofs.add_tiles.Statement.{statement}
 use Rattle.product.proofs.add_tiles.Tie as tie
 use Rattle.product.proofs.add_tiles.Reads as reads
@@ -7,54 +17,76 @@ use Rattle.product.proofs.least.Reads as least-reads
 use Rattle.product.proofs.load_tile.Reads as load-tile-reads
 
 abbrev Inv-loop : tie.InvT-loop
-Inv-loop bytes base line step k n height width piece₀ x₀ c₀ piece x c = ?
+Inv-loop bytes base line step k n height width piece₀ x₀ c₀ piece x c =
+    (c ≤ width) × (length x ≡ 2048) × (length piece ≡ length piece₀) × (piece ≡ lowerPiece binary64 height width (lineValue bytes base line step) (λ r' c'. cond (ltb c' c) (k + n) k))
 
 abbrev μ-loop : tie.MeasureT-loop
-μ-loop bytes base line step k n height width piece₀ x₀ c₀ piece x c = ?
+μ-loop bytes base line step k n height width piece₀ x₀ c₀ piece x c = width - c
 
 -- src/lib.rt:216:5
 loop-holds : tie.Need-loop-holds Inv-loop μ-loop
-loop-holds c = ?
+loop-holds c =
+    let s = c .before .before in
+    let a = s .args in
+    (omega arith, refl, refl, s .pre .5 ∙ lower-ext binary64 (a .height) (a .width) (lineValue (a .bytes .now) (a .base) (a .line) (a .step)) _ _ (λ r' c' h h' h''. none-passed (a .k) (a .n) c'))
 
 -- src/lib.rt:217:27
 sub-least : tie.Need-sub-least Inv-loop μ-loop
-sub-least c = ?
+sub-least c = omega arith
 
 -- src/lib.rt:217:13
 least-requires : tie.Need-least-requires Inv-loop μ-loop
-least-requires c κs = ?
+least-requires c κs = tt
 
 -- src/lib.rt:218:56
 slice-aggregate-load-tile : tie.Need-slice-aggregate-load-tile Inv-loop μ-loop
-slice-aggregate-load-tile c = ?
+slice-aggregate-load-tile c = sym (c .before .before .before .loop .inv .1)
 
 -- src/lib.rt:218:9
 load-tile-requires : tie.Need-load-tile-requires Inv-loop μ-loop
-load-tile-requires c κs = ?
+load-tile-requires c κs =
+    let s = c .before .before .before .before .before .before in
+    let w = c .before .before .before .loop in
+    let l = least-above 64 (c .before .before .before .before .before .before .args .width - c .before .before .before .loop .c) (c .before .least .result) (omega arith) (omega arith) (c .before .least .ensures) in
+    (omega arith, omega arith, l .0, l .1, w .inv .1, λ r i h h'. s .pre .4 r i (omega arith) h')
 
 -- src/lib.rt:219:9
 add-rows-requires : tie.Need-add-rows-requires Inv-loop μ-loop
-add-rows-requires c κs = ?
+add-rows-requires c κs =
+    let s = c .before .before .before .before .before .before .before .before .before .before in
+    let w = c .before .before .before .before .before .before .before .loop in
+    let l = least-above 64 (c .before .before .before .before .before .before .before .before .before .before .args .width - c .before .before .before .before .before .before .before .loop .c) (c .before .before .before .before .before .least .result) (omega arith) (omega arith) (c .before .before .before .before .before .least .ensures) in
+    (omega arith, omega arith, l .0, l .1, omega arith, s .pre .4, c .before .before .before .load-tile .ensures, w .inv .3)
 
 -- src/lib.rt:233:9
 add-c : tie.Need-add-c Inv-loop μ-loop
-add-c c = ?
+add-c c = omega arith
 
 -- src/lib.rt:216:5
 loop-less : tie.Need-loop-less Inv-loop μ-loop
-loop-less c = ?
+loop-less c = omega (arith, least-above 64 (c .before .before .before .before .before .before .before .before .before .before .before .before .before .args .width - c .before .before .before .before .before .before .before .before .before .before .loop .c) (c .before .before .before .before .before .before .before .before .least .result) (omega arith) (omega arith) (c .before .before .before .before .before .before .before .before .least .ensures))
 
 -- src/lib.rt:216:5
 loop-again : tie.Need-loop-again Inv-loop μ-loop
-loop-again c = ?
+loop-again c =
+    let s = c .before .before .before .before .before .before .before .before .before .before .before .before .before in
+    let w = c .before .before .before .before .before .before .before .before .before .before .loop in
+    let t = c .before .before .before .before .before .before .load-tile in
+    let q = c .before .before .add-rows in
+    let l = least-above 64 (c .before .before .before .before .before .before .before .before .before .before .before .before .before .args .width - c .before .before .before .before .before .before .before .before .before .before .loop .c) (c .before .before .before .before .before .before .before .before .least .result) (omega arith) (omega arith) (c .before .before .before .before .before .before .before .before .least .ensures) in
+    (omega arith, t .kept .1 .1 .1 .1 .1 .1 .1 .1 .0 ∙ w .inv .1, q .kept .1 .1 .1 .1 .1 .1 .1 .1 .1 .1 .1 .0 ∙ w .inv .2, q .ensures)
 
 -- src/lib.rt:200:1
 same-length : tie.Need-same-length Inv-loop μ-loop
-same-length c = ?
+same-length c = c .before .loop .inv .2
 
 -- src/lib.rt:200:1
 returns : tie.Need-returns Inv-loop μ-loop
-returns c = ?
+returns c =
+    let a = c .before .before .before .before .args in
+    let w = c .before .loop in
+    w .inv .3
+    ∙ lower-ext binary64 (a .height) (a .width) (lineValue (a .bytes .now) (a .base) (a .line) (a .step)) _ _ (λ r' c' h h' h''. all-passed (a .k) (a .n) (w .c) c' (omega arith))
 
 pub add-tiles-spec : {M : Type 1} → statement M
 add-tiles-spec =
