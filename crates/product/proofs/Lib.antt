@@ -8,3 +8,4 @@ pub mod Grid
 pub mod Lower
 pub mod Terms
 pub mod Turn
+pub mod Checks

@@ -87,3 +87,15 @@ module _ (f : Format) (h w : ℕ) (v : ℕ → ℕ → Float) where
           ∙ sum-add f plusZero (v r) (v (c + j)) k n
           ∙ ap (sumMore f plusZero (v r) (v (c + j))) (sym (new j b))
           ∙ sym (entry-below t' r (c + j) (omega (arith, rows)))
+
+  -- every place +0
+  pub lower-none : (n : ℕ) (l : List Float) → n ≡ h * w → l ≡ tabulate n (λ p. plusZero) → l ≡ lowerPiece f h w v (λ r c. 0)
+  unfolding entry sumMore
+  lower-none n l s e =
+      e
+      ∙ ap (λ (k : ℕ). tabulate k (λ p. plusZero)) s
+      ∙ grid-ext h w (λ r c. plusZero) (entry (λ r c. 0)) (λ r c b b'. zero-entry r c)
+      ∙ sym (lower-grid (λ r c. 0))
+    where
+      zero-entry : (r c : ℕ) → plusZero ≡ entry (λ r c. 0) r c
+      zero-entry r c = ⊎-elim (λ b. sym (ap (λ (t : Bool). cond t plusZero plusZero) (lt-leb c r b))) (λ b. sym (ap (λ (t : Bool). cond t plusZero plusZero) (le-leb c r b))) (below-or r c)

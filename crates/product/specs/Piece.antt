@@ -45,7 +45,7 @@ pieceAnswer good bytes offset rows columns start height width piece =
     (checkCount start
     (checkCount height
     (checkCount width
-    (check good 20 (check (eqb piece (height * width)) 15 (check (enoughBytes bytes offset rows columns) 1 (done []))))))))
+    (check good 20 (check (eqb (height * width) piece) 15 (check (enoughBytes bytes offset rows columns) 1 (done []))))))))
 
 -- the list that a call leaves: "Every refusal leaves all lent bytes and values unchanged"
 unfoldable pub leaves : Answer → List Float → List Float → List Float

@@ -1,0 +1,95 @@
+use mathlib.Core.Path.{_≡_, refl, sym, _∙_}
+use Prim.Native.Nat.{ℕ, _+_, _-_, _*_, _≤_, _<_}
+use native.Mathlib.Omega.{arith}
+use lib.ListN.{length}
+use lib.Ieee.{binary64}
+use Rattle.product.specs.Steps.{lineValue, lowerPiece}
+use Rattle.product.proofs.Terms.{least-above}
+use Rattle.product.proofs.Lower.{lower-ext, lower-none}
+use Rattle.product.proofs.lower_piece.Statement.{statement}
+use Rattle.product.proofs.lower_piece.Tie as tie
+use Rattle.product.proofs.lower_piece.Reads as reads
+use Rattle.product.proofs.lower_piece.Lts as lts
+use Rattle.product.proofs.add_tiles.Reads as add-tiles-reads
+use Rattle.product.proofs.clear.Reads as clear-reads
+use Rattle.product.proofs.least.Reads as least-reads
+
+abbrev Inv-loop : tie.InvT-loop
+Inv-loop bytes base line step count height width piece₀ k₀ piece k =
+    (k ≤ count) × (length piece ≡ length piece₀) × (piece ≡ lowerPiece binary64 height width (lineValue bytes base line step) (λ r c. k))
+
+abbrev μ-loop : tie.MeasureT-loop
+μ-loop bytes base line step count height width piece₀ k₀ piece k = count - k
+
+-- src/lib.rt:261:5
+clear-requires : tie.Need-clear-requires Inv-loop μ-loop
+clear-requires c κs = tt
+
+-- src/lib.rt:263:5
+loop-holds : tie.Need-loop-holds Inv-loop μ-loop
+loop-holds c =
+    let s = c .before .before .before .before .before .before in
+    let a = s .args in
+    let q = c .before .before .clear in
+    (omega arith, refl, lower-none binary64 (a .height) (a .width) (lineValue (a .bytes .now) (a .base) (a .line) (a .step)) (length (a .piece .now)) (q .last .0) (s .pre .1) (q .ensures))
+
+-- src/lib.rt:264:27
+sub-least : tie.Need-sub-least Inv-loop μ-loop
+sub-least c = omega arith
+
+-- src/lib.rt:264:13
+least-requires : tie.Need-least-requires Inv-loop μ-loop
+least-requires c κs = tt
+
+-- src/lib.rt:265:9
+add-tiles-requires : tie.Need-add-tiles-requires Inv-loop μ-loop
+add-tiles-requires c κs =
+    let s = c .before .before .before .before .before .before .before .before .before .before in
+    let w = c .before .before .before .loop in
+    let l = least-above 32 (c .before .before .before .before .before .before .before .before .before .before .args .count - c .before .before .before .loop .k) (c .before .least .result) (omega arith) (omega arith) (c .before .least .ensures) in
+    (l .0, l .1, omega arith, s .pre .0, λ r i h h'. omega (arith, s .pre .2 r (w .k + i) h (omega arith)), w .inv .2)
+
+-- src/lib.rt:266:9
+add-k : tie.Need-add-k Inv-loop μ-loop
+add-k c = omega arith
+
+-- src/lib.rt:263:5
+loop-less : tie.Need-loop-less Inv-loop μ-loop
+loop-less c = omega (arith, least-above 32 (c .before .before .before .before .before .before .before .before .before .before .before .before .before .args .count - c .before .before .before .before .before .before .loop .k) (c .before .before .before .before .least .result) (omega arith) (omega arith) (c .before .before .before .before .least .ensures))
+
+-- src/lib.rt:263:5
+loop-again : tie.Need-loop-again Inv-loop μ-loop
+loop-again c =
+    let w = c .before .before .before .before .before .before .loop in
+    let q = c .before .before .add-tiles in
+    let l = least-above 32 (c .before .before .before .before .before .before .before .before .before .before .before .before .before .args .count - c .before .before .before .before .before .before .loop .k) (c .before .before .before .before .least .result) (omega arith) (omega arith) (c .before .before .before .before .least .ensures) in
+    (omega arith, q .kept .1 .1 .1 .1 .1 .1 .1 .1 .0 ∙ w .inv .1, q .ensures)
+
+-- src/lib.rt:248:1
+same-length : tie.Need-same-length Inv-loop μ-loop
+same-length c = c .before .loop .inv .1 ∙ c .before .before .before .before .clear .kept .0
+
+-- src/lib.rt:248:1
+returns : tie.Need-returns Inv-loop μ-loop
+returns c =
+    let a = c .before .before .before .before .before .before .before .before .args in
+    let w = c .before .loop in
+    w .inv .2
+    ∙ lower-ext binary64 (a .height) (a .width) (lineValue (a .bytes .now) (a .base) (a .line) (a .step)) _ _ (λ r' c' h h' h''. omega arith)
+
+pub lower-piece-spec : {M : Type 1} → statement M
+lower-piece-spec =
+    tie.close
+    (tie.spec
+    Inv-loop
+    μ-loop
+    clear-requires
+    loop-holds
+    sub-least
+    least-requires
+    add-tiles-requires
+    add-k
+    loop-less
+    loop-again
+    same-length
+    returns)
