@@ -61,11 +61,17 @@ module _ {A : Type 0} where
               ∙ new j (omega (arith, size-n))
               ∙ sym (ap (λ (x : ℕ). g' (x / w) (x % w)) i' ∙ ap (λ (x : ℕ). g' x ((r * w + (c + j)) % w)) (digits-div r (let u : c + j < w = omega (arith, size-n) in u)) ∙ ap (g' r) (digits-mod r (let u : c + j < w = omega (arith, size-n) in u)))
 
+  -- lists of one width above 0 that agree at every entry are the same
+  pub grid-same : (n w : ℕ) (g g' : ℕ → ℕ → A) → 0 < w → ((r c : ℕ) → r * w + c < n → c < w → g r c ≡ g' r c) → grid n w g ≡ grid n w g'
+  grid-same n w g g' p e =
+      tabulate-ext n (λ q. g (q / w) (q % w)) (λ q. g' (q / w) (q % w))
+      (λ q b. let s : q / w * w + q % w ≡ q = div-add-mod' q w in e (q / w) (q % w) (omega arith) (mod-lt q p))
+
   -- pieces that agree at every entry are the same
   pub grid-ext : (h w : ℕ) (g g' : ℕ → ℕ → A) → ((r c : ℕ) → r * w + c < h * w → c < w → g r c ≡ g' r c) → grid (h * w) w g ≡ grid (h * w) w g'
   grid-ext h w g g' e =
-      tabulate-ext (h * w) (λ q. g (q / w) (q % w)) (λ q. g' (q / w) (q % w))
-      (λ q b.
-          let p : 0 < w = ⊎-elim (λ a. a) (λ a. let z : h * w ≡ h * 0 = ap (λ (x : ℕ). h * x) (let u : w ≡ 0 = omega arith in u) in absurd (let z' : ⊥ = omega arith in z')) (below-or 0 w) in
-          let s : q / w * w + q % w ≡ q = div-add-mod' q w in
-          e (q / w) (q % w) (omega arith) (mod-lt q p))
+      ⊎-elim (λ p. grid-same (h * w) w g g' p e)
+      (λ p.
+          tabulate-ext (h * w) (λ q. g (q / w) (q % w)) (λ q. g' (q / w) (q % w))
+          (λ q b. let z : h * w ≡ h * 0 = ap (λ (x : ℕ). h * x) (let u : w ≡ 0 = omega arith in u) in absurd (let z' : ⊥ = omega arith in z')))
+      (below-or 0 w)

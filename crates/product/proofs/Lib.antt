@@ -9,3 +9,4 @@ pub mod Lower
 pub mod Terms
 pub mod Turn
 pub mod Checks
+pub mod Mirrored

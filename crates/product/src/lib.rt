@@ -268,7 +268,7 @@ fn lower_piece(
 }
 
 fn mirror(width: usize, piece: &mut [f64])
-    requires { ⌜ width * width ≤ length (now piece) ⌝ }
+    requires { ⌜ (0 < width) × (width * width ≤ length (now piece)) ⌝ }
     ensures { λ _. ⌜ now (piece .exit) ≡ tabulate (length (now (piece .entry))) (λ p. cond (leb (p % width) (p / width)) (getD (now (piece .entry)) p nan) (getD (now (piece .entry)) (p % width * width + p / width) nan)) ⌝ }
 {
     let mut r = 0;
