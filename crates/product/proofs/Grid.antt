@@ -44,13 +44,15 @@ module _ {A : Type 0} where
         where
           size-n : length (grid n w g) ≡ n
           size-n = length-tabulate n (λ q. g (q / w) (q % w))
+
           out : (q : ℕ) → q < n → (r * w + c ≤ q → q < r * w + c + m → ⊥) → getD (putMid (r * w + c) size (grid n w g) part) q d ≡ g' (q / w) (q % w)
           out q b apart =
               put-out (r * w + c) size (grid n w g) part d q (omega (arith, size-n)) (omega (arith, size-n)) (λ a a'. apart a (omega (arith, size-n)))
               ∙ getD-tabulate n (λ p. g (p / w) (p % w)) q d b
               ∙ (let s : q / w * w + q % w ≡ q = div-add-mod' q w in
-                 old (q / w) (q % w) (omega (arith, size-n)) (mod-lt q p)
-                 (λ i a a'. let t : q / w * w ≡ r * w = ap (λ (x : ℕ). x * w) i in apart (omega (arith, size-n)) (omega (arith, size-n))))
+              old (q / w) (q % w) (omega (arith, size-n)) (mod-lt q p)
+              (λ i a a'. let t : q / w * w ≡ r * w = ap (λ (x : ℕ). x * w) i in apart (omega (arith, size-n)) (omega (arith, size-n))))
+
           in-part : (q : ℕ) → r * w + c ≤ q → q < r * w + c + m → getD (putMid (r * w + c) size (grid n w g) part) q d ≡ g' (q / w) (q % w)
           in-part q a a' =
               let j : ℕ = q - (r * w + c) in
@@ -72,6 +74,6 @@ module _ {A : Type 0} where
   grid-ext h w g g' e =
       ⊎-elim (λ p. grid-same (h * w) w g g' p e)
       (λ p.
-          tabulate-ext (h * w) (λ q. g (q / w) (q % w)) (λ q. g' (q / w) (q % w))
-          (λ q b. let z : h * w ≡ h * 0 = ap (λ (x : ℕ). h * x) (let u : w ≡ 0 = omega arith in u) in absurd (let z' : ⊥ = omega arith in z')))
+      tabulate-ext (h * w) (λ q. g (q / w) (q % w)) (λ q. g' (q / w) (q % w))
+      (λ q b. let z : h * w ≡ h * 0 = ap (λ (x : ℕ). h * x) (let u : w ≡ 0 = omega arith in u) in absurd (let z' : ⊥ = omega arith in z')))
       (below-or 0 w)

@@ -10,3 +10,4 @@ pub mod Terms
 pub mod Turn
 pub mod Checks
 pub mod Mirrored
+pub mod Pieces

@@ -65,10 +65,13 @@ module _ (f : Format) (h w : ℕ) (v : ℕ → ℕ → Float) where
     where
       rows : r * w + w ≤ h * w
       rows = row-in h w r hr
+
       within : length (take size (drop (r * w + c) l)) ≡ m
       within = let z : length l ≡ h * w = ap length le ∙ length-lower t in length-part (r * w + c) size l (omega (arith, rows)) ∙ s
+
       size-part : length part ≡ m
       size-part = ap length e ∙ length-tabulate (length (take size (drop (r * w + c) l))) (λ j. sumMore f (getD (take size (drop (r * w + c) l)) j nan) y (x j) n) ∙ within
+
       before-at : (j : ℕ) → j < m → getD (take size (drop (r * w + c) l)) j nan ≡ sumMore f plusZero (v r) (v (c + j)) k
       before-at j b =
           getD-take size (drop (r * w + c) l) j nan (omega (arith, rows))
@@ -78,6 +81,7 @@ module _ (f : Format) (h w : ℕ) (v : ℕ → ℕ → Float) where
           ∙ grid-at (h * w) w (entry t) r (c + j) nan (omega (arith, rows)) (omega (arith, rows))
           ∙ entry-below t r (c + j) (omega (arith, rows))
           ∙ ap (sumMore f plusZero (v r) (v (c + j))) (old j b)
+
       part-at : (j : ℕ) → j < m → getD part j nan ≡ entry t' r (c + j)
       part-at j b =
           ap (λ (z : List Float). getD z j nan) e

@@ -44,8 +44,8 @@ module _ (w : ℕ) where
   mirrored-none l =
       tabulate-ext (length l) (λ q. entry l 0 (q / w) (q % w)) (λ p. cond (leb (p % w) (p / w)) (getD l p nan) (getD l (p % w * w + p / w) nan))
       (λ q b.
-          ap (λ (t : Bool). cond (leb (q % w) (q / w)) (at l (q / w) (q % w)) (cond t (at l (q / w) (q % w)) (at l (q % w) (q / w)))) (le-ltb (q / w * w + q % w) 0 (omega arith))
-          ∙ ap (λ (x : ℕ). cond (leb (q % w) (q / w)) (getD l x nan) (at l (q % w) (q / w))) (div-add-mod' q w))
+      ap (λ (t : Bool). cond (leb (q % w) (q / w)) (at l (q / w) (q % w)) (cond t (at l (q / w) (q % w)) (at l (q % w) (q / w)))) (le-ltb (q / w * w + q % w) 0 (omega arith))
+      ∙ ap (λ (x : ℕ). cond (leb (q % w) (q / w)) (getD l x nan) (at l (q % w) (q / w))) (div-add-mod' q w))
 
   module _ (pos : 0 < w) where
     pub mirrored-all : (l : List Float) → mirrored (w * w) l ≡ l
@@ -53,8 +53,8 @@ module _ (w : ℕ) where
     mirrored-all l =
         sym (is-tabulate l (length l) (λ q. entry l (w * w) (q / w) (q % w)) nan refl
         (λ q b.
-            ap (λ (x : ℕ). getD l x nan) (sym (div-add-mod' q w))
-            ∙ sym (⊎-elim (λ a. passed l (w * w) (q / w) (q % w) (let m : q % w < w = mod-lt q pos in let e : q / w * w + w ≤ w * w = row-in w w (q / w) (omega arith) in omega arith)) (λ a. lower l (w * w) (q / w) (q % w) a) (below-or (q / w) (q % w)))))
+        ap (λ (x : ℕ). getD l x nan) (sym (div-add-mod' q w))
+        ∙ sym (⊎-elim (λ a. passed l (w * w) (q / w) (q % w) (let m : q % w < w = mod-lt q pos in let e : q / w * w + w ≤ w * w = row-in w w (q / w) (omega arith) in omega arith)) (λ a. lower l (w * w) (q / w) (q % w) a) (below-or (q / w) (q % w)))))
 
     -- in row r nothing changes up to the diagonal
     pub mirrored-skip : (l : List Float) (r : ℕ) → r < w → mirrored (r * w + (r + 1)) l ≡ mirrored (r * w) l
@@ -62,11 +62,11 @@ module _ (w : ℕ) where
     mirrored-skip l r h =
         grid-same (length l) w (entry l (r * w + (r + 1))) (entry l (r * w)) pos
         (λ r' c' b b'. ⊎-elim (λ a. ⊎-elim
-                (λ d. let e : r' * w + w ≤ r * w = row-in r w r' d in passed l (r * w + (r + 1)) r' c' (omega arith) ∙ sym (passed l (r * w) r' c' (omega arith)))
-                (λ d. above l (r * w + (r + 1)) r' c' a (far r' c' a d) ∙ sym (above l (r * w) r' c' a (let e : r * w ≤ r' * w = mul-le-mul-right w d in omega arith)))
-                (below-or r' r))
-            (λ a. lower l (r * w + (r + 1)) r' c' a ∙ sym (lower l (r * w) r' c' a))
-            (below-or r' c'))
+        (λ d. let e : r' * w + w ≤ r * w = row-in r w r' d in passed l (r * w + (r + 1)) r' c' (omega arith) ∙ sym (passed l (r * w) r' c' (omega arith)))
+        (λ d. above l (r * w + (r + 1)) r' c' a (far r' c' a d) ∙ sym (above l (r * w) r' c' a (let e : r * w ≤ r' * w = mul-le-mul-right w d in omega arith)))
+        (below-or r' r))
+        (λ a. lower l (r * w + (r + 1)) r' c' a ∙ sym (lower l (r * w) r' c' a))
+        (below-or r' c'))
       where
         far : (r' c' : ℕ) → r' < c' → r ≤ r' → r * w + (r + 1) ≤ r' * w + c'
         far r' c' a d =
@@ -103,20 +103,20 @@ module _ (w : ℕ) where
           same : (r' c' : ℕ) → r' * w + c' < length l → c' < w → entry new (r * w + (c + 1)) r' c' ≡ entry l (r * w + c) r' c'
           same r' c' d d' =
               ⊎-elim (λ a. ⊎-elim
-                  (λ e. passed new (r * w + (c + 1)) r' c' (omega arith) ∙ other r' c' (λ q. omega arith) ∙ sym (passed l (r * w + c) r' c' e))
-                  (λ e. ⊎-elim
-                      (λ q.
-                          let i : r' ≡ r = unique r' c' d' (sym q) in
-                          let i' : r' * w ≡ r * w = ap (λ (x : ℕ). x * w) i in
-                          let i'' : c' ≡ c = omega arith in
-                          passed new (r * w + (c + 1)) r' c' (omega arith)
-                          ∙ ap (λ (x : ℕ). getD new x nan) (sym q)
-                          ∙ here
-                          ∙ ap (λ (x : ℕ). at l x r) (sym i'')
-                          ∙ ap (λ (x : ℕ). at l c' x) (sym i)
-                          ∙ sym (above l (r * w + c) r' c' a e))
-                      (λ q. above new (r * w + (c + 1)) r' c' a (omega arith) ∙ other-lower c' r' (omega arith) (omega arith) ∙ sym (above l (r * w + c) r' c' a e))
-                      (eq-or-lt-of-le e))
-                  (below-or (r' * w + c') (r * w + c)))
+              (λ e. passed new (r * w + (c + 1)) r' c' (omega arith) ∙ other r' c' (λ q. omega arith) ∙ sym (passed l (r * w + c) r' c' e))
+              (λ e. ⊎-elim
+              (λ q.
+              let i : r' ≡ r = unique r' c' d' (sym q) in
+              let i' : r' * w ≡ r * w = ap (λ (x : ℕ). x * w) i in
+              let i'' : c' ≡ c = omega arith in
+              passed new (r * w + (c + 1)) r' c' (omega arith)
+              ∙ ap (λ (x : ℕ). getD new x nan) (sym q)
+              ∙ here
+              ∙ ap (λ (x : ℕ). at l x r) (sym i'')
+              ∙ ap (λ (x : ℕ). at l c' x) (sym i)
+              ∙ sym (above l (r * w + c) r' c' a e))
+              (λ q. above new (r * w + (c + 1)) r' c' a (omega arith) ∙ other-lower c' r' (omega arith) (omega arith) ∙ sym (above l (r * w + c) r' c' a e))
+              (eq-or-lt-of-le e))
+              (below-or (r' * w + c') (r * w + c)))
               (λ a. lower new (r * w + (c + 1)) r' c' a ∙ other-lower r' c' d' a ∙ sym (lower l (r * w + c) r' c' a))
               (below-or r' c')

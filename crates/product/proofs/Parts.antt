@@ -52,8 +52,8 @@ module _ {A : Type 0} (a k : ℕ) (xs : List A) where
     put-out p h e n =
         ⊎-elim (λ b. before p (omega arith) b)
         (λ b. ⊎-elim (λ b'. absurd (n b b'))
-            (λ b'.
-                let s : p ≡ a + (k + (p - (a + k))) = omega arith in
-                ap (λ (q : ℕ). getD (putMid a k xs ys) q d) s ∙ after (p - (a + k)) (omega arith) e ∙ ap (λ (q : ℕ). getD xs q d) (sym s))
-            (below-or p (a + k)))
+        (λ b'.
+        let s : p ≡ a + (k + (p - (a + k))) = omega arith in
+        ap (λ (q : ℕ). getD (putMid a k xs ys) q d) s ∙ after (p - (a + k)) (omega arith) e ∙ ap (λ (q : ℕ). getD xs q d) (sym s))
+        (below-or p (a + k)))
         (below-or p a)

@@ -51,8 +51,8 @@ module _ (f : Format) (x y : List Float) where
       ∙ ap (λ (k : ℕ). tabulate k (λ j. grow (i + m) (n - (i + m)) j (getD (tabulate (length l) (λ j'. grow i m j' (getD l j' nan))) j nan))) (length-tabulate (length l) (λ j. grow i m j (getD l j nan)))
       ∙ tabulate-ext (length l) (λ j. grow (i + m) (n - (i + m)) j (getD (tabulate (length l) (λ j'. grow i m j' (getD l j' nan))) j nan)) (λ j. grow i (n - i) j (getD l j nan))
       (λ j b.
-          ap (grow (i + m) (n - (i + m)) j) (getD-tabulate (length l) (λ j'. grow i m j' (getD l j' nan)) j nan b)
-          ∙ grow-more n i m j (getD l j nan) h)
+      ap (grow (i + m) (n - (i + m)) j) (getD-tabulate (length l) (λ j'. grow i m j' (getD l j' nan)) j nan b)
+      ∙ grow-more n i m j (getD l j nan) h)
 
   pub finished-all : (n i : ℕ) (l : List Float) → n ≤ i → finished n l i ≡ l
   unfolding finished sumMore
@@ -65,7 +65,7 @@ module _ (f : Format) (x y : List Float) where
   finished-none n l =
       tabulate-ext (length l) (λ j. grow 0 (n - 0) j (getD l j nan)) (λ j. sumMore f (getD l j nan) (λ t. getD y t nan) (λ t. getD x (t * 64 + j) nan) n)
       (λ j b.
-          ap (λ (k : ℕ). grow 0 k j (getD l j nan)) (sub-zero n)
-          ∙ sum-ext f (getD l j nan) (λ t. getD y (0 + t) nan) (λ t. getD x ((0 + t) * 64 + j) nan) (λ t. getD y t nan) (λ t. getD x (t * 64 + j) nan) n
-          (λ t b'. ap (λ (k : ℕ). getD y k nan) (zero-add t))
-          (λ t b'. ap (λ (k : ℕ). getD x (k * 64 + j) nan) (zero-add t)))
+      ap (λ (k : ℕ). grow 0 k j (getD l j nan)) (sub-zero n)
+      ∙ sum-ext f (getD l j nan) (λ t. getD y (0 + t) nan) (λ t. getD x ((0 + t) * 64 + j) nan) (λ t. getD y t nan) (λ t. getD x (t * 64 + j) nan) n
+      (λ t b'. ap (λ (k : ℕ). getD y k nan) (zero-add t))
+      (λ t b'. ap (λ (k : ℕ). getD x (k * 64 + j) nan) (zero-add t)))

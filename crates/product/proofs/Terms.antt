@@ -66,10 +66,10 @@ module _ (k n c m : ℕ) where
     row-same r' c' b apart =
         ⊎-elim (λ a. left r r' c' a ∙ sym (left (r + 1) r' c' a))
         (λ a. ⊎-elim (λ a'. ⊎-elim (λ d. passed r r' c' a a' d ∙ sym (passed (r + 1) r' c' a a' (omega arith)))
-                (λ d. ⊎-elim (λ d'. absurd (apart (omega arith) a (tile r' c' b a' d'))) (λ d'. waiting r r' c' a d ∙ sym (waiting (r + 1) r' c' a d')) (below-or r' (r + 1)))
-                (below-or r' r))
-            (λ a'. right r r' c' a' ∙ sym (right (r + 1) r' c' a'))
-            (below-or c' (c + m)))
+        (λ d. ⊎-elim (λ d'. absurd (apart (omega arith) a (tile r' c' b a' d'))) (λ d'. waiting r r' c' a d ∙ sym (waiting (r + 1) r' c' a d')) (below-or r' (r + 1)))
+        (below-or r' r))
+        (λ a'. right r r' c' a' ∙ sym (right (r + 1) r' c' a'))
+        (below-or c' (c + m)))
         (below-or c' c)
       where
         tile : (r' c' : ℕ) → c' ≤ r' → c' < c + m → r' < r + 1 → c' < c + size

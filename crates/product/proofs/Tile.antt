@@ -32,11 +32,11 @@ module _ (bytes : List ℕ) (base line step k c m : ℕ) where
       ⊎-elim
       (λ b'. put-out (i * 64) size x part nan (i' * 64 + j) (omega arith) (omega arith) (λ p p'. omega arith) ∙ old i' j b' l')
       (λ b'.
-          let q : i' ≡ i = omega arith in
-          ap (λ (t : ℕ). getD (putMid (i * 64) size x part) (t * 64 + j) nan) q
-          ∙ put-in (i * 64) size x part nan j (omega arith) (omega arith)
-          ∙ ap (λ (t : List Float). getD t j nan) e
-          ∙ getD-tabulate (length (take size (drop (i * 64) x))) (λ j. floatAt bytes (base + 8 * (c * line + (k + i) * step) + 8 * (j * line))) j nan (omega arith)
-          ∙ place i j
-          ∙ ap (λ (t : ℕ). lineValue bytes base line step (c + j) (k + t)) (sym q))
+      let q : i' ≡ i = omega arith in
+      ap (λ (t : ℕ). getD (putMid (i * 64) size x part) (t * 64 + j) nan) q
+      ∙ put-in (i * 64) size x part nan j (omega arith) (omega arith)
+      ∙ ap (λ (t : List Float). getD t j nan) e
+      ∙ getD-tabulate (length (take size (drop (i * 64) x))) (λ j. floatAt bytes (base + 8 * (c * line + (k + i) * step) + 8 * (j * line))) j nan (omega arith)
+      ∙ place i j
+      ∙ ap (λ (t : ℕ). lineValue bytes base line step (c + j) (k + t)) (sym q))
       (below-or i' i)

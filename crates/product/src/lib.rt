@@ -247,7 +247,8 @@ fn clear(piece: &mut [f64])
 
 fn lower_piece(
     bytes: &[u8],
-    base: usize,
+    offset: u64,
+    first: usize,
     line: usize,
     step: usize,
     count: usize,
@@ -255,15 +256,18 @@ fn lower_piece(
     width: usize,
     piece: &mut [f64],
 )
-    requires { ⌜ (width ≤ height) × (length (now piece) ≡ height * width) × LinesIn (length (now bytes)) base line step height 0 count ⌝ }
-    ensures { λ _. ⌜ now (piece .exit) ≡ lowerPiece binary64 height width (lineValue (now (bytes .entry)) base line step) (λ r c. count) ⌝ }
+    requires { ⌜ (0 < height) × (width ≤ height) × (length (now piece) ≡ height * width) × LinesIn (length (now bytes)) (offset + 8 * first) line step height 0 count ⌝ }
+    ensures { λ _. ⌜ now (piece .exit) ≡ lowerPiece binary64 height width (lineValue (now (bytes .entry)) (offset + 8 * first) line step) (λ r c. count) ⌝ }
 {
     clear(piece);
-    let mut k = 0;
-    while k < count {
-        let n = least(32, count - k);
-        add_tiles(bytes, base, line, step, k, n, height, width, piece);
-        k += n;
+    if count > 0 {
+        let base = offset as usize + 8 * first;
+        let mut k = 0;
+        while k < count {
+            let n = least(32, count - k);
+            add_tiles(bytes, base, line, step, k, n, height, width, piece);
+            k += n;
+        }
     }
 }
 
@@ -369,20 +373,17 @@ pub fn file_ata_piece_f64(
     let PieceAnswer::Done = answer else {
         return answer;
     };
-    if row_count > 0 {
-        lower_piece(
-            bytes,
-            offset as usize + 8 * (col_start * row_count),
-            row_count,
-            1,
-            row_count,
-            height,
-            width,
-            piece,
-        );
-    } else {
-        lower_piece(bytes, 0, 0, 0, 0, height, width, piece);
-    }
+    lower_piece(
+        bytes,
+        offset,
+        col_start * row_count,
+        row_count,
+        1,
+        row_count,
+        height,
+        width,
+        piece,
+    );
     mirror(width, piece);
     PieceAnswer::Done
 }
@@ -415,19 +416,16 @@ pub fn file_aat_piece_f64(
     let PieceAnswer::Done = answer else {
         return answer;
     };
-    if col_count > 0 {
-        lower_piece(
-            bytes,
-            offset as usize + 8 * row_start,
-            1,
-            row_count,
-            col_count,
-            height,
-            width,
-            piece,
-        );
-    } else {
-        lower_piece(bytes, 0, 0, 0, 0, height, width, piece);
-    }
+    lower_piece(
+        bytes,
+        offset,
+        row_start,
+        1,
+        row_count,
+        col_count,
+        height,
+        width,
+        piece,
+    );
     PieceAnswer::Done
 }

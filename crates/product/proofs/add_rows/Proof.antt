@@ -76,8 +76,8 @@ load-requires c κs =
     let s = c .before .before .before .before .before in
     let w = c .before .before .loop in
     λ i h.
-        let e : length (take (s .args .n - 0) (w .y)) ≡ s .args .n - 0 = length-take-le (s .args .n - 0) (w .y) (omega arith) in
-        omega (arith, s .pre .5 (w .r) i (omega arith) (omega arith))
+    let e : length (take (s .args .n - 0) (w .y)) ≡ s .args .n - 0 = length-take-le (s .args .n - 0) (w .y) (omega arith) in
+    omega (arith, s .pre .5 (w .r) i (omega arith) (omega arith))
 
 -- src/lib.rt:193:20
 mul-from : tie.Need-mul-from Inv-loop μ-loop
@@ -146,11 +146,12 @@ loop-again c =
     let y = c .before .before .before .before .before .before .before .load in
     let q = c .before .before .add-all in
     let size = c .before .before .before .before .before .least in
-    let from = w .r * a .width + a .c in
-    (omega arith,
-     length-front (w .y) (y .last .1 .1 .1 .0) (a .n - 0) (y .kept .1 .1 .1 .0) ∙ w .inv .1,
-     same-len-mid from (from + size .result - from) (w .piece) (q .last .1 .1 .1 .0) (q .kept .1 .1 .1 .0) ∙ w .inv .2,
-     row-turn (a .bytes .now) (a .base) (a .line) (a .step) (a .k) (a .n) (w .r) (w .y) (y .last .1 .1 .1 .0) (omega arith) (y .ensures) (a .c) (a .m) (size .result) (a .height) (a .width) (a .x .now) (w .piece) (q .last .1 .1 .1 .0) (omega arith) (omega arith) (omega arith) (omega arith) (size .ensures) (s .pre .6) (w .inv .3) (q .ensures))
+    let from = w .r * a .width + a .c in (
+      omega arith,
+      length-front (w .y) (y .last .1 .1 .1 .0) (a .n - 0) (y .kept .1 .1 .1 .0) ∙ w .inv .1,
+      same-len-mid from (from + size .result - from) (w .piece) (q .last .1 .1 .1 .0) (q .kept .1 .1 .1 .0) ∙ w .inv .2,
+      row-turn (a .bytes .now) (a .base) (a .line) (a .step) (a .k) (a .n) (w .r) (w .y) (y .last .1 .1 .1 .0) (omega arith) (y .ensures) (a .c) (a .m) (size .result) (a .height) (a .width) (a .x .now) (w .piece) (q .last .1 .1 .1 .0) (omega arith) (omega arith) (omega arith) (omega arith) (size .ensures) (s .pre .6) (w .inv .3) (q .ensures),
+    )
 
 -- src/lib.rt:172:1
 same-length : tie.Need-same-length Inv-loop μ-loop

@@ -80,8 +80,8 @@ load-requires c κs =
     let s = c .before .before .before .before .before in
     let w = c .before .before .loop in
     λ j h.
-        let e : length (take (w .i * 64 + s .args .m - w .i * 64) (drop (w .i * 64) (w .x))) ≡ w .i * 64 + s .args .m - w .i * 64 = length-part (w .i * 64) (w .i * 64 + s .args .m - w .i * 64) (w .x) (omega arith) in
-        omega (arith, s .pre .5 (s .args .c + j) (w .i) (omega arith) (omega arith))
+    let e : length (take (w .i * 64 + s .args .m - w .i * 64) (drop (w .i * 64) (w .x))) ≡ w .i * 64 + s .args .m - w .i * 64 = length-part (w .i * 64) (w .i * 64 + s .args .m - w .i * 64) (w .x) (omega arith) in
+    omega (arith, s .pre .5 (s .args .c + j) (w .i) (omega arith) (omega arith))
 
 -- src/lib.rt:117:9
 add-i : tie.Need-add-i Inv-loop μ-loop

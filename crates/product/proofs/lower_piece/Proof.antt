@@ -15,67 +15,88 @@ use Rattle.product.proofs.clear.Reads as clear-reads
 use Rattle.product.proofs.least.Reads as least-reads
 
 abbrev Inv-loop : tie.InvT-loop
-Inv-loop bytes base line step count height width piece₀ k₀ piece k =
+Inv-loop bytes offset first line step count height width piece₀ base k₀ piece k =
     (k ≤ count) × (length piece ≡ length piece₀) × (piece ≡ lowerPiece binary64 height width (lineValue bytes base line step) (λ r c. k))
 
 abbrev μ-loop : tie.MeasureT-loop
-μ-loop bytes base line step count height width piece₀ k₀ piece k = count - k
+μ-loop bytes offset first line step count height width piece₀ base k₀ piece k = count - k
 
--- src/lib.rt:261:5
+-- src/lib.rt:262:5
 clear-requires : tie.Need-clear-requires Inv-loop μ-loop
 clear-requires c κs = tt
 
--- src/lib.rt:263:5
+-- src/lib.rt:264:38
+mul-base : tie.Need-mul-base Inv-loop μ-loop
+mul-base c = omega (arith, c .before .before .before .before .before .before .before .pre .3 0 0 (omega arith) (omega arith))
+
+-- src/lib.rt:264:20
+add-base : tie.Need-add-base Inv-loop μ-loop
+add-base c = omega (arith, c .before .before .before .before .before .before .before .pre .3 0 0 (omega arith) (omega arith))
+
+-- src/lib.rt:266:9
 loop-holds : tie.Need-loop-holds Inv-loop μ-loop
 loop-holds c =
-    let s = c .before .before .before .before .before .before in
+    let s = c .before .before .before .before .before .before .before in
     let a = s .args in
-    let q = c .before .before .clear in
-    (omega arith, refl, lower-none binary64 (a .height) (a .width) (lineValue (a .bytes .now) (a .base) (a .line) (a .step)) (length (a .piece .now)) (q .last .0) (s .pre .1) (q .ensures))
+    let q = c .before .before .before .clear in
+    (omega arith, refl, lower-none binary64 (a .height) (a .width) (lineValue (a .bytes .now) (a .offset + 8 * a .first) (a .line) (a .step)) (length (a .piece .now)) (q .last .0) (s .pre .2) (q .ensures))
 
--- src/lib.rt:264:27
+-- src/lib.rt:267:31
 sub-least : tie.Need-sub-least Inv-loop μ-loop
 sub-least c = omega arith
 
--- src/lib.rt:264:13
+-- src/lib.rt:267:17
 least-requires : tie.Need-least-requires Inv-loop μ-loop
 least-requires c κs = tt
 
--- src/lib.rt:265:9
+-- src/lib.rt:268:13
 add-tiles-requires : tie.Need-add-tiles-requires Inv-loop μ-loop
 add-tiles-requires c κs =
-    let s = c .before .before .before .before .before .before .before .before .before .before in
+    let s = c .before .before .before .before .before .before .before .before .before .before .before in
     let w = c .before .before .before .loop in
-    let l = least-above 32 (c .before .before .before .before .before .before .before .before .before .before .args .count - c .before .before .before .loop .k) (c .before .least .result) (omega arith) (omega arith) (c .before .least .ensures) in
-    (l .0, l .1, omega arith, s .pre .0, λ r i h h'. omega (arith, s .pre .2 r (w .k + i) h (omega arith)), w .inv .2)
+    let l = least-above 32 (c .before .before .before .before .before .before .before .before .before .before .before .args .count - c .before .before .before .loop .k) (c .before .least .result) (omega arith) (omega arith) (c .before .least .ensures) in
+    (l .0, l .1, omega arith, s .pre .1, λ r i h h'. omega (arith, s .pre .3 r (w .k + i) h (omega arith)), w .inv .2)
 
--- src/lib.rt:266:9
+-- src/lib.rt:269:13
 add-k : tie.Need-add-k Inv-loop μ-loop
 add-k c = omega arith
 
--- src/lib.rt:263:5
+-- src/lib.rt:266:9
 loop-less : tie.Need-loop-less Inv-loop μ-loop
-loop-less c = omega (arith, least-above 32 (c .before .before .before .before .before .before .before .before .before .before .before .before .before .args .count - c .before .before .before .before .before .before .loop .k) (c .before .before .before .before .least .result) (omega arith) (omega arith) (c .before .before .before .before .least .ensures))
+loop-less c = omega (arith, least-above 32 (c .before .before .before .before .before .before .before .before .before .before .before .before .before .before .args .count - c .before .before .before .before .before .before .loop .k) (c .before .before .before .before .least .result) (omega arith) (omega arith) (c .before .before .before .before .least .ensures))
 
--- src/lib.rt:263:5
+-- src/lib.rt:266:9
 loop-again : tie.Need-loop-again Inv-loop μ-loop
 loop-again c =
     let w = c .before .before .before .before .before .before .loop in
     let q = c .before .before .add-tiles in
-    let l = least-above 32 (c .before .before .before .before .before .before .before .before .before .before .before .before .before .args .count - c .before .before .before .before .before .before .loop .k) (c .before .before .before .before .least .result) (omega arith) (omega arith) (c .before .before .before .before .least .ensures) in
+    let l = least-above 32 (c .before .before .before .before .before .before .before .before .before .before .before .before .before .before .args .count - c .before .before .before .before .before .before .loop .k) (c .before .before .before .before .least .result) (omega arith) (omega arith) (c .before .before .before .before .least .ensures) in
     (omega arith, q .kept .1 .1 .1 .1 .1 .1 .1 .1 .0 ∙ w .inv .1, q .ensures)
 
 -- src/lib.rt:248:1
 same-length : tie.Need-same-length Inv-loop μ-loop
-same-length c = c .before .loop .inv .1 ∙ c .before .before .before .before .clear .kept .0
+same-length c = c .before .loop .inv .1 ∙ c .before .before .before .before .before .clear .kept .0
 
 -- src/lib.rt:248:1
 returns : tie.Need-returns Inv-loop μ-loop
 returns c =
-    let a = c .before .before .before .before .before .before .before .before .args in
+    let a = c .before .before .before .before .before .before .before .before .before .args in
     let w = c .before .loop in
     w .inv .2
-    ∙ lower-ext binary64 (a .height) (a .width) (lineValue (a .bytes .now) (a .base) (a .line) (a .step)) _ _ (λ r' c' h h' h''. omega arith)
+    ∙ lower-ext binary64 (a .height) (a .width) (lineValue (a .bytes .now) (a .offset + 8 * a .first) (a .line) (a .step)) _ _ (λ r' c' h h' h''. omega arith)
+
+-- src/lib.rt:248:1
+same-length-2 : tie.Need-same-length-2 Inv-loop μ-loop
+same-length-2 c = c .before .before .before .clear .kept .0
+
+-- src/lib.rt:248:1
+returns-2 : tie.Need-returns-2 Inv-loop μ-loop
+returns-2 c =
+    let s = c .before .before .before .before .before .before .before in
+    let a = s .args in
+    let q = c .before .before .before .clear in
+    lower-none binary64 (a .height) (a .width) (lineValue (a .bytes .now) (a .offset + 8 * a .first) (a .line) (a .step)) (length (a .piece .now)) (q .last .0) (s .pre .2) (q .ensures)
+    ∙ lower-ext binary64 (a .height) (a .width) (lineValue (a .bytes .now) (a .offset + 8 * a .first) (a .line) (a .step)) _ _ (λ r' c' h h' h''. omega arith)
 
 pub lower-piece-spec : {M : Type 1} → statement M
 lower-piece-spec =
@@ -84,6 +105,8 @@ lower-piece-spec =
     Inv-loop
     μ-loop
     clear-requires
+    mul-base
+    add-base
     loop-holds
     sub-least
     least-requires
@@ -92,4 +115,6 @@ lower-piece-spec =
     loop-less
     loop-again
     same-length
-    returns)
+    returns
+    same-length-2
+    returns-2)
