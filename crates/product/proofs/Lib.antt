@@ -11,3 +11,4 @@ pub mod Turn
 pub mod Checks
 pub mod Mirrored
 pub mod Pieces
+pub mod Answers
