@@ -19,6 +19,7 @@ use Rattle.product.specs.Steps.{LinesIn}
 use Rattle.product.specs.declared.PieceAnswer.{PieceAnswer}
 use Rattle.product.proofs.PieceAnswer.{the-type}
 use Rattle.product.specs.declared.PieceAnswer.the-variants.{Done, CountTooLarge, CannotConvertBetaToFromF64, IndexMismatch, ReadError}
+use Rattle.product.proofs.Checks.{counts, four-checks}
 use Rattle.product.proofs.Parts.{below-or}
 use Rattle.product.proofs.Grid.{row-in}
 
@@ -42,14 +43,10 @@ pub record Accepted (least total bytes offset rows columns start height width pi
   pub size : piece ≡ height * width
   pub held : 0 < rows → 0 < columns → offset + 8 * rows * columns ≤ bytes
 
-pub accepted : (least total bytes offset rows columns start height width piece : ℕ) → pieceAnswer (goodPiece total start height width && leb least width) bytes offset rows columns start height width piece ≡ done [] → Accepted least total bytes offset rows columns start height width piece
-unfolding pieceAnswer goodPiece enoughBytes
-accepted least total bytes offset rows columns start height width piece e =
-    let e1 = check-done (leb rows countLimit) 18 _ e .1 in
-    let e2 = check-done (leb columns countLimit) 18 _ e1 .1 in
-    let e3 = check-done (leb start countLimit) 18 _ e2 .1 in
-    let e4 = check-done (leb height countLimit) 18 _ e3 .1 in
-    let e5 = check-done (leb width countLimit) 18 _ e4 .1 in
+pub accepted : (least total bytes offset rows columns start height width piece : ℕ) (a : PieceAnswer) → pieceSays a ≡ pieceAnswer (goodPiece total start height width && leb least width) bytes offset rows columns start height width piece → a ≡ Done → Accepted least total bytes offset rows columns start height width piece
+unfolding goodPiece enoughBytes
+accepted least total bytes offset rows columns start height width piece x says told =
+    let e5 = check-done (counts rows columns start height width) 18 _ (sym (four-checks (goodPiece total start height width && leb least width) bytes offset rows columns start height width piece) ∙ sym says ∙ ap pieceSays told) .1 in
     let e6 = check-done (goodPiece total start height width && leb least width) 20 _ e5 in
     let e7 = check-done (eqb (height * width) piece) 15 _ (e6 .1) in
     let e8 = check-done (enoughBytes bytes offset rows columns) 1 _ (e7 .1) in
@@ -101,17 +98,19 @@ least-none true w = le-leb 0 w (omega arith)
 least-none false w = refl
 
 -- a call that refuses leaves the old list, one that is done the new one
-pub leaves-old : (a : PieceAnswer) (s : Answer) (new old : List Float) → OneOf (1 ∷ 2 ∷ 3 ∷ 4 ∷ []) (tagOf the-type a) → pieceSays a ≡ s → old ≡ leaves s new old
+pub leaves-old : (a : PieceAnswer) (s : Answer) (new old : List Float) → OneOf (1 ∷ 2 ∷ 3 ∷ 4 ∷ []) (tagOf the-type a) → pieceSays a ≡ s → (pieceSays a ≡ s) × (old ≡ leaves s new old)
 unfolding leaves
 leaves-old Done s new old k e = absurd (⊎-elim (λ z. omega arith) (⊎-elim (λ z. omega arith) (⊎-elim (λ z. omega arith) (λ z. omega arith))) k)
-leaves-old CountTooLarge s new old k e = ap (λ (t : Answer). leaves t new old) e
-leaves-old CannotConvertBetaToFromF64 s new old k e = ap (λ (t : Answer). leaves t new old) e
-leaves-old IndexMismatch s new old k e = ap (λ (t : Answer). leaves t new old) e
-leaves-old ReadError s new old k e = ap (λ (t : Answer). leaves t new old) e
+leaves-old CountTooLarge s new old k e = (e, ap (λ (t : Answer). leaves t new old) e)
+leaves-old CannotConvertBetaToFromF64 s new old k e = (e, ap (λ (t : Answer). leaves t new old) e)
+leaves-old IndexMismatch s new old k e = (e, ap (λ (t : Answer). leaves t new old) e)
+leaves-old ReadError s new old k e = (e, ap (λ (t : Answer). leaves t new old) e)
 
-pub leaves-new : (s : Answer) (l new old : List Float) → done [] ≡ s → l ≡ new → l ≡ leaves s new old
+pub leaves-new : (a : PieceAnswer) (s : Answer) (l new old : List Float) → a ≡ Done → pieceSays a ≡ s → l ≡ new → (done [] ≡ s) × (l ≡ leaves s new old)
 unfolding leaves
-leaves-new s l new old e q = q ∙ ap (λ (t : Answer). leaves t new old) e
+leaves-new a s l new old told e q =
+    let d : done [] ≡ s = sym (ap pieceSays told) ∙ e in
+    (d, q ∙ ap (λ (t : Answer). leaves t new old) d)
 
 module _ (bytes : List ℕ) (offset rows columns start height width : ℕ) (piece : List Float) (s : Answer) where
   pub ata-says : s ≡ pieceAnswer (goodPiece columns start height width && leb 1 width) (length bytes) offset rows columns start height width (length piece) → s ≡ ataAnswer bytes offset rows columns start height width piece

@@ -18,17 +18,17 @@ use Rattle.product.proofs.Tile.{TileTo}
 
 module _ (bytes : List ℕ) (base line step k n : ℕ) where
   -- the row's own values, at the front of y
-  module _ (r : ℕ) (y yp : List Float) (b : n ≤ length y) (e : yp ≡ tabulate (length (take (n - 0) y)) (λ i. floatAt bytes (base + 8 * (r * line + k * step) + 8 * (i * step)))) where
+  module _ (r at : ℕ) (y yp : List Float) (a : at ≡ base + 8 * (r * line + k * step)) (b : n ≤ length y) (e : yp ≡ tabulate (length (take (n - 0) y)) (λ i. floatAt bytes (at + 8 * (i * step)))) where
     count : length (take (n - 0) y) ≡ n
     count = let z : length (take (n - 0) y) ≡ n - 0 = length-take-le (n - 0) y (omega arith) in omega arith
 
     line-front : (i : ℕ) → i < n → getD (yp ++ drop (n - 0) y) i nan ≡ lineValue bytes base line step r (k + i)
     unfolding lineValue
     line-front i h =
-        List·getD-append yp (drop (n - 0) y) nan i (let z : length yp ≡ length (take (n - 0) y) = ap length e ∙ length-tabulate (length (take (n - 0) y)) (λ i. floatAt bytes (base + 8 * (r * line + k * step) + 8 * (i * step))) in omega (arith, count))
+        List·getD-append yp (drop (n - 0) y) nan i (let z : length yp ≡ length (take (n - 0) y) = ap length e ∙ length-tabulate (length (take (n - 0) y)) (λ i. floatAt bytes (at + 8 * (i * step))) in omega (arith, count))
         ∙ ap (λ (z : List Float). getD z i nan) e
-        ∙ getD-tabulate (length (take (n - 0) y)) (λ i. floatAt bytes (base + 8 * (r * line + k * step) + 8 * (i * step))) i nan (omega (arith, count))
-        ∙ ap (floatAt bytes) (let z : base + 8 * (r * line + k * step) + 8 * (i * step) ≡ base + 8 * (r * line + (k + i) * step) = omega arith in z)
+        ∙ getD-tabulate (length (take (n - 0) y)) (λ i. floatAt bytes (at + 8 * (i * step))) i nan (omega (arith, count))
+        ∙ ap (floatAt bytes) (let z : at + 8 * (i * step) ≡ base + 8 * (r * line + (k + i) * step) = omega arith in z)
 
     pub row-turn : (c m size height width : ℕ) (x piece part : List Float) → r < height → c ≤ r → 0 < m → c + m ≤ width → size ≡ min m (r - c + 1)
         → TileTo bytes base line step k c m x n

@@ -5,10 +5,11 @@ ghost use Prim.Native.Nat.{ℕ, _+_, _*_, _/_, _%_, _^_, _<_, _≤_, min};
 ghost use lib.Dec.{leb, ltb};
 ghost use lib.ListN.{length, getD, take, drop};
 ghost use lib.Ieee.{nan, binary64, ofBits, add, mul};
+ghost use Rattle.genotype.specs.Answer.{countLimit};
 ghost use Rattle.genotype.specs.Lists.{tabulate};
 ghost use Rattle.product.specs.Values.{leNumber, floatAt};
 ghost use Rattle.product.specs.Dot.{plusZero};
-ghost use Rattle.product.specs.Piece.{pieceAnswer, goodPiece, ataAnswer, ataLeaves, aatAnswer, aatLeaves};
+ghost use Rattle.product.specs.Piece.{pieceAnswer, goodPiece, enoughBytes, ataAnswer, ataLeaves, aatAnswer, aatLeaves};
 ghost use Rattle.product.specs.Says.{pieceSays};
 ghost use Rattle.product.specs.Steps.{sumMore, lineValue, LinesIn, lowerPiece};
 
@@ -89,6 +90,14 @@ fn load(bytes: &[u8], at: usize, step: usize, dst: &mut [f64])
     }
 }
 
+// Where value k of line r stands.
+fn place(base: usize, line: usize, step: usize, r: usize, k: usize) -> usize
+    requires { ⌜ base + 8 * (r * line + k * step) < 2 ^ 64 ⌝ }
+    ensures { λ p. ⌜ p ≡ base + 8 * (r * line + k * step) ⌝ }
+{
+    base + 8 * (r * line + k * step)
+}
+
 // Values k to k + n - 1 of lines c to c + m - 1: value k + i of line c + j at x[i * 64 + j].
 fn load_tile(
     bytes: &[u8],
@@ -106,14 +115,10 @@ fn load_tile(
 {
     let mut i = 0;
     while i < n {
+        let at = place(base, line, step, c, k + i);
         let from = i * 64;
         let end = from + m;
-        load(
-            bytes,
-            base + 8 * (c * line + (k + i) * step),
-            line,
-            &mut x[from..end],
-        );
+        load(bytes, at, line, &mut x[from..end]);
         i += 1;
     }
 }
@@ -189,7 +194,8 @@ fn add_rows(
     let mut y = [0.0f64; 32];
     let mut r = c;
     while r < height {
-        load(bytes, base + 8 * (r * line + k * step), step, &mut y[0..n]);
+        let at = place(base, line, step, r, k);
+        load(bytes, at, step, &mut y[0..n]);
         let from = r * width + c;
         let end = from + least(m, r - c + 1);
         add_all(x, &y, n, &mut piece[from..end]);
@@ -286,6 +292,58 @@ fn mirror(width: usize, piece: &mut [f64])
     }
 }
 
+// Whether no number exceeds the limit of 18.
+fn counts_fit(a: usize, b: usize, c: usize, d: usize, e: usize) -> bool
+    ensures { λ r. ⌜ r ≡ (leb a countLimit && (leb b countLimit && (leb c countLimit && (leb d countLimit && leb e countLimit)))) ⌝ }
+{
+    if a > 9223372036854775807 {
+        return false;
+    }
+    if b > 9223372036854775807 {
+        return false;
+    }
+    if c > 9223372036854775807 {
+        return false;
+    }
+    if d > 9223372036854775807 {
+        return false;
+    }
+    e <= 9223372036854775807
+}
+
+// Whether a piece does not meet 20.
+fn good_piece(total: usize, start: usize, height: usize, width: usize, least_width: usize) -> bool
+    ensures { λ r. ⌜ r ≡ (goodPiece total start height width && leb «least_width» width) ⌝ }
+{
+    if start >= total {
+        return false;
+    }
+    if height != total - start {
+        return false;
+    }
+    if width > height {
+        return false;
+    }
+    width >= least_width
+}
+
+// Whether the bytes do not meet 1.
+fn enough_bytes(bytes_len: usize, offset: u64, row_count: usize, col_count: usize) -> bool
+    ensures { λ r. ⌜ r ≡ enoughBytes «bytes_len» offset «row_count» «col_count» ⌝ }
+{
+    if row_count == 0 {
+        return true;
+    }
+    if col_count == 0 {
+        return true;
+    }
+    if offset > bytes_len as u64 {
+        return false;
+    }
+    genotype::product_at_most(row_count, col_count, (bytes_len - offset as usize) / 8)
+}
+
+// The checks of a piece of so many lines, in order: 18, 20, 15, 1.
 fn check_piece(
     bytes_len: usize,
     offset: u64,
@@ -300,46 +358,16 @@ fn check_piece(
 ) -> PieceAnswer
     ensures { λ r. ⌜ pieceSays r ≡ pieceAnswer (goodPiece total start height width && leb «least_width» width) «bytes_len» offset «row_count» «col_count» start height width «piece_len» ⌝ }
 {
-    if row_count > 9223372036854775807 {
+    if !counts_fit(row_count, col_count, start, height, width) {
         return PieceAnswer::CountTooLarge;
     }
-    if col_count > 9223372036854775807 {
-        return PieceAnswer::CountTooLarge;
-    }
-    if start > 9223372036854775807 {
-        return PieceAnswer::CountTooLarge;
-    }
-    if height > 9223372036854775807 {
-        return PieceAnswer::CountTooLarge;
-    }
-    if width > 9223372036854775807 {
-        return PieceAnswer::CountTooLarge;
-    }
-    if start >= total {
-        return PieceAnswer::CannotConvertBetaToFromF64;
-    }
-    if height != total - start {
-        return PieceAnswer::CannotConvertBetaToFromF64;
-    }
-    if width > height {
-        return PieceAnswer::CannotConvertBetaToFromF64;
-    }
-    if width < least_width {
+    if !good_piece(total, start, height, width, least_width) {
         return PieceAnswer::CannotConvertBetaToFromF64;
     }
     if !genotype::product_is(height, width, piece_len) {
         return PieceAnswer::IndexMismatch;
     }
-    if row_count == 0 {
-        return PieceAnswer::Done;
-    }
-    if col_count == 0 {
-        return PieceAnswer::Done;
-    }
-    if offset > bytes_len as u64 {
-        return PieceAnswer::ReadError;
-    }
-    if !genotype::product_at_most(row_count, col_count, (bytes_len - offset as usize) / 8) {
+    if !enough_bytes(bytes_len, offset, row_count, col_count) {
         return PieceAnswer::ReadError;
     }
     PieceAnswer::Done

@@ -1,17 +1,17 @@
 use mathlib.Core.Path.{_≡_, refl, _∙_}
-use Prim.Native.Nat.{ℕ, _+_, _-_, _*_, _≤_, _<_}
+use Prim.Native.Nat.{ℕ, _+_, _-_, _*_, _≤_}
 use native.Mathlib.Omega.{arith}
 use borrow.Author.Needs.{needs}
-use lib.ListN.{length, getD, take, drop}
+use lib.ListN.{length, take, drop}
 use lib.Seq.{length-take-le, length-front}
+use lib.Ieee.{binary64}
 use borrow.Rule.Slice.PartMut.{same-len-mid}
-use Rattle.product.proofs.Parts.{length-part}
-use Rattle.product.proofs.Turn.{row-turn}
-use Rattle.product.proofs.Grid.{row-below}
-use lib.Ieee.{nan, binary64}
 use Rattle.product.specs.Steps.{lineValue, lowerPiece}
+use Rattle.product.proofs.Parts.{length-part}
+use Rattle.product.proofs.Grid.{row-below}
 use Rattle.product.proofs.Terms.{rowsTo, rows-none, rows-all, row-size}
 use Rattle.product.proofs.Lower.{lower-ext, row-place}
+use Rattle.product.proofs.Turn.{row-turn}
 use Rattle.product.proofs.add_rows.Statement.{statement}
 use Rattle.product.proofs.add_rows.Tie as tie
 use Rattle.product.proofs.add_rows.Reads as reads
@@ -19,6 +19,7 @@ use Rattle.product.proofs.add_rows.Lts as lts
 use Rattle.product.proofs.add_all.Reads as add-all-reads
 use Rattle.product.proofs.least.Reads as least-reads
 use Rattle.product.proofs.load.Reads as load-reads
+use Rattle.product.proofs.place.Reads as place-reads
 
 abbrev Inv-loop : tie.InvT-loop
 Inv-loop bytes base line step k n c m x height width piece₀ y₀ r₀ piece y r =
@@ -27,7 +28,7 @@ Inv-loop bytes base line step k n c m x height width piece₀ y₀ r₀ piece y 
 abbrev μ-loop : tie.MeasureT-loop
 μ-loop bytes base line step k n c m x height width piece₀ y₀ r₀ piece y r = height - r
 
--- src/lib.rt:191:5
+-- src/lib.rt:196:5
 loop-holds : tie.Need-loop-holds Inv-loop μ-loop
 loop-holds c =
     let s = c .before .before in
@@ -39,125 +40,111 @@ inside c =
     let a = c .before .before .before .before .args in
     row-place binary64 (a .height) (a .width) (lineValue (a .bytes .now) (a .base) (a .line) (a .step)) (rowsTo (a .k) (a .n) (a .c) (a .m) (c .before .loop .r)) (c .before .loop .piece) (c .before .loop .r) (c .before .loop .inv .3) (omega arith)
 
-mul-load : tie.Need-mul-load Inv-loop μ-loop
-mul-load c = omega (arith, c .before .before .before .before .pre .5 (c .before .loop .r) 0 (omega arith) (omega arith))
+-- src/lib.rt:197:13
+place-requires : tie.Need-place-requires Inv-loop μ-loop
+place-requires c κs = omega (arith, c .before .before .before .before .pre .5 (c .before .loop .r) 0 (omega arith) (omega arith))
 
--- src/lib.rt:192:44
-mul-load-2 : tie.Need-mul-load-2 Inv-loop μ-loop
-mul-load-2 c = omega (arith, c .before .before .before .before .pre .5 (c .before .loop .r) 0 (omega arith) (omega arith))
-
--- src/lib.rt:192:33
-add-load : tie.Need-add-load Inv-loop μ-loop
-add-load c = omega (arith, c .before .before .before .before .pre .5 (c .before .loop .r) 0 (omega arith) (omega arith))
-
--- src/lib.rt:192:28
-mul-load-3 : tie.Need-mul-load-3 Inv-loop μ-loop
-mul-load-3 c = omega (arith, c .before .before .before .before .pre .5 (c .before .loop .r) 0 (omega arith) (omega arith))
-
--- src/lib.rt:192:21
-add-load-2 : tie.Need-add-load-2 Inv-loop μ-loop
-add-load-2 c = omega (arith, c .before .before .before .before .pre .5 (c .before .loop .r) 0 (omega arith) (omega arith))
-
--- src/lib.rt:192:61
+-- src/lib.rt:198:31
 sub-load : tie.Need-sub-load Inv-loop μ-loop
 sub-load c = omega arith
 
--- src/lib.rt:192:61
+-- src/lib.rt:198:31
 part-y-start : tie.Need-part-y-start Inv-loop μ-loop
 part-y-start c = omega arith
 
--- src/lib.rt:192:61
+-- src/lib.rt:198:31
 part-y-end : tie.Need-part-y-end Inv-loop μ-loop
 part-y-end c = omega arith
 
--- src/lib.rt:192:9
+-- src/lib.rt:198:9
 load-requires : tie.Need-load-requires Inv-loop μ-loop
 load-requires c κs =
-    let s = c .before .before .before .before .before in
-    let w = c .before .before .loop in
+    let s = c .before .before .before .before .before .before in
+    let w = c .before .before .before .loop in
     λ i h.
     let e : length (take (s .args .n - 0) (w .y)) ≡ s .args .n - 0 = length-take-le (s .args .n - 0) (w .y) (omega arith) in
     omega (arith, s .pre .5 (w .r) i (omega arith) (omega arith))
 
--- src/lib.rt:193:20
+-- src/lib.rt:199:20
 mul-from : tie.Need-mul-from Inv-loop μ-loop
-mul-from c = omega (arith, inside (c .before .before .before))
+mul-from c = omega (arith, inside (c .before .before .before .before))
 
--- src/lib.rt:193:20
+-- src/lib.rt:199:20
 add-from : tie.Need-add-from Inv-loop μ-loop
-add-from c = omega (arith, inside (c .before .before .before))
+add-from c = omega (arith, inside (c .before .before .before .before))
 
--- src/lib.rt:194:35
+-- src/lib.rt:200:35
 sub-least : tie.Need-sub-least Inv-loop μ-loop
 sub-least c = omega arith
 
--- src/lib.rt:194:35
+-- src/lib.rt:200:35
 add-least : tie.Need-add-least Inv-loop μ-loop
 add-least c = omega arith
 
--- src/lib.rt:194:26
+-- src/lib.rt:200:26
 least-requires : tie.Need-least-requires Inv-loop μ-loop
 least-requires c κs = tt
 
--- src/lib.rt:194:19
+-- src/lib.rt:200:19
 add-end : tie.Need-add-end Inv-loop μ-loop
-add-end c = omega (arith, inside (c .before .before .before .before), row-size (c .before .before .before .before .before .before .before .before .args .k) (c .before .before .before .before .before .before .before .before .args .n) (c .before .before .before .before .before .before .before .before .args .c) (c .before .before .before .before .before .before .before .before .args .m) (c .before .before .before .before .before .loop .r) (c .least .result) (omega arith) (c .least .ensures))
+add-end c = omega (arith, inside (c .before .before .before .before .before), row-size (c .before .before .before .before .before .before .before .before .before .args .k) (c .before .before .before .before .before .before .before .before .before .args .n) (c .before .before .before .before .before .before .before .before .before .args .c) (c .before .before .before .before .before .before .before .before .before .args .m) (c .before .before .before .before .before .before .loop .r) (c .least .result) (omega arith) (c .least .ensures))
 
--- src/lib.rt:195:27
+-- src/lib.rt:201:27
 mul-add-all : tie.Need-mul-add-all Inv-loop μ-loop
-mul-add-all c = omega (arith, inside (c .before .before .before .before .before))
+mul-add-all c = omega (arith, inside (c .before .before .before .before .before .before))
 
--- src/lib.rt:195:27
+-- src/lib.rt:201:27
 sub-add-all : tie.Need-sub-add-all Inv-loop μ-loop
 sub-add-all c = omega arith
 
--- src/lib.rt:195:27
+-- src/lib.rt:201:27
 part-add-all-start : tie.Need-part-add-all-start Inv-loop μ-loop
 part-add-all-start c = omega arith
 
--- src/lib.rt:195:27
+-- src/lib.rt:201:27
 part-add-all-end : tie.Need-part-add-all-end Inv-loop μ-loop
-part-add-all-end c = omega (arith, inside (c .before .before .before .before .before), row-size (c .before .before .before .before .before .before .before .before .before .args .k) (c .before .before .before .before .before .before .before .before .before .args .n) (c .before .before .before .before .before .before .before .before .before .args .c) (c .before .before .before .before .before .before .before .before .before .args .m) (c .before .before .before .before .before .before .loop .r) (c .before .least .result) (omega arith) (c .before .least .ensures))
+part-add-all-end c = omega (arith, inside (c .before .before .before .before .before .before), row-size (c .before .before .before .before .before .before .before .before .before .before .args .k) (c .before .before .before .before .before .before .before .before .before .before .args .n) (c .before .before .before .before .before .before .before .before .before .before .args .c) (c .before .before .before .before .before .before .before .before .before .before .args .m) (c .before .before .before .before .before .before .before .loop .r) (c .before .least .result) (omega arith) (c .before .least .ensures))
 
--- src/lib.rt:195:9
+-- src/lib.rt:201:9
 add-all-requires : tie.Need-add-all-requires Inv-loop μ-loop
 add-all-requires c κs =
-    let a = c .before .before .before .before .before .before .before .before .before .before .args in
-    let w = c .before .before .before .before .before .before .before .loop in
+    let a = c .before .before .before .before .before .before .before .before .before .before .before .args in
+    let w = c .before .before .before .before .before .before .before .before .loop in
     let size = c .before .before .least .result in
     let from = w .r * a .width + a .c in
-    let e : length (take (from + size - from) (drop from (w .piece))) ≡ from + size - from = length-part from (from + size - from) (w .piece) (omega (arith, inside (c .before .before .before .before .before .before), row-size (c .before .before .before .before .before .before .before .before .before .before .args .k) (c .before .before .before .before .before .before .before .before .before .before .args .n) (c .before .before .before .before .before .before .before .before .before .before .args .c) (c .before .before .before .before .before .before .before .before .before .before .args .m) (c .before .before .before .before .before .before .before .loop .r) (c .before .before .least .result) (omega arith) (c .before .before .least .ensures))) in
-    (omega arith, omega (arith, row-size (c .before .before .before .before .before .before .before .before .before .before .args .k) (c .before .before .before .before .before .before .before .before .before .before .args .n) (c .before .before .before .before .before .before .before .before .before .before .args .c) (c .before .before .before .before .before .before .before .before .before .before .args .m) (c .before .before .before .before .before .before .before .loop .r) (c .before .before .least .result) (omega arith) (c .before .before .least .ensures)))
+    let e : length (take (from + size - from) (drop from (w .piece))) ≡ from + size - from = length-part from (from + size - from) (w .piece) (omega (arith, inside (c .before .before .before .before .before .before .before), row-size (c .before .before .before .before .before .before .before .before .before .before .before .args .k) (c .before .before .before .before .before .before .before .before .before .before .before .args .n) (c .before .before .before .before .before .before .before .before .before .before .before .args .c) (c .before .before .before .before .before .before .before .before .before .before .before .args .m) (c .before .before .before .before .before .before .before .before .loop .r) (c .before .before .least .result) (omega arith) (c .before .before .least .ensures))) in
+    (omega arith, omega (arith, row-size (c .before .before .before .before .before .before .before .before .before .before .before .args .k) (c .before .before .before .before .before .before .before .before .before .before .before .args .n) (c .before .before .before .before .before .before .before .before .before .before .before .args .c) (c .before .before .before .before .before .before .before .before .before .before .before .args .m) (c .before .before .before .before .before .before .before .before .loop .r) (c .before .before .least .result) (omega arith) (c .before .before .least .ensures)))
 
--- src/lib.rt:196:9
+-- src/lib.rt:202:9
 add-r : tie.Need-add-r Inv-loop μ-loop
 add-r c = omega arith
 
--- src/lib.rt:191:5
+-- src/lib.rt:196:5
 loop-less : tie.Need-loop-less Inv-loop μ-loop
 loop-less c = omega arith
 
--- src/lib.rt:191:5
+-- src/lib.rt:196:5
 loop-again : tie.Need-loop-again Inv-loop μ-loop
 loop-again c =
-    let s = c .before .before .before .before .before .before .before .before .before .before .before .before .before in
+    let s = c .before .before .before .before .before .before .before .before .before .before .before .before .before .before in
     let a = s .args in
-    let w = c .before .before .before .before .before .before .before .before .before .before .loop in
+    let w = c .before .before .before .before .before .before .before .before .before .before .before .loop in
+    let p = c .before .before .before .before .before .before .before .before .before .place in
     let y = c .before .before .before .before .before .before .before .load in
     let q = c .before .before .add-all in
     let size = c .before .before .before .before .before .least in
     let from = w .r * a .width + a .c in (
-      omega arith,
+      omega (arith, w .inv .0),
       length-front (w .y) (y .last .1 .1 .1 .0) (a .n - 0) (y .kept .1 .1 .1 .0) ∙ w .inv .1,
       same-len-mid from (from + size .result - from) (w .piece) (q .last .1 .1 .1 .0) (q .kept .1 .1 .1 .0) ∙ w .inv .2,
-      row-turn (a .bytes .now) (a .base) (a .line) (a .step) (a .k) (a .n) (w .r) (w .y) (y .last .1 .1 .1 .0) (omega arith) (y .ensures) (a .c) (a .m) (size .result) (a .height) (a .width) (a .x .now) (w .piece) (q .last .1 .1 .1 .0) (omega arith) (omega arith) (omega arith) (omega arith) (size .ensures) (s .pre .6) (w .inv .3) (q .ensures),
+      row-turn (a .bytes .now) (a .base) (a .line) (a .step) (a .k) (a .n) (w .r) (p .result) (w .y) (y .last .1 .1 .1 .0) (p .ensures) (omega (arith, w .inv .1, s .pre .1)) (y .ensures) (a .c) (a .m) (size .result) (a .height) (a .width) (a .x .now) (w .piece) (q .last .1 .1 .1 .0) (c .before .before .before .before .before .before .before .before .before .before .loop-test .taken) (w .inv .0) (s .pre .2) (s .pre .4) (size .ensures) (s .pre .6) (w .inv .3) (q .ensures),
     )
 
--- src/lib.rt:172:1
+-- src/lib.rt:177:1
 same-length : tie.Need-same-length Inv-loop μ-loop
 same-length c = c .before .loop .inv .2
 
--- src/lib.rt:172:1
+-- src/lib.rt:177:1
 returns : tie.Need-returns Inv-loop μ-loop
 returns c =
     let a = c .before .before .before .before .args in
@@ -172,11 +159,7 @@ add-rows-spec =
     Inv-loop
     μ-loop
     loop-holds
-    mul-load
-    mul-load-2
-    add-load
-    mul-load-3
-    add-load-2
+    place-requires
     sub-load
     part-y-start
     part-y-end

@@ -1,8 +1,6 @@
-use mathlib.Core.Path.{_≡_, sym, ap, _∙_}
-use mathlib.Core.List.{[]}
+use mathlib.Core.Path.{_≡_}
 use native.Mathlib.Omega.{arith}
 use lib.ListN.{length}
-use Rattle.genotype.specs.Answer.{done}
 use Rattle.product.specs.Piece.{aatAnswer, aatLeaves}
 use Rattle.product.specs.Says.{pieceSays}
 use Rattle.product.proofs.Answers.{accepted, rows-in, leaves-old, leaves-new, aat-says}
@@ -28,14 +26,13 @@ unfolding aatLeaves
 returns c =
     let a = c .before .before .before .before .args in
     let q = c .before .check-piece in
-    let e = aat-says (a .bytes .now) (a .offset) (a .row-count) (a .col-count) (a .row-start) (a .height) (a .width) (a .piece .now) (pieceSays (q .result)) (q .ensures) in
-    (e, leaves-old (q .result) (aatAnswer (a .bytes .now) (a .offset) (a .row-count) (a .col-count) (a .row-start) (a .height) (a .width) (a .piece .now)) _ (a .piece .now) (c .match .keys2) e)
+    leaves-old (q .result) (aatAnswer (a .bytes .now) (a .offset) (a .row-count) (a .col-count) (a .row-start) (a .height) (a .width) (a .piece .now)) _ (a .piece .now) (c .match .keys2) (aat-says (a .bytes .now) (a .offset) (a .row-count) (a .col-count) (a .row-start) (a .height) (a .width) (a .piece .now) (pieceSays (q .result)) (q .ensures))
 
 -- src/lib.rt:419:5
 lower-piece-requires : tie.Need-lower-piece-requires
 lower-piece-requires c κs =
     let a = c .before .before .before .before .before .before .args in
-    let k = accepted 0 (a .row-count) (length (a .bytes .now)) (a .offset) (a .row-count) (a .col-count) (a .row-start) (a .height) (a .width) (length (a .piece .now)) (sym (c .before .before .before .check-piece .ensures) ∙ ap pieceSays (c .before .enum-told .given .1)) in
+    let k = accepted 0 (a .row-count) (length (a .bytes .now)) (a .offset) (a .row-count) (a .col-count) (a .row-start) (a .height) (a .width) (length (a .piece .now)) (c .before .before .before .check-piece .result) (c .before .before .before .check-piece .ensures) (c .before .enum-told .given .1) in
     (omega arith, k .narrow, k .size, rows-in (length (a .bytes .now)) (a .offset) (a .row-count) (a .col-count) (a .row-start) (a .height) (a .width) (length (a .piece .now)) k)
 
 -- src/lib.rt:391:1
@@ -47,9 +44,9 @@ returns-2 : tie.Need-returns-2
 unfolding aatLeaves
 returns-2 c =
     let a = c .before .before .before .before .before .before .before .before .before .args in
-    let k = accepted 0 (a .row-count) (length (a .bytes .now)) (a .offset) (a .row-count) (a .col-count) (a .row-start) (a .height) (a .width) (length (a .piece .now)) (sym (c .before .before .before .before .before .before .check-piece .ensures) ∙ ap pieceSays (c .before .before .before .before .enum-told .given .1)) in
-    let e = aat-says (a .bytes .now) (a .offset) (a .row-count) (a .col-count) (a .row-start) (a .height) (a .width) (a .piece .now) (done []) (sym (ap pieceSays (c .before .before .before .before .enum-told .given .1)) ∙ c .before .before .before .before .before .before .check-piece .ensures) in
-    (e, leaves-new (aatAnswer (a .bytes .now) (a .offset) (a .row-count) (a .col-count) (a .row-start) (a .height) (a .width) (a .piece .now)) (c .before .before .lower-piece .last .1 .1 .1 .1 .1 .1 .1 .1 .0) _ (a .piece .now) e (aat-piece (a .bytes .now) (a .offset) (a .row-count) (a .col-count) (a .row-start) (a .height) (a .width) (c .before .before .lower-piece .last .1 .1 .1 .1 .1 .1 .1 .1 .0) (k .narrow) (k .ends) (c .before .before .lower-piece .ensures)))
+    let k = accepted 0 (a .row-count) (length (a .bytes .now)) (a .offset) (a .row-count) (a .col-count) (a .row-start) (a .height) (a .width) (length (a .piece .now)) (c .before .before .before .before .before .before .check-piece .result) (c .before .before .before .before .before .before .check-piece .ensures) (c .before .before .before .before .enum-told .given .1) in
+    let q = c .before .before .before .before .before .before .check-piece in
+    leaves-new (q .result) (aatAnswer (a .bytes .now) (a .offset) (a .row-count) (a .col-count) (a .row-start) (a .height) (a .width) (a .piece .now)) (c .before .before .lower-piece .last .1 .1 .1 .1 .1 .1 .1 .1 .0) _ (a .piece .now) (c .before .before .before .before .enum-told .given .1) (aat-says (a .bytes .now) (a .offset) (a .row-count) (a .col-count) (a .row-start) (a .height) (a .width) (a .piece .now) (pieceSays (q .result)) (q .ensures)) (aat-piece (a .bytes .now) (a .offset) (a .row-count) (a .col-count) (a .row-start) (a .height) (a .width) (c .before .before .lower-piece .last .1 .1 .1 .1 .1 .1 .1 .1 .0) (k .narrow) (k .ends) (c .before .before .lower-piece .ensures))
 
 pub file-aat-piece-f64-spec : {M : Type 1} → statement M
 file-aat-piece-f64-spec =
