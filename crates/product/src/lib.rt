@@ -44,21 +44,24 @@ fn two_at(bytes: &[u8], at: usize) -> u64
     requires { ⌜ at + 2 ≤ length (now bytes) ⌝ }
     ensures { λ r. ⌜ (r ≡ leNumber (take 2 (drop at (now (bytes .entry))))) × (r < 2 ^ 16) ⌝ }
 {
-    byte_at(bytes, at) + 256 * byte_at(bytes, at + 1)
+    let next = at + 1;
+    byte_at(bytes, at) + 256 * byte_at(bytes, next)
 }
 
 fn four_at(bytes: &[u8], at: usize) -> u64
     requires { ⌜ at + 4 ≤ length (now bytes) ⌝ }
     ensures { λ r. ⌜ (r ≡ leNumber (take 4 (drop at (now (bytes .entry))))) × (r < 2 ^ 32) ⌝ }
 {
-    two_at(bytes, at) + 65536 * two_at(bytes, at + 2)
+    let next = at + 2;
+    two_at(bytes, at) + 65536 * two_at(bytes, next)
 }
 
 fn eight_at(bytes: &[u8], at: usize) -> u64
     requires { ⌜ at + 8 ≤ length (now bytes) ⌝ }
     ensures { λ r. ⌜ (r ≡ leNumber (take 8 (drop at (now (bytes .entry))))) × (r < 2 ^ 64) ⌝ }
 {
-    four_at(bytes, at) + 4294967296 * four_at(bytes, at + 4)
+    let next = at + 4;
+    four_at(bytes, at) + 4294967296 * four_at(bytes, next)
 }
 
 // The f64 of a bit pattern. The language makes no float from a NaN's pattern, so that is tested first.
@@ -71,6 +74,7 @@ fn float_of_bits(n: u64) -> f64
     f64::from_bits(n)
 }
 
+// The f64 of eight bytes from a place on.
 fn float_at(bytes: &[u8], at: usize) -> f64
     requires { ⌜ at + 8 ≤ length (now bytes) ⌝ }
     ensures { λ r. ⌜ r ≡ floatAt (now (bytes .entry)) at ⌝ }
@@ -78,7 +82,7 @@ fn float_at(bytes: &[u8], at: usize) -> f64
     float_of_bits(eight_at(bytes, at))
 }
 
-// Fills dst with the values that stand step values apart, from a place on.
+// Fills dst with values from a place on, each step values after the one before.
 fn load(bytes: &[u8], at: usize, step: usize, dst: &mut [f64])
     requires { ⌜ ((i : ℕ) → i < length (now dst) → at + 8 * (i * step) + 8 ≤ length (now bytes)) ⌝ }
     ensures { λ _. ⌜ now (dst .exit) ≡ tabulate (length (now (dst .entry))) (λ i. floatAt (now (bytes .entry)) (at + 8 * (i * step))) ⌝ }
@@ -90,6 +94,11 @@ fn load(bytes: &[u8], at: usize, step: usize, dst: &mut [f64])
     }
 }
 
+// The pieces are formed from lines of values: columns for A'A, rows for AA'. Value k of line r stands at
+// base + 8 × (r × line + k × step). The sums run in passes of up to 32 values of every line, so each pass reads
+// bytes that no other pass reads, and AA' goes through them once. In a pass the columns of the piece are taken in
+// tiles of up to 64, and the tile's values are made floats once for all rows.
+
 // Where value k of line r stands.
 fn place(base: usize, line: usize, step: usize, r: usize, k: usize) -> usize
     requires { ⌜ base + 8 * (r * line + k * step) < 2 ^ 64 ⌝ }
@@ -98,7 +107,7 @@ fn place(base: usize, line: usize, step: usize, r: usize, k: usize) -> usize
     base + 8 * (r * line + k * step)
 }
 
-// Values k to k + n - 1 of lines c to c + m - 1: value k + i of line c + j at x[i * 64 + j].
+// Loads a tile: value k + i of line c + j to x[i × 64 + j], for i below n and j below m.
 fn load_tile(
     bytes: &[u8],
     base: usize,
@@ -157,7 +166,7 @@ fn add_four(x: &[f64; 2048], y: &[f64; 32], i: usize, sums: &mut [f64])
     }
 }
 
-// Adds n values' products to each sum, upward.
+// Adds the products of places 0 to n - 1 to each sum, upward.
 fn add_all(x: &[f64; 2048], y: &[f64; 32], n: usize, sums: &mut [f64])
     requires { ⌜ (n ≤ 32) × (length (now sums) ≤ 64) ⌝ }
     ensures { λ _. ⌜ now (sums .exit) ≡ tabulate (length (now (sums .entry))) (λ j. sumMore binary64 (getD (now (sums .entry)) j nan) (λ i. getD (now (y .entry)) i nan) (λ i. getD (now (x .entry)) (i * 64 + j) nan) n) ⌝ }
@@ -173,7 +182,7 @@ fn add_all(x: &[f64; 2048], y: &[f64; 32], n: usize, sums: &mut [f64])
     }
 }
 
-// Values k to k + n - 1 of the sums of lines c to c + m - 1 with each line from c on.
+// Adds terms k to k + n - 1 to the sums of columns c to c + m - 1, in each row as far as the diagonal.
 fn add_rows(
     bytes: &[u8],
     base: usize,
@@ -203,6 +212,7 @@ fn add_rows(
     }
 }
 
+// Adds terms k to k + n - 1 to every sum.
 fn add_tiles(
     bytes: &[u8],
     base: usize,
@@ -251,6 +261,7 @@ fn clear(piece: &mut [f64])
     }
 }
 
+// Forms the sums on and below the diagonal, and +0 above it.
 fn lower_piece(
     bytes: &[u8],
     offset: u64,
@@ -277,6 +288,7 @@ fn lower_piece(
     }
 }
 
+// Copies each entry below the diagonal to its mirror place.
 fn mirror(width: usize, piece: &mut [f64])
     requires { ⌜ (0 < width) × (width * width ≤ length (now piece)) ⌝ }
     ensures { λ _. ⌜ now (piece .exit) ≡ tabulate (length (now (piece .entry))) (λ p. cond (leb (p % width) (p / width)) (getD (now (piece .entry)) p nan) (getD (now (piece .entry)) (p % width * width + p / width) nan)) ⌝ }
@@ -367,12 +379,13 @@ fn check_piece(
     if !genotype::product_is(height, width, piece_len) {
         return PieceAnswer::IndexMismatch;
     }
-    if !enough_bytes(bytes_len, offset, row_count, col_count) {
-        return PieceAnswer::ReadError;
+    if enough_bytes(bytes_len, offset, row_count, col_count) {
+        return PieceAnswer::Done;
     }
-    PieceAnswer::Done
+    PieceAnswer::ReadError
 }
 
+// A piece of A'A, for the matrix A of row_count rows and col_count columns in the bytes after an offset.
 pub fn file_ata_piece_f64(
     bytes: &[u8],
     offset: u64,
@@ -416,6 +429,7 @@ pub fn file_ata_piece_f64(
     PieceAnswer::Done
 }
 
+// A piece of AA', for the same matrix.
 pub fn file_aat_piece_f64(
     bytes: &[u8],
     offset: u64,

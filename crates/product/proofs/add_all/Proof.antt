@@ -7,10 +7,6 @@ use lib.Ieee.{binary64}
 use Rattle.product.proofs.Rows.{finished, finished-step, finished-all, finished-none}
 use Rattle.product.proofs.add_all.Statement.{statement}
 use Rattle.product.proofs.add_all.Tie as tie
-use Rattle.product.proofs.add_all.Reads as reads
-use Rattle.product.proofs.add_all.Lts as lts
-use Rattle.product.proofs.add_four.Reads as add-four-reads
-use Rattle.product.proofs.add_one.Reads as add-one-reads
 
 abbrev Inv-loop : tie.InvT-loop
 Inv-loop x y n sums₀ i₀ sums i = (i ≤ n) × (length sums ≡ length sums₀) × (finished binary64 x y n sums i ≡ finished binary64 x y n sums₀ i₀)
@@ -24,27 +20,21 @@ Inv-loop2 x y n sums₀ i₀ sums i = (i ≤ n) × (length sums ≡ length sums�
 abbrev μ-loop2 : tie.MeasureT-loop2
 μ-loop2 x y n sums₀ i₀ sums i = n - i
 
--- src/lib.rt:161:5
 loop-holds : tie.Need-loop-holds Inv-loop μ-loop Inv-loop2 μ-loop2
 loop-holds c = (search needs, refl, refl)
 
--- src/lib.rt:161:11
 add-loop : tie.Need-add-loop Inv-loop μ-loop Inv-loop2 μ-loop2
 add-loop c = omega arith
 
--- src/lib.rt:162:9
 add-four-requires : tie.Need-add-four-requires Inv-loop μ-loop Inv-loop2 μ-loop2
 add-four-requires c κs = (omega arith, omega arith)
 
--- src/lib.rt:163:9
 add-i : tie.Need-add-i Inv-loop μ-loop Inv-loop2 μ-loop2
 add-i c = omega arith
 
--- src/lib.rt:161:5
 loop-less : tie.Need-loop-less Inv-loop μ-loop Inv-loop2 μ-loop2
 loop-less c = omega arith
 
--- src/lib.rt:161:5
 loop-again : tie.Need-loop-again Inv-loop μ-loop Inv-loop2 μ-loop2
 loop-again c =
     let a = c .before .before .before .before .before .before .before .args in
@@ -53,23 +43,18 @@ loop-again c =
     let k : length (q .last .1 .1 .1 .0) ≡ length (w .sums) = q .kept .1 .1 .1 .0 in
     (omega arith, k ∙ w .inv .1, finished-step binary64 (a .x .now) (a .y .now) (a .n) (w .i) 4 (w .sums) (q .last .1 .1 .1 .0) (omega arith) (q .ensures) ∙ w .inv .2)
 
--- src/lib.rt:165:5
 loop2-holds : tie.Need-loop2-holds Inv-loop μ-loop Inv-loop2 μ-loop2
 loop2-holds c = (search needs, refl, refl)
 
--- src/lib.rt:166:9
 add-one-requires : tie.Need-add-one-requires Inv-loop μ-loop Inv-loop2 μ-loop2
 add-one-requires c κs = (omega arith, omega arith)
 
--- src/lib.rt:167:9
 add-i-2 : tie.Need-add-i-2 Inv-loop μ-loop Inv-loop2 μ-loop2
 add-i-2 c = omega arith
 
--- src/lib.rt:165:5
 loop2-less : tie.Need-loop2-less Inv-loop μ-loop Inv-loop2 μ-loop2
 loop2-less c = omega arith
 
--- src/lib.rt:165:5
 loop2-again : tie.Need-loop2-again Inv-loop μ-loop Inv-loop2 μ-loop2
 loop2-again c =
     let a = c .before .before .before .before .before .before .before .before .before .args in
@@ -78,11 +63,9 @@ loop2-again c =
     let k : length (q .last .1 .1 .1 .0) ≡ length (w .sums) = q .kept .1 .1 .1 .0 in
     (omega arith, k ∙ w .inv .1, finished-step binary64 (a .x .now) (a .y .now) (a .n) (w .i) 1 (w .sums) (q .last .1 .1 .1 .0) (omega arith) (q .ensures) ∙ w .inv .2)
 
--- src/lib.rt:156:1
 same-length : tie.Need-same-length Inv-loop μ-loop Inv-loop2 μ-loop2
 same-length c = c .before .loop2 .inv .1 ∙ c .before .before .before .loop .inv .1
 
--- src/lib.rt:156:1
 returns : tie.Need-returns Inv-loop μ-loop Inv-loop2 μ-loop2
 returns c =
     let a = c .before .before .before .before .before .args in

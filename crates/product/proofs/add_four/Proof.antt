@@ -8,8 +8,6 @@ use Rattle.product.proofs.InPlace.{filled, filled-none, filled-all}
 use Rattle.product.proofs.Rows.{grown, four-step}
 use Rattle.product.proofs.add_four.Statement.{statement}
 use Rattle.product.proofs.add_four.Tie as tie
-use Rattle.product.proofs.add_four.Reads as reads
-use Rattle.product.proofs.add_four.Lts as lts
 
 abbrev Inv-loop : tie.InvT-loop
 Inv-loop x y i sums₀ y0 y1 y2 y3 x0 x1 x2 x3 j₀ sums j = (j ≤ length sums₀) × (length sums ≡ length sums₀) × (sums ≡ filled (grown binary64 x y i 4 sums₀) j sums₀)
@@ -17,166 +15,126 @@ Inv-loop x y i sums₀ y0 y1 y2 y3 x0 x1 x2 x3 j₀ sums j = (j ≤ length sums�
 abbrev μ-loop : tie.MeasureT-loop
 μ-loop x y i sums₀ y0 y1 y2 y3 x0 x1 x2 x3 j₀ sums j = length sums₀ - j
 
--- src/lib.rt:132:14
 mul-y0 : tie.Need-mul-y0 Inv-loop μ-loop
 mul-y0 c = omega arith
 
--- src/lib.rt:132:14
 element-copy-out-y0 : tie.Need-element-copy-out-y0 Inv-loop μ-loop
 element-copy-out-y0 c = omega arith
 
--- src/lib.rt:133:16
 add-y1 : tie.Need-add-y1 Inv-loop μ-loop
 add-y1 c = omega arith
 
--- src/lib.rt:133:14
 mul-y1 : tie.Need-mul-y1 Inv-loop μ-loop
 mul-y1 c = omega arith
 
--- src/lib.rt:133:14
 element-copy-out-y1 : tie.Need-element-copy-out-y1 Inv-loop μ-loop
 element-copy-out-y1 c = omega arith
 
--- src/lib.rt:134:16
 add-y2 : tie.Need-add-y2 Inv-loop μ-loop
 add-y2 c = omega arith
 
--- src/lib.rt:134:14
 mul-y2 : tie.Need-mul-y2 Inv-loop μ-loop
 mul-y2 c = omega arith
 
--- src/lib.rt:134:14
 element-copy-out-y2 : tie.Need-element-copy-out-y2 Inv-loop μ-loop
 element-copy-out-y2 c = omega arith
 
--- src/lib.rt:135:16
 add-y3 : tie.Need-add-y3 Inv-loop μ-loop
 add-y3 c = omega arith
 
--- src/lib.rt:135:14
 mul-y3 : tie.Need-mul-y3 Inv-loop μ-loop
 mul-y3 c = omega arith
 
--- src/lib.rt:135:14
 element-copy-out-y3 : tie.Need-element-copy-out-y3 Inv-loop μ-loop
 element-copy-out-y3 c = omega arith
 
--- src/lib.rt:136:14
 mul-x0 : tie.Need-mul-x0 Inv-loop μ-loop
 mul-x0 c = omega arith
 
--- src/lib.rt:137:15
 add-x1 : tie.Need-add-x1 Inv-loop μ-loop
 add-x1 c = omega arith
 
--- src/lib.rt:137:14
 mul-x1 : tie.Need-mul-x1 Inv-loop μ-loop
 mul-x1 c = omega arith
 
--- src/lib.rt:138:15
 add-x2 : tie.Need-add-x2 Inv-loop μ-loop
 add-x2 c = omega arith
 
--- src/lib.rt:138:14
 mul-x2 : tie.Need-mul-x2 Inv-loop μ-loop
 mul-x2 c = omega arith
 
--- src/lib.rt:139:15
 add-x3 : tie.Need-add-x3 Inv-loop μ-loop
 add-x3 c = omega arith
 
--- src/lib.rt:139:14
 mul-x3 : tie.Need-mul-x3 Inv-loop μ-loop
 mul-x3 c = omega arith
 
--- src/lib.rt:141:5
 loop-holds : tie.Need-loop-holds Inv-loop μ-loop
 loop-holds c = (search needs, refl, filled-none _ _)
 
--- src/lib.rt:142:19
 mul-sums : tie.Need-mul-sums Inv-loop μ-loop
 mul-sums c = omega arith
 
--- src/lib.rt:142:19
 slice-read-sums : tie.Need-slice-read-sums Inv-loop μ-loop
 slice-read-sums c = omega arith
 
--- src/lib.rt:142:36
 add-sums : tie.Need-add-sums Inv-loop μ-loop
 add-sums c = omega arith
 
--- src/lib.rt:142:34
 mul-sums-2 : tie.Need-mul-sums-2 Inv-loop μ-loop
 mul-sums-2 c = omega arith
 
--- src/lib.rt:142:34
 element-copy-out-sums : tie.Need-element-copy-out-sums Inv-loop μ-loop
 element-copy-out-sums c = omega arith
 
--- src/lib.rt:142:53
 add-sums-2 : tie.Need-add-sums-2 Inv-loop μ-loop
 add-sums-2 c = omega arith
 
--- src/lib.rt:142:51
 mul-sums-3 : tie.Need-mul-sums-3 Inv-loop μ-loop
 mul-sums-3 c = omega arith
 
--- src/lib.rt:142:51
 element-copy-out-sums-2 : tie.Need-element-copy-out-sums-2 Inv-loop μ-loop
 element-copy-out-sums-2 c = omega arith
 
--- src/lib.rt:142:70
 add-sums-3 : tie.Need-add-sums-3 Inv-loop μ-loop
 add-sums-3 c = omega arith
 
--- src/lib.rt:142:68
 mul-sums-4 : tie.Need-mul-sums-4 Inv-loop μ-loop
 mul-sums-4 c = omega arith
 
--- src/lib.rt:142:68
 element-copy-out-sums-3 : tie.Need-element-copy-out-sums-3 Inv-loop μ-loop
 element-copy-out-sums-3 c = omega arith
 
--- src/lib.rt:142:87
 add-sums-4 : tie.Need-add-sums-4 Inv-loop μ-loop
 add-sums-4 c = omega arith
 
--- src/lib.rt:142:85
 mul-sums-5 : tie.Need-mul-sums-5 Inv-loop μ-loop
 mul-sums-5 c = omega arith
 
--- src/lib.rt:142:85
 element-copy-out-sums-4 : tie.Need-element-copy-out-sums-4 Inv-loop μ-loop
 element-copy-out-sums-4 c = omega arith
 
--- src/lib.rt:142:9
 mul-sums-6 : tie.Need-mul-sums-6 Inv-loop μ-loop
 mul-sums-6 c = omega arith
 
--- src/lib.rt:142:9
 slice-write-sums : tie.Need-slice-write-sums Inv-loop μ-loop
 slice-write-sums c = omega arith
 
--- src/lib.rt:143:9
 add-j : tie.Need-add-j Inv-loop μ-loop
 add-j c = omega arith
 
--- src/lib.rt:141:5
 loop-less : tie.Need-loop-less Inv-loop μ-loop
 loop-less c = omega arith
 
--- src/lib.rt:141:5
 loop-again : tie.Need-loop-again Inv-loop μ-loop
 loop-again c =
     let a = c .before .before .before .before .before .before .before .before .before .before .before .args in
     let w = c .before .before .before .before .before .before .loop in
     (omega arith, simp length-set (omega arith), four-step binary64 (a .x .now) (a .y .now) (a .sums .now) (w .sums) (a .i) (w .j) (omega arith) (w .inv .2))
 
--- src/lib.rt:128:1
 same-length : tie.Need-same-length Inv-loop μ-loop
 same-length c = c .before .loop .inv .1
 
--- src/lib.rt:128:1
 returns : tie.Need-returns Inv-loop μ-loop
 returns c = c .before .loop .inv .2 ∙ filled-all _ _ _ (omega arith)
 

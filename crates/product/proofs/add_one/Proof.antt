@@ -8,8 +8,6 @@ use Rattle.product.proofs.InPlace.{filled, filled-none, filled-all}
 use Rattle.product.proofs.Rows.{grown, one-step}
 use Rattle.product.proofs.add_one.Statement.{statement}
 use Rattle.product.proofs.add_one.Tie as tie
-use Rattle.product.proofs.add_one.Reads as reads
-use Rattle.product.proofs.add_one.Lts as lts
 
 abbrev Inv-loop : tie.InvT-loop
 Inv-loop x y i sums₀ y0 x0 j₀ sums j = (j ≤ length sums₀) × (length sums ≡ length sums₀) × (sums ≡ filled (grown binary64 x y i 1 sums₀) j sums₀)
@@ -17,70 +15,54 @@ Inv-loop x y i sums₀ y0 x0 j₀ sums j = (j ≤ length sums₀) × (length sum
 abbrev μ-loop : tie.MeasureT-loop
 μ-loop x y i sums₀ y0 x0 j₀ sums j = length sums₀ - j
 
--- src/lib.rt:118:14
 mul-y0 : tie.Need-mul-y0 Inv-loop μ-loop
 mul-y0 c = omega arith
 
--- src/lib.rt:118:14
 element-copy-out-y0 : tie.Need-element-copy-out-y0 Inv-loop μ-loop
 element-copy-out-y0 c = omega arith
 
--- src/lib.rt:119:14
 mul-x0 : tie.Need-mul-x0 Inv-loop μ-loop
 mul-x0 c = omega arith
 
--- src/lib.rt:121:5
 loop-holds : tie.Need-loop-holds Inv-loop μ-loop
 loop-holds c = (search needs, refl, filled-none _ _)
 
--- src/lib.rt:122:19
 mul-sums : tie.Need-mul-sums Inv-loop μ-loop
 mul-sums c = omega arith
 
--- src/lib.rt:122:19
 slice-read-sums : tie.Need-slice-read-sums Inv-loop μ-loop
 slice-read-sums c = omega arith
 
--- src/lib.rt:122:36
 add-sums : tie.Need-add-sums Inv-loop μ-loop
 add-sums c = omega arith
 
--- src/lib.rt:122:34
 mul-sums-2 : tie.Need-mul-sums-2 Inv-loop μ-loop
 mul-sums-2 c = omega arith
 
--- src/lib.rt:122:34
 element-copy-out-sums : tie.Need-element-copy-out-sums Inv-loop μ-loop
 element-copy-out-sums c = omega arith
 
--- src/lib.rt:122:9
 mul-sums-3 : tie.Need-mul-sums-3 Inv-loop μ-loop
 mul-sums-3 c = omega arith
 
--- src/lib.rt:122:9
 slice-write-sums : tie.Need-slice-write-sums Inv-loop μ-loop
 slice-write-sums c = omega arith
 
--- src/lib.rt:123:9
 add-j : tie.Need-add-j Inv-loop μ-loop
 add-j c = omega arith
 
--- src/lib.rt:121:5
 loop-less : tie.Need-loop-less Inv-loop μ-loop
 loop-less c = omega arith
 
--- src/lib.rt:121:5
 loop-again : tie.Need-loop-again Inv-loop μ-loop
 loop-again c =
     let a = c .before .before .before .before .before .args in
     let w = c .before .before .before .loop in
     (omega arith, simp length-set (omega arith), one-step binary64 (a .x .now) (a .y .now) (a .sums .now) (w .sums) (a .i) (w .j) (omega arith) (w .inv .2))
 
--- src/lib.rt:114:1
 same-length : tie.Need-same-length Inv-loop μ-loop
 same-length c = c .before .loop .inv .1
 
--- src/lib.rt:114:1
 returns : tie.Need-returns Inv-loop μ-loop
 returns c = c .before .loop .inv .2 ∙ filled-all _ _ _ (omega arith)
 

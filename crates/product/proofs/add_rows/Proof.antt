@@ -14,12 +14,6 @@ use Rattle.product.proofs.Lower.{lower-ext, row-place}
 use Rattle.product.proofs.Turn.{row-turn}
 use Rattle.product.proofs.add_rows.Statement.{statement}
 use Rattle.product.proofs.add_rows.Tie as tie
-use Rattle.product.proofs.add_rows.Reads as reads
-use Rattle.product.proofs.add_rows.Lts as lts
-use Rattle.product.proofs.add_all.Reads as add-all-reads
-use Rattle.product.proofs.least.Reads as least-reads
-use Rattle.product.proofs.load.Reads as load-reads
-use Rattle.product.proofs.place.Reads as place-reads
 
 abbrev Inv-loop : tie.InvT-loop
 Inv-loop bytes base line step k n c m x height width piece₀ y₀ r₀ piece y r =
@@ -28,7 +22,6 @@ Inv-loop bytes base line step k n c m x height width piece₀ y₀ r₀ piece y 
 abbrev μ-loop : tie.MeasureT-loop
 μ-loop bytes base line step k n c m x height width piece₀ y₀ r₀ piece y r = height - r
 
--- src/lib.rt:196:5
 loop-holds : tie.Need-loop-holds Inv-loop μ-loop
 loop-holds c =
     let s = c .before .before in
@@ -40,23 +33,18 @@ inside c =
     let a = c .before .before .before .before .args in
     row-place binary64 (a .height) (a .width) (lineValue (a .bytes .now) (a .base) (a .line) (a .step)) (rowsTo (a .k) (a .n) (a .c) (a .m) (c .before .loop .r)) (c .before .loop .piece) (c .before .loop .r) (c .before .loop .inv .3) (omega arith)
 
--- src/lib.rt:197:13
 place-requires : tie.Need-place-requires Inv-loop μ-loop
 place-requires c κs = omega (arith, c .before .before .before .before .pre .5 (c .before .loop .r) 0 (omega arith) (omega arith))
 
--- src/lib.rt:198:31
 sub-load : tie.Need-sub-load Inv-loop μ-loop
 sub-load c = omega arith
 
--- src/lib.rt:198:31
 part-y-start : tie.Need-part-y-start Inv-loop μ-loop
 part-y-start c = omega arith
 
--- src/lib.rt:198:31
 part-y-end : tie.Need-part-y-end Inv-loop μ-loop
 part-y-end c = omega arith
 
--- src/lib.rt:198:9
 load-requires : tie.Need-load-requires Inv-loop μ-loop
 load-requires c κs =
     let s = c .before .before .before .before .before .before in
@@ -65,47 +53,36 @@ load-requires c κs =
     let e : length (take (s .args .n - 0) (w .y)) ≡ s .args .n - 0 = length-take-le (s .args .n - 0) (w .y) (omega arith) in
     omega (arith, s .pre .5 (w .r) i (omega arith) (omega arith))
 
--- src/lib.rt:199:20
 mul-from : tie.Need-mul-from Inv-loop μ-loop
 mul-from c = omega (arith, inside (c .before .before .before .before))
 
--- src/lib.rt:199:20
 add-from : tie.Need-add-from Inv-loop μ-loop
 add-from c = omega (arith, inside (c .before .before .before .before))
 
--- src/lib.rt:200:35
 sub-least : tie.Need-sub-least Inv-loop μ-loop
 sub-least c = omega arith
 
--- src/lib.rt:200:35
 add-least : tie.Need-add-least Inv-loop μ-loop
 add-least c = omega arith
 
--- src/lib.rt:200:26
 least-requires : tie.Need-least-requires Inv-loop μ-loop
 least-requires c κs = tt
 
--- src/lib.rt:200:19
 add-end : tie.Need-add-end Inv-loop μ-loop
 add-end c = omega (arith, inside (c .before .before .before .before .before), row-size (c .before .before .before .before .before .before .before .before .before .args .k) (c .before .before .before .before .before .before .before .before .before .args .n) (c .before .before .before .before .before .before .before .before .before .args .c) (c .before .before .before .before .before .before .before .before .before .args .m) (c .before .before .before .before .before .before .loop .r) (c .least .result) (omega arith) (c .least .ensures))
 
--- src/lib.rt:201:27
 mul-add-all : tie.Need-mul-add-all Inv-loop μ-loop
 mul-add-all c = omega (arith, inside (c .before .before .before .before .before .before))
 
--- src/lib.rt:201:27
 sub-add-all : tie.Need-sub-add-all Inv-loop μ-loop
 sub-add-all c = omega arith
 
--- src/lib.rt:201:27
 part-add-all-start : tie.Need-part-add-all-start Inv-loop μ-loop
 part-add-all-start c = omega arith
 
--- src/lib.rt:201:27
 part-add-all-end : tie.Need-part-add-all-end Inv-loop μ-loop
 part-add-all-end c = omega (arith, inside (c .before .before .before .before .before .before), row-size (c .before .before .before .before .before .before .before .before .before .before .args .k) (c .before .before .before .before .before .before .before .before .before .before .args .n) (c .before .before .before .before .before .before .before .before .before .before .args .c) (c .before .before .before .before .before .before .before .before .before .before .args .m) (c .before .before .before .before .before .before .before .loop .r) (c .before .least .result) (omega arith) (c .before .least .ensures))
 
--- src/lib.rt:201:9
 add-all-requires : tie.Need-add-all-requires Inv-loop μ-loop
 add-all-requires c κs =
     let a = c .before .before .before .before .before .before .before .before .before .before .before .args in
@@ -115,15 +92,12 @@ add-all-requires c κs =
     let e : length (take (from + size - from) (drop from (w .piece))) ≡ from + size - from = length-part from (from + size - from) (w .piece) (omega (arith, inside (c .before .before .before .before .before .before .before), row-size (c .before .before .before .before .before .before .before .before .before .before .before .args .k) (c .before .before .before .before .before .before .before .before .before .before .before .args .n) (c .before .before .before .before .before .before .before .before .before .before .before .args .c) (c .before .before .before .before .before .before .before .before .before .before .before .args .m) (c .before .before .before .before .before .before .before .before .loop .r) (c .before .before .least .result) (omega arith) (c .before .before .least .ensures))) in
     (omega arith, omega (arith, row-size (c .before .before .before .before .before .before .before .before .before .before .before .args .k) (c .before .before .before .before .before .before .before .before .before .before .before .args .n) (c .before .before .before .before .before .before .before .before .before .before .before .args .c) (c .before .before .before .before .before .before .before .before .before .before .before .args .m) (c .before .before .before .before .before .before .before .before .loop .r) (c .before .before .least .result) (omega arith) (c .before .before .least .ensures)))
 
--- src/lib.rt:202:9
 add-r : tie.Need-add-r Inv-loop μ-loop
 add-r c = omega arith
 
--- src/lib.rt:196:5
 loop-less : tie.Need-loop-less Inv-loop μ-loop
 loop-less c = omega arith
 
--- src/lib.rt:196:5
 loop-again : tie.Need-loop-again Inv-loop μ-loop
 loop-again c =
     let s = c .before .before .before .before .before .before .before .before .before .before .before .before .before .before in
@@ -140,11 +114,9 @@ loop-again c =
       row-turn (a .bytes .now) (a .base) (a .line) (a .step) (a .k) (a .n) (w .r) (p .result) (w .y) (y .last .1 .1 .1 .0) (p .ensures) (omega (arith, w .inv .1, s .pre .1)) (y .ensures) (a .c) (a .m) (size .result) (a .height) (a .width) (a .x .now) (w .piece) (q .last .1 .1 .1 .0) (c .before .before .before .before .before .before .before .before .before .before .loop-test .taken) (w .inv .0) (s .pre .2) (s .pre .4) (size .ensures) (s .pre .6) (w .inv .3) (q .ensures),
     )
 
--- src/lib.rt:177:1
 same-length : tie.Need-same-length Inv-loop μ-loop
 same-length c = c .before .loop .inv .2
 
--- src/lib.rt:177:1
 returns : tie.Need-returns Inv-loop μ-loop
 returns c =
     let a = c .before .before .before .before .args in

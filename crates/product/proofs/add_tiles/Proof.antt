@@ -10,11 +10,6 @@ use Rattle.product.proofs.Terms.{least-above, none-passed, all-passed}
 use Rattle.product.proofs.Lower.{lower-ext}
 use Rattle.product.proofs.add_tiles.Statement.{statement}
 use Rattle.product.proofs.add_tiles.Tie as tie
-use Rattle.product.proofs.add_tiles.Reads as reads
-use Rattle.product.proofs.add_tiles.Lts as lts
-use Rattle.product.proofs.add_rows.Reads as add-rows-reads
-use Rattle.product.proofs.least.Reads as least-reads
-use Rattle.product.proofs.load_tile.Reads as load-tile-reads
 
 abbrev Inv-loop : tie.InvT-loop
 Inv-loop bytes base line step k n height width piece₀ x₀ c₀ piece x c =
@@ -23,26 +18,21 @@ Inv-loop bytes base line step k n height width piece₀ x₀ c₀ piece x c =
 abbrev μ-loop : tie.MeasureT-loop
 μ-loop bytes base line step k n height width piece₀ x₀ c₀ piece x c = width - c
 
--- src/lib.rt:216:5
 loop-holds : tie.Need-loop-holds Inv-loop μ-loop
 loop-holds c =
     let s = c .before .before in
     let a = s .args in
     (omega arith, refl, refl, s .pre .5 ∙ lower-ext binary64 (a .height) (a .width) (lineValue (a .bytes .now) (a .base) (a .line) (a .step)) _ _ (λ r' c' h h' h''. none-passed (a .k) (a .n) c'))
 
--- src/lib.rt:217:27
 sub-least : tie.Need-sub-least Inv-loop μ-loop
 sub-least c = omega arith
 
--- src/lib.rt:217:13
 least-requires : tie.Need-least-requires Inv-loop μ-loop
 least-requires c κs = tt
 
--- src/lib.rt:218:56
 slice-aggregate-load-tile : tie.Need-slice-aggregate-load-tile Inv-loop μ-loop
 slice-aggregate-load-tile c = sym (c .before .before .before .loop .inv .1)
 
--- src/lib.rt:218:9
 load-tile-requires : tie.Need-load-tile-requires Inv-loop μ-loop
 load-tile-requires c κs =
     let s = c .before .before .before .before .before .before in
@@ -50,7 +40,6 @@ load-tile-requires c κs =
     let l = least-above 64 (c .before .before .before .before .before .before .args .width - c .before .before .before .loop .c) (c .before .least .result) (omega arith) (omega arith) (c .before .least .ensures) in
     (omega arith, omega arith, l .0, l .1, w .inv .1, λ r i h h'. s .pre .4 r i (omega arith) h')
 
--- src/lib.rt:219:9
 add-rows-requires : tie.Need-add-rows-requires Inv-loop μ-loop
 add-rows-requires c κs =
     let s = c .before .before .before .before .before .before .before .before .before .before in
@@ -58,15 +47,12 @@ add-rows-requires c κs =
     let l = least-above 64 (c .before .before .before .before .before .before .before .before .before .before .args .width - c .before .before .before .before .before .before .before .loop .c) (c .before .before .before .before .before .least .result) (omega arith) (omega arith) (c .before .before .before .before .before .least .ensures) in
     (omega arith, omega arith, l .0, l .1, omega arith, s .pre .4, c .before .before .before .load-tile .ensures, w .inv .3)
 
--- src/lib.rt:233:9
 add-c : tie.Need-add-c Inv-loop μ-loop
 add-c c = omega arith
 
--- src/lib.rt:216:5
 loop-less : tie.Need-loop-less Inv-loop μ-loop
 loop-less c = omega (arith, least-above 64 (c .before .before .before .before .before .before .before .before .before .before .before .before .before .args .width - c .before .before .before .before .before .before .before .before .before .before .loop .c) (c .before .before .before .before .before .before .before .before .least .result) (omega arith) (omega arith) (c .before .before .before .before .before .before .before .before .least .ensures))
 
--- src/lib.rt:216:5
 loop-again : tie.Need-loop-again Inv-loop μ-loop
 loop-again c =
     let s = c .before .before .before .before .before .before .before .before .before .before .before .before .before in
@@ -76,11 +62,9 @@ loop-again c =
     let l = least-above 64 (c .before .before .before .before .before .before .before .before .before .before .before .before .before .args .width - c .before .before .before .before .before .before .before .before .before .before .loop .c) (c .before .before .before .before .before .before .before .before .least .result) (omega arith) (omega arith) (c .before .before .before .before .before .before .before .before .least .ensures) in
     (omega arith, t .kept .1 .1 .1 .1 .1 .1 .1 .1 .0 ∙ w .inv .1, q .kept .1 .1 .1 .1 .1 .1 .1 .1 .1 .1 .1 .0 ∙ w .inv .2, q .ensures)
 
--- src/lib.rt:200:1
 same-length : tie.Need-same-length Inv-loop μ-loop
 same-length c = c .before .loop .inv .2
 
--- src/lib.rt:200:1
 returns : tie.Need-returns Inv-loop μ-loop
 returns c =
     let a = c .before .before .before .before .args in

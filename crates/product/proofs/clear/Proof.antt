@@ -8,8 +8,6 @@ use Rattle.product.specs.Dot.{plusZero}
 use Rattle.product.proofs.InPlace.{filled, filled-none, filled-step, filled-all}
 use Rattle.product.proofs.clear.Statement.{statement}
 use Rattle.product.proofs.clear.Tie as tie
-use Rattle.product.proofs.clear.Reads as reads
-use Rattle.product.proofs.clear.Lts as lts
 
 abbrev Inv-loop : tie.InvT-loop
 Inv-loop piece₀ i₀ piece i = (i ≤ length piece₀) × (length piece ≡ length piece₀) × (piece ≡ filled (λ p. plusZero) i piece₀)
@@ -17,38 +15,30 @@ Inv-loop piece₀ i₀ piece i = (i ≤ length piece₀) × (length piece ≡ le
 abbrev μ-loop : tie.MeasureT-loop
 μ-loop piece₀ i₀ piece i = length piece₀ - i
 
--- src/lib.rt:242:5
 loop-holds : tie.Need-loop-holds Inv-loop μ-loop
 loop-holds c = (search needs, refl, filled-none _ _)
 
--- src/lib.rt:243:9
 mul-piece : tie.Need-mul-piece Inv-loop μ-loop
 mul-piece c = omega arith
 
--- src/lib.rt:243:9
 slice-write-piece : tie.Need-slice-write-piece Inv-loop μ-loop
 slice-write-piece c = omega arith
 
--- src/lib.rt:244:9
 add-i : tie.Need-add-i Inv-loop μ-loop
 add-i c = omega arith
 
--- src/lib.rt:242:5
 loop-less : tie.Need-loop-less Inv-loop μ-loop
 loop-less c = omega arith
 
--- src/lib.rt:242:5
 loop-again : tie.Need-loop-again Inv-loop μ-loop
 unfolding ofBits
 loop-again c =
     let w = c .before .loop in
     (omega arith, simp length-set (omega arith), filled-step _ _ _ _ _ (w .inv .2) (omega arith) refl)
 
--- src/lib.rt:238:1
 same-length : tie.Need-same-length Inv-loop μ-loop
 same-length c = c .before .loop .inv .1
 
--- src/lib.rt:238:1
 returns : tie.Need-returns Inv-loop μ-loop
 returns c = c .before .loop .inv .2 ∙ filled-all _ _ _ (omega arith)
 

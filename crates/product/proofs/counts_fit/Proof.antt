@@ -2,34 +2,27 @@ use borrow.Author.Needs.{needs}
 use Rattle.product.proofs.Checks.{large-1, large-2, large-3, large-4, large-5}
 use Rattle.product.proofs.counts_fit.Statement.{statement}
 use Rattle.product.proofs.counts_fit.Tie as tie
-use Rattle.product.proofs.counts_fit.Reads as reads
-use Rattle.product.proofs.counts_fit.Lts as lts
 
--- src/lib.rt:300:9
 returns : tie.Need-returns
 returns c =
     let a = c .before .args in
     large-1 (a .a) (a .b) (a .c) (a .d) (a .e) (c .if1 .taken)
 
--- src/lib.rt:303:9
 returns-2 : tie.Need-returns-2
 returns-2 c =
     let a = c .before .before .args in
     large-2 (a .a) (a .b) (a .c) (a .d) (a .e) (search needs) (c .if2 .taken)
 
--- src/lib.rt:306:9
 returns-3 : tie.Need-returns-3
 returns-3 c =
     let a = c .before .before .before .args in
     large-3 (a .a) (a .b) (a .c) (a .d) (a .e) (search needs) (search needs) (c .if3 .taken)
 
--- src/lib.rt:309:9
 returns-4 : tie.Need-returns-4
 returns-4 c =
     let a = c .before .before .before .before .args in
     large-4 (a .a) (a .b) (a .c) (a .d) (a .e) (search needs) (search needs) (search needs) (c .if4 .taken)
 
--- src/lib.rt:296:1
 returns-5 : tie.Need-returns-5
 returns-5 c =
     let a = c .before .before .before .before .args in

@@ -8,19 +8,13 @@ use Rattle.product.proofs.Pieces.{aat-piece}
 use borrow.Author.Needs.{needs}
 use Rattle.product.proofs.file_aat_piece_f64.Statement.{statement}
 use Rattle.product.proofs.file_aat_piece_f64.Tie as tie
-use Rattle.product.proofs.file_aat_piece_f64.Reads as reads
-use Rattle.product.proofs.file_aat_piece_f64.Lts as lts
-use Rattle.product.proofs.check_piece.Reads as check-piece-reads
-use Rattle.product.proofs.lower_piece.Reads as lower-piece-reads
 
--- src/lib.rt:404:9
 check-piece-requires : tie.Need-check-piece-requires
 check-piece-requires c κs = search needs
 
 enum-told : tie.Need-enum-told
 enum-told c = search needs
 
--- src/lib.rt:417:9
 returns : tie.Need-returns
 unfolding aatLeaves
 returns c =
@@ -28,18 +22,15 @@ returns c =
     let q = c .before .check-piece in
     leaves-old (q .result) (aatAnswer (a .bytes .now) (a .offset) (a .row-count) (a .col-count) (a .row-start) (a .height) (a .width) (a .piece .now)) _ (a .piece .now) (c .match .keys2) (aat-says (a .bytes .now) (a .offset) (a .row-count) (a .col-count) (a .row-start) (a .height) (a .width) (a .piece .now) (pieceSays (q .result)) (q .ensures))
 
--- src/lib.rt:419:5
 lower-piece-requires : tie.Need-lower-piece-requires
 lower-piece-requires c κs =
     let a = c .before .before .before .before .before .before .args in
     let k = accepted 0 (a .row-count) (length (a .bytes .now)) (a .offset) (a .row-count) (a .col-count) (a .row-start) (a .height) (a .width) (length (a .piece .now)) (c .before .before .before .check-piece .result) (c .before .before .before .check-piece .ensures) (c .before .enum-told .given .1) in
     (omega arith, k .narrow, k .size, rows-in (length (a .bytes .now)) (a .offset) (a .row-count) (a .col-count) (a .row-start) (a .height) (a .width) (length (a .piece .now)) k)
 
--- src/lib.rt:391:1
 same-length : tie.Need-same-length
 same-length c = search needs
 
--- src/lib.rt:391:1
 returns-2 : tie.Need-returns-2
 unfolding aatLeaves
 returns-2 c =

@@ -8,20 +8,13 @@ use Rattle.product.proofs.Pieces.{ata-piece}
 use borrow.Author.Needs.{needs}
 use Rattle.product.proofs.file_ata_piece_f64.Statement.{statement}
 use Rattle.product.proofs.file_ata_piece_f64.Tie as tie
-use Rattle.product.proofs.file_ata_piece_f64.Reads as reads
-use Rattle.product.proofs.file_ata_piece_f64.Lts as lts
-use Rattle.product.proofs.check_piece.Reads as check-piece-reads
-use Rattle.product.proofs.lower_piece.Reads as lower-piece-reads
-use Rattle.product.proofs.mirror.Reads as mirror-reads
 
--- src/lib.rt:361:9
 check-piece-requires : tie.Need-check-piece-requires
 check-piece-requires c κs = search needs
 
 enum-told : tie.Need-enum-told
 enum-told c = search needs
 
--- src/lib.rt:374:9
 returns : tie.Need-returns
 unfolding ataLeaves
 returns c =
@@ -29,21 +22,18 @@ returns c =
     let q = c .before .check-piece in
     leaves-old (q .result) (ataAnswer (a .bytes .now) (a .offset) (a .row-count) (a .col-count) (a .col-start) (a .height) (a .width) (a .piece .now)) _ (a .piece .now) (c .match .keys2) (ata-says (a .bytes .now) (a .offset) (a .row-count) (a .col-count) (a .col-start) (a .height) (a .width) (a .piece .now) (pieceSays (q .result)) (q .ensures))
 
--- src/lib.rt:379:9
 mul-lower-piece : tie.Need-mul-lower-piece
 mul-lower-piece c =
     let a = c .before .before .before .before .before .args in
     let k = accepted 1 (a .col-count) (length (a .bytes .now)) (a .offset) (a .row-count) (a .col-count) (a .col-start) (a .height) (a .width) (length (a .piece .now)) (c .before .before .check-piece .result) (c .before .before .check-piece .ensures) (c .enum-told .given .1) in
     omega (arith, first-in (length (a .bytes .now)) (a .offset) (a .row-count) (a .col-count) (a .col-start) (a .height) (a .width) (length (a .piece .now)) k)
 
--- src/lib.rt:376:5
 lower-piece-requires : tie.Need-lower-piece-requires
 lower-piece-requires c κs =
     let a = c .before .before .before .before .before .before .args in
     let k = accepted 1 (a .col-count) (length (a .bytes .now)) (a .offset) (a .row-count) (a .col-count) (a .col-start) (a .height) (a .width) (length (a .piece .now)) (c .before .before .before .check-piece .result) (c .before .before .before .check-piece .ensures) (c .before .enum-told .given .1) in
     (omega arith, k .narrow, k .size, columns-in (length (a .bytes .now)) (a .offset) (a .row-count) (a .col-count) (a .col-start) (a .height) (a .width) (length (a .piece .now)) k)
 
--- src/lib.rt:387:5
 mirror-requires : tie.Need-mirror-requires
 mirror-requires c κs =
     let a = c .before .before .before .before .before .before .before .before .before .before .args in
@@ -51,11 +41,9 @@ mirror-requires c κs =
     let l : length (c .before .before .before .lower-piece .last .1 .1 .1 .1 .1 .1 .1 .1 .0) ≡ length (a .piece .now) = c .before .before .before .lower-piece .kept .1 .1 .1 .1 .1 .1 .1 .1 .0 in
     (omega arith, omega (arith, square-in (length (a .bytes .now)) (a .offset) (a .row-count) (a .col-count) (a .col-start) (a .height) (a .width) (length (a .piece .now)) k))
 
--- src/lib.rt:348:1
 same-length : tie.Need-same-length
 same-length c = search needs
 
--- src/lib.rt:348:1
 returns-2 : tie.Need-returns-2
 unfolding ataLeaves
 returns-2 c =

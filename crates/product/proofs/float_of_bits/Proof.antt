@@ -4,19 +4,14 @@ use lib.Ieee.{binary64, div, ofBits}
 use Rattle.product.proofs.Bytes.{pattern-nan, pattern-number}
 use Rattle.product.proofs.float_of_bits.Statement.{statement}
 use Rattle.product.proofs.float_of_bits.Tie as tie
-use Rattle.product.proofs.float_of_bits.Reads as reads
-use Rattle.product.proofs.float_of_bits.Lts as lts
 
--- src/lib.rt:60:9
 returns : tie.Need-returns
 unfolding div ofBits
 returns c = sym (pattern-nan binary64 _ (c .if1 .taken))
 
--- src/lib.rt:62:5
 float-from-bits-result : tie.Need-float-from-bits-result
 float-from-bits-result c = pattern-number binary64 _ (c .if1 .left)
 
--- src/lib.rt:56:1
 returns-2 : tie.Need-returns-2
 returns-2 c = search needs
 

@@ -2,26 +2,19 @@ use Rattle.product.proofs.Checks.{start-past, height-off, width-past, w
 use borrow.Author.Needs.{needs}
 use Rattle.product.proofs.good_piece.Statement.{statement}
 use Rattle.product.proofs.good_piece.Tie as tie
-use Rattle.product.proofs.good_piece.Reads as reads
-use Rattle.product.proofs.good_piece.Lts as lts
 
--- src/lib.rt:319:9
 returns : tie.Need-returns
 returns c = start-past _ _ _ _ _ (c .if1 .taken)
 
--- src/lib.rt:321:18
 sub-if2 : tie.Need-sub-if2
 sub-if2 c = search needs
 
--- src/lib.rt:322:9
 returns-2 : tie.Need-returns-2
 returns-2 c = height-off _ _ _ _ _ (search needs) (c .if2 .taken)
 
--- src/lib.rt:325:9
 returns-3 : tie.Need-returns-3
 returns-3 c = width-past _ _ _ _ _ (search needs) (c .before .if2 .left) (c .if3 .taken)
 
--- src/lib.rt:315:1
 returns-4 : tie.Need-returns-4
 returns-4 c = width-in _ _ _ _ _ (search needs) (c .before .if2 .left) (c .if3 .left)
 

@@ -7,9 +7,6 @@ use Rattle.product.specs.Values.{floatAt}
 use Rattle.product.proofs.InPlace.{filled, filled-none, filled-step, filled-all, length-filled}
 use Rattle.product.proofs.load.Statement.{statement}
 use Rattle.product.proofs.load.Tie as tie
-use Rattle.product.proofs.load.Reads as reads
-use Rattle.product.proofs.load.Lts as lts
-use Rattle.product.proofs.float_at.Reads as float-at-reads
 
 abbrev Inv-loop : tie.InvT-loop
 Inv-loop bytes at step dst₀ i₀ dst i = (i ≤ length dst₀) × (length dst ≡ length dst₀) × (dst ≡ filled (λ j. floatAt bytes (at + 8 * (j * step))) i dst₀)
@@ -17,53 +14,41 @@ Inv-loop bytes at step dst₀ i₀ dst i = (i ≤ length dst₀) × (length dst 
 abbrev μ-loop : tie.MeasureT-loop
 μ-loop bytes at step dst₀ i₀ dst i = length dst₀ - i
 
--- src/lib.rt:86:5
 loop-holds : tie.Need-loop-holds Inv-loop μ-loop
 loop-holds c = (search needs, refl, filled-none _ _)
 
--- src/lib.rt:87:44
 mul-float-at : tie.Need-mul-float-at Inv-loop μ-loop
 mul-float-at c = omega (arith, c .before .before .before .before .pre (c .before .loop .i) (omega arith))
 
--- src/lib.rt:87:39
 mul-float-at-2 : tie.Need-mul-float-at-2 Inv-loop μ-loop
 mul-float-at-2 c = omega (arith, c .before .before .before .before .pre (c .before .loop .i) (omega arith))
 
--- src/lib.rt:87:34
 add-float-at : tie.Need-add-float-at Inv-loop μ-loop
 add-float-at c = omega (arith, c .before .before .before .before .pre (c .before .loop .i) (omega arith))
 
--- src/lib.rt:87:18
 float-at-requires : tie.Need-float-at-requires Inv-loop μ-loop
 float-at-requires c κs = c .before .before .before .before .pre (c .before .loop .i) (omega arith)
 
--- src/lib.rt:87:9
 mul-dst : tie.Need-mul-dst Inv-loop μ-loop
 mul-dst c = omega arith
 
--- src/lib.rt:87:9
 slice-write-dst : tie.Need-slice-write-dst Inv-loop μ-loop
 slice-write-dst c = search needs
 
--- src/lib.rt:88:9
 add-i : tie.Need-add-i Inv-loop μ-loop
 add-i c = search needs
 
--- src/lib.rt:86:5
 loop-less : tie.Need-loop-less Inv-loop μ-loop
 loop-less c = omega arith
 
--- src/lib.rt:86:5
 loop-again : tie.Need-loop-again Inv-loop μ-loop
 loop-again c =
     let inv = c .before .before .loop .inv in
     (omega arith, simp length-set (omega arith), filled-step _ _ _ _ _ (inv .2) (omega arith) (c .float-at .ensures))
 
--- src/lib.rt:81:1
 same-length : tie.Need-same-length Inv-loop μ-loop
 same-length c = c .before .loop .inv .1
 
--- src/lib.rt:81:1
 returns : tie.Need-returns Inv-loop μ-loop
 returns c = c .before .loop .inv .2 ∙ filled-all _ _ _ (omega arith)
 

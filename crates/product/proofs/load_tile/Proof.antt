@@ -9,10 +9,6 @@ use Rattle.product.proofs.Parts.{length-part}
 use Rattle.product.proofs.Tile.{TileTo, tile-more}
 use Rattle.product.proofs.load_tile.Statement.{statement}
 use Rattle.product.proofs.load_tile.Tie as tie
-use Rattle.product.proofs.load_tile.Reads as reads
-use Rattle.product.proofs.load_tile.Lts as lts
-use Rattle.product.proofs.load.Reads as load-reads
-use Rattle.product.proofs.place.Reads as place-reads
 
 abbrev Inv-loop : tie.InvT-loop
 Inv-loop bytes base line step k n c m x₀ i₀ x i =
@@ -21,45 +17,35 @@ Inv-loop bytes base line step k n c m x₀ i₀ x i =
 abbrev μ-loop : tie.MeasureT-loop
 μ-loop bytes base line step k n c m x₀ i₀ x i = n - i
 
--- src/lib.rt:117:5
 loop-holds : tie.Need-loop-holds Inv-loop μ-loop
 loop-holds c = (search needs, refl, λ i' j h h'. absurd (not-suc-le-zero h))
 
--- src/lib.rt:118:45
 add-place : tie.Need-add-place Inv-loop μ-loop
 add-place c = omega arith
 
--- src/lib.rt:118:13
 place-requires : tie.Need-place-requires Inv-loop μ-loop
 place-requires c κs =
     let s = c .before .before .before .before in
     omega (arith, s .pre .5 (s .args .c) (c .before .loop .i) (omega arith) (omega arith))
 
--- src/lib.rt:119:20
 mul-from : tie.Need-mul-from Inv-loop μ-loop
 mul-from c = omega arith
 
--- src/lib.rt:120:19
 add-end : tie.Need-add-end Inv-loop μ-loop
 add-end c = omega arith
 
--- src/lib.rt:121:31
 mul-load : tie.Need-mul-load Inv-loop μ-loop
 mul-load c = omega arith
 
--- src/lib.rt:121:31
 sub-load : tie.Need-sub-load Inv-loop μ-loop
 sub-load c = omega arith
 
--- src/lib.rt:121:31
 part-load-start : tie.Need-part-load-start Inv-loop μ-loop
 part-load-start c = omega arith
 
--- src/lib.rt:121:31
 part-load-end : tie.Need-part-load-end Inv-loop μ-loop
 part-load-end c = omega arith
 
--- src/lib.rt:121:9
 load-requires : tie.Need-load-requires Inv-loop μ-loop
 load-requires c κs =
     let s = c .before .before .before .before .before .before in
@@ -68,15 +54,12 @@ load-requires c κs =
     let e : length (take (w .i * 64 + s .args .m - w .i * 64) (drop (w .i * 64) (w .x))) ≡ w .i * 64 + s .args .m - w .i * 64 = length-part (w .i * 64) (w .i * 64 + s .args .m - w .i * 64) (w .x) (omega arith) in
     omega (arith, s .pre .5 (s .args .c + j) (w .i) (omega arith) (omega arith))
 
--- src/lib.rt:122:9
 add-i : tie.Need-add-i Inv-loop μ-loop
 add-i c = omega arith
 
--- src/lib.rt:117:5
 loop-less : tie.Need-loop-less Inv-loop μ-loop
 loop-less c = omega arith
 
--- src/lib.rt:117:5
 loop-again : tie.Need-loop-again Inv-loop μ-loop
 loop-again c =
     let s = c .before .before .before .before .before .before .before .before .before in
@@ -85,11 +68,9 @@ loop-again c =
     let q = c .before .before .load in
     (omega arith, same-len-mid (w .i * 64) (w .i * 64 + s .args .m - w .i * 64) (w .x) (q .last .1 .1 .1 .0) (q .kept .1 .1 .1 .0) ∙ w .inv .1, tile-more (s .args .bytes .now) (s .args .base) (s .args .line) (s .args .step) (s .args .k) (s .args .c) (s .args .m) (w .i) (w .i * 64 + s .args .m - w .i * 64) (p .result) (w .x) (q .last .1 .1 .1 .0) (p .ensures) (add-sub-cancel-left (w .i * 64) (s .args .m)) (omega arith) (omega arith) (q .ensures) (w .inv .2))
 
--- src/lib.rt:102:1
 same-length : tie.Need-same-length Inv-loop μ-loop
 same-length c = c .before .loop .inv .1
 
--- src/lib.rt:102:1
 returns : tie.Need-returns Inv-loop μ-loop
 returns c = λ i j h h'. c .before .loop .inv .2 i j (omega arith) h'
 

@@ -8,11 +8,6 @@ use Rattle.product.proofs.Terms.{least-above}
 use Rattle.product.proofs.Lower.{lower-ext, lower-none}
 use Rattle.product.proofs.lower_piece.Statement.{statement}
 use Rattle.product.proofs.lower_piece.Tie as tie
-use Rattle.product.proofs.lower_piece.Reads as reads
-use Rattle.product.proofs.lower_piece.Lts as lts
-use Rattle.product.proofs.add_tiles.Reads as add-tiles-reads
-use Rattle.product.proofs.clear.Reads as clear-reads
-use Rattle.product.proofs.least.Reads as least-reads
 
 abbrev Inv-loop : tie.InvT-loop
 Inv-loop bytes offset first line step count height width piece₀ base k₀ piece k =
@@ -21,19 +16,15 @@ Inv-loop bytes offset first line step count height width piece₀ base k₀ piec
 abbrev μ-loop : tie.MeasureT-loop
 μ-loop bytes offset first line step count height width piece₀ base k₀ piece k = count - k
 
--- src/lib.rt:262:5
 clear-requires : tie.Need-clear-requires Inv-loop μ-loop
 clear-requires c κs = tt
 
--- src/lib.rt:264:38
 mul-base : tie.Need-mul-base Inv-loop μ-loop
 mul-base c = omega (arith, c .before .before .before .before .before .before .before .pre .3 0 0 (omega arith) (omega arith))
 
--- src/lib.rt:264:20
 add-base : tie.Need-add-base Inv-loop μ-loop
 add-base c = omega (arith, c .before .before .before .before .before .before .before .pre .3 0 0 (omega arith) (omega arith))
 
--- src/lib.rt:266:9
 loop-holds : tie.Need-loop-holds Inv-loop μ-loop
 loop-holds c =
     let s = c .before .before .before .before .before .before .before in
@@ -41,15 +32,12 @@ loop-holds c =
     let q = c .before .before .before .clear in
     (omega arith, refl, lower-none binary64 (a .height) (a .width) (lineValue (a .bytes .now) (a .offset + 8 * a .first) (a .line) (a .step)) (length (a .piece .now)) (q .last .0) (s .pre .2) (q .ensures))
 
--- src/lib.rt:267:31
 sub-least : tie.Need-sub-least Inv-loop μ-loop
 sub-least c = omega arith
 
--- src/lib.rt:267:17
 least-requires : tie.Need-least-requires Inv-loop μ-loop
 least-requires c κs = tt
 
--- src/lib.rt:268:13
 add-tiles-requires : tie.Need-add-tiles-requires Inv-loop μ-loop
 add-tiles-requires c κs =
     let s = c .before .before .before .before .before .before .before .before .before .before .before in
@@ -57,15 +45,12 @@ add-tiles-requires c κs =
     let l = least-above 32 (c .before .before .before .before .before .before .before .before .before .before .before .args .count - c .before .before .before .loop .k) (c .before .least .result) (omega arith) (omega arith) (c .before .least .ensures) in
     (l .0, l .1, omega arith, s .pre .1, λ r i h h'. omega (arith, s .pre .3 r (w .k + i) h (omega arith)), w .inv .2)
 
--- src/lib.rt:269:13
 add-k : tie.Need-add-k Inv-loop μ-loop
 add-k c = omega arith
 
--- src/lib.rt:266:9
 loop-less : tie.Need-loop-less Inv-loop μ-loop
 loop-less c = omega (arith, least-above 32 (c .before .before .before .before .before .before .before .before .before .before .before .before .before .before .args .count - c .before .before .before .before .before .before .loop .k) (c .before .before .before .before .least .result) (omega arith) (omega arith) (c .before .before .before .before .least .ensures))
 
--- src/lib.rt:266:9
 loop-again : tie.Need-loop-again Inv-loop μ-loop
 loop-again c =
     let w = c .before .before .before .before .before .before .loop in
@@ -73,11 +58,9 @@ loop-again c =
     let l = least-above 32 (c .before .before .before .before .before .before .before .before .before .before .before .before .before .before .args .count - c .before .before .before .before .before .before .loop .k) (c .before .before .before .before .least .result) (omega arith) (omega arith) (c .before .before .before .before .least .ensures) in
     (omega arith, q .kept .1 .1 .1 .1 .1 .1 .1 .1 .0 ∙ w .inv .1, q .ensures)
 
--- src/lib.rt:248:1
 same-length : tie.Need-same-length Inv-loop μ-loop
 same-length c = c .before .loop .inv .1 ∙ c .before .before .before .before .before .clear .kept .0
 
--- src/lib.rt:248:1
 returns : tie.Need-returns Inv-loop μ-loop
 returns c =
     let a = c .before .before .before .before .before .before .before .before .before .args in
@@ -85,11 +68,9 @@ returns c =
     w .inv .2
     ∙ lower-ext binary64 (a .height) (a .width) (lineValue (a .bytes .now) (a .offset + 8 * a .first) (a .line) (a .step)) _ _ (λ r' c' h h' h''. omega arith)
 
--- src/lib.rt:248:1
 same-length-2 : tie.Need-same-length-2 Inv-loop μ-loop
 same-length-2 c = c .before .before .before .clear .kept .0
 
--- src/lib.rt:248:1
 returns-2 : tie.Need-returns-2 Inv-loop μ-loop
 returns-2 c =
     let s = c .before .before .before .before .before .before .before in

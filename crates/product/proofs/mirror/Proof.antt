@@ -7,8 +7,6 @@ use Rattle.product.proofs.Grid.{row-in}
 use Rattle.product.proofs.Mirrored.{mirrored, mirrored-none, mirrored-all, mirrored-skip, mirrored-step}
 use Rattle.product.proofs.mirror.Statement.{statement}
 use Rattle.product.proofs.mirror.Tie as tie
-use Rattle.product.proofs.mirror.Reads as reads
-use Rattle.product.proofs.mirror.Lts as lts
 
 abbrev Inv-loop2 : tie.InvT-loop2
 Inv-loop2 width piece₀ r c₀ piece c =
@@ -24,61 +22,47 @@ Inv-loop width piece₀ r₀ piece r =
 abbrev μ-loop : tie.MeasureT-loop
 μ-loop width piece₀ r₀ piece r = width - r
 
--- src/lib.rt:275:5
 loop-holds : tie.Need-loop-holds Inv-loop2 μ-loop2 Inv-loop μ-loop
 loop-holds c =
     let a = c .args in
     (omega arith, refl, ap (λ (p : ℕ). mirrored (a .width) p (a .piece .now)) (zero-mul (a .width)))
 
--- src/lib.rt:276:21
 add-c : tie.Need-add-c Inv-loop2 μ-loop2 Inv-loop μ-loop
 add-c c = omega arith
 
--- src/lib.rt:277:9
 loop2-holds : tie.Need-loop2-holds Inv-loop2 μ-loop2 Inv-loop μ-loop
 loop2-holds c = (omega arith, omega arith, refl, refl)
 
--- src/lib.rt:278:42
 mul-piece : tie.Need-mul-piece Inv-loop2 μ-loop2 Inv-loop μ-loop
 mul-piece c = omega (arith, row-in (c .before .before .before .before .args .width) (c .before .before .before .before .args .width) (c .before .loop2 .c) (omega arith))
 
--- src/lib.rt:278:42
 add-piece : tie.Need-add-piece Inv-loop2 μ-loop2 Inv-loop μ-loop
 add-piece c = omega (arith, row-in (c .before .before .before .before .args .width) (c .before .before .before .before .args .width) (c .before .loop2 .c) (omega arith))
 
--- src/lib.rt:278:36
 mul-piece-2 : tie.Need-mul-piece-2 Inv-loop2 μ-loop2 Inv-loop μ-loop
 mul-piece-2 c = omega (arith, row-in (c .before .before .before .before .args .width) (c .before .before .before .before .args .width) (c .before .loop2 .c) (omega arith))
 
--- src/lib.rt:278:36
 slice-read-piece : tie.Need-slice-read-piece Inv-loop2 μ-loop2 Inv-loop μ-loop
 slice-read-piece c = omega (arith, row-in (c .before .before .before .before .before .args .width) (c .before .before .before .before .before .args .width) (c .before .before .loop2 .c) (omega arith))
 
--- src/lib.rt:278:19
 mul-piece-3 : tie.Need-mul-piece-3 Inv-loop2 μ-loop2 Inv-loop μ-loop
 mul-piece-3 c = omega (arith, row-in (c .before .before .before .before .before .args .width) (c .before .before .before .before .before .args .width) (c .before .before .before .before .loop .r) (omega arith))
 
--- src/lib.rt:278:19
 add-piece-2 : tie.Need-add-piece-2 Inv-loop2 μ-loop2 Inv-loop μ-loop
 add-piece-2 c = omega (arith, row-in (c .before .before .before .before .before .args .width) (c .before .before .before .before .before .args .width) (c .before .before .before .before .loop .r) (omega arith))
 
--- src/lib.rt:278:13
 mul-piece-4 : tie.Need-mul-piece-4 Inv-loop2 μ-loop2 Inv-loop μ-loop
 mul-piece-4 c = omega (arith, row-in (c .before .before .before .before .before .args .width) (c .before .before .before .before .before .args .width) (c .before .before .before .before .loop .r) (omega arith))
 
--- src/lib.rt:278:13
 slice-write-piece : tie.Need-slice-write-piece Inv-loop2 μ-loop2 Inv-loop μ-loop
 slice-write-piece c = omega (arith, row-in (c .before .before .before .before .before .args .width) (c .before .before .before .before .before .args .width) (c .before .before .before .before .loop .r) (omega arith))
 
--- src/lib.rt:279:13
 add-c-2 : tie.Need-add-c-2 Inv-loop2 μ-loop2 Inv-loop μ-loop
 add-c-2 c = omega arith
 
--- src/lib.rt:277:9
 loop2-less : tie.Need-loop2-less Inv-loop2 μ-loop2 Inv-loop μ-loop
 loop2-less c = omega arith
 
--- src/lib.rt:277:9
 loop2-again : tie.Need-loop2-again Inv-loop2 μ-loop2 Inv-loop μ-loop
 loop2-again c =
     let s = c .before .before .before .before .before in
@@ -86,15 +70,12 @@ loop2-again c =
     let w = c .before .before .loop2 in
     (omega arith, omega arith, simp length-set (omega arith), mirrored-step (s .args .width) (s .pre .0) (w .piece) (v .r) (w .c) (omega arith) (omega arith) (omega arith) ∙ w .inv .3)
 
--- src/lib.rt:281:9
 add-r : tie.Need-add-r Inv-loop2 μ-loop2 Inv-loop μ-loop
 add-r c = omega arith
 
--- src/lib.rt:275:5
 loop-less : tie.Need-loop-less Inv-loop2 μ-loop2 Inv-loop μ-loop
 loop-less c = omega arith
 
--- src/lib.rt:275:5
 loop-again : tie.Need-loop-again Inv-loop2 μ-loop2 Inv-loop μ-loop
 loop-again c =
     let s = c .before .before .before .before in
@@ -104,11 +85,9 @@ loop-again c =
     let e : (v .r + 1) * n ≡ v .r * n + w .c = (let z : w .c ≡ n = omega arith in omega arith) in
     (omega arith, w .inv .2 ∙ v .inv .1, ap (λ (p : ℕ). mirrored n p (w .piece)) e ∙ w .inv .3 ∙ mirrored-skip n (s .pre .0) (v .piece) (v .r) (omega arith) ∙ v .inv .2)
 
--- src/lib.rt:270:1
 same-length : tie.Need-same-length Inv-loop2 μ-loop2 Inv-loop μ-loop
 same-length c = c .before .loop .inv .1
 
--- src/lib.rt:270:1
 returns : tie.Need-returns Inv-loop2 μ-loop2 Inv-loop μ-loop
 returns c =
     let s = c .before .before in
