@@ -1,6 +1,6 @@
 -- From the checks of a piece to what the two calls answer and leave.
 use mathlib.Core.Path.{_≡_, refl, sym, ap, _∙_}
-use mathlib.Core.Bool.{Bool, true, false, _&&_, _||_}
+use mathlib.Core.Bool.{Bool, true, false, _&&_}
 use mathlib.Core.List.{List, [], _∷_}
 use mathlib.Core.Logic.{⊎-elim}
 use Prim.Native.Nat.{ℕ, _+_, _-_, _*_, _≤_, _<_}
@@ -12,7 +12,7 @@ use lib.Ieee.{Float}
 use borrow.Author.Tests.{ltb-true, leb-true, eqb-true, lt-ltb, le-ltb, le-leb, lt-leb, ne-eqb}
 use denote.Enum.Declared.{tagOf}
 use types.Run.{OneOf}
-use Rattle.genotype.specs.Answer.{Answer, done, refused, check, checkCount, countLimit}
+use Rattle.genotype.specs.Answer.{Answer, done, check}
 use Rattle.product.specs.Piece.{goodPiece, enoughBytes, pieceAnswer, leaves, ataAnswer, aatAnswer}
 use Rattle.product.specs.Says.{pieceSays}
 use Rattle.product.specs.Steps.{LinesIn}

@@ -1,12 +1,11 @@
 -- A list that is written from its front on: place i gets g i.
 use mathlib.Core.Path.{_≡_, refl, sym, ap, _∙_}
 use mathlib.Core.List.{List, [], _∷_, _++_, append-nil}
-use Prim.Native.Nat.{ℕ, zero, suc, _+_, _≤_, _<_}
-use native.Mathlib.Nat.{le-refl}
+use Prim.Native.Nat.{ℕ, suc, _+_, _≤_, _<_}
 use native.Mathlib.Numerals.{add-one}
 use native.Mathlib.Omega.{arith}
 use lib.ListN.{length, take, drop, getD, set, length-append, length-drop, drop-of-length-le}
-use lib.Seq.{take-suc, drop-cons, take-length, drop-length, length-take-le, set-at, getD-at, append-snoc, take-all}
+use lib.Seq.{take-suc, drop-cons, length-take-le, set-at, getD-at, append-snoc, take-all}
 use Rattle.genotype.specs.Lists.{tabulate}
 use Rattle.genotype.proofs.Tabulate.{length-tabulate, getD-tabulate}
 

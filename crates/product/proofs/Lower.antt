@@ -1,20 +1,19 @@
 -- Laws of a piece with some terms of each sum on and below the diagonal.
 use mathlib.Core.Path.{_≡_, refl, sym, ap, _∙_}
-use mathlib.Core.Bool.{Bool, true, false, cond}
+use mathlib.Core.Bool.{Bool, cond}
 use mathlib.Core.List.{List}
 use mathlib.Core.Logic.{⊎-elim}
-use Prim.Native.Nat.{ℕ, suc, _+_, _-_, _*_, _/_, _%_, _≤_, _<_}
+use Prim.Native.Nat.{ℕ, _+_, _-_, _*_, _/_, _%_, _≤_, _<_}
 use native.Mathlib.Omega.{arith}
-use lib.Dec.{leb, ltb}
+use lib.Dec.{leb}
 use lib.ListN.{length, take, drop, getD}
 use lib.Seq.{getD-take, getD-drop}
 use lib.Ieee.{Float, nan, Format}
-use borrow.Author.Tests.{le-leb, lt-leb, lt-ltb, le-ltb}
+use borrow.Author.Tests.{le-leb, lt-leb}
 use borrow.Rule.Slice.PartMut.{putMid}
 use Rattle.genotype.specs.Lists.{tabulate}
 use Rattle.genotype.proofs.Tabulate.{length-tabulate, getD-tabulate}
 use Rattle.product.specs.Dot.{plusZero}
-use Rattle.product.specs.Piece.{pieceOf}
 use Rattle.product.specs.Steps.{sumMore, lowerPiece}
 use Rattle.product.proofs.Sums.{sum-add, sum-ext}
 use Rattle.product.proofs.Parts.{below-or, length-part}

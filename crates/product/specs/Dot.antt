@@ -1,5 +1,4 @@
 -- The sum of the products of two lists of floats, at any format.
-use Prim.Native.Nat.{ℕ}
 use mathlib.Core.Bool.{false}
 use mathlib.Core.List.{List, [], _∷_}
 use lib.IntN.{pos}

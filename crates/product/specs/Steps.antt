@@ -2,9 +2,8 @@
 use mathlib.Core.Bool.{cond}
 use mathlib.Core.List.{List}
 use Prim.Native.Nat.{ℕ, zero, suc, _+_, _*_, _<_, _≤_}
-use lib.ListN.{length}
 use lib.Dec.{leb}
-use lib.Ieee.{Float, Format, add, mul, binary64}
+use lib.Ieee.{Float, Format, add, mul}
 use Rattle.product.specs.Values.{floatAt}
 use Rattle.product.specs.Dot.{plusZero}
 use Rattle.product.specs.Piece.{pieceOf}

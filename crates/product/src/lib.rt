@@ -4,7 +4,7 @@ ghost use mathlib.Core.Bool.{cond, _&&_};
 ghost use Prim.Native.Nat.{ℕ, _+_, _*_, _/_, _%_, _^_, _<_, _≤_, min};
 ghost use lib.Dec.{leb, ltb};
 ghost use lib.ListN.{length, getD, take, drop};
-ghost use lib.Ieee.{nan, binary64, ofBits, add, mul};
+ghost use lib.Ieee.{nan, binary64, ofBits};
 ghost use Rattle.genotype.specs.Answer.{countLimit};
 ghost use Rattle.genotype.specs.Lists.{tabulate};
 ghost use Rattle.product.specs.Values.{leNumber, floatAt};
@@ -21,6 +21,11 @@ pub enum PieceAnswer {
     IndexMismatch,
     ReadError,
 }
+
+// The least width of a piece that does not meet 20.
+const ATA_LEAST_WIDTH: usize = 1;
+
+const AAT_LEAST_WIDTH: usize = 0;
 
 // The least of two numbers.
 fn least(a: usize, b: usize) -> usize
@@ -408,7 +413,7 @@ pub fn file_ata_piece_f64(
         col_start,
         height,
         width,
-        1,
+        ATA_LEAST_WIDTH,
         piece.len(),
     );
     let PieceAnswer::Done = answer else {
@@ -452,7 +457,7 @@ pub fn file_aat_piece_f64(
         row_start,
         height,
         width,
-        0,
+        AAT_LEAST_WIDTH,
         piece.len(),
     );
     let PieceAnswer::Done = answer else {

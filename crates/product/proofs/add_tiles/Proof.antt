@@ -1,9 +1,9 @@
 use mathlib.Core.Path.{_≡_, refl, sym, _∙_}
 use mathlib.Core.Bool.{cond}
-use Prim.Native.Nat.{ℕ, _+_, _-_, _*_, _≤_, _<_}
+use Prim.Native.Nat.{_+_, _-_, _≤_}
 use native.Mathlib.Omega.{arith}
 use lib.Dec.{ltb}
-use lib.ListN.{length, getD}
+use lib.ListN.{length}
 use lib.Ieee.{binary64}
 use Rattle.product.specs.Steps.{lineValue, lowerPiece}
 use Rattle.product.proofs.Terms.{least-above, none-passed, all-passed}
@@ -60,7 +60,8 @@ loop-again c =
     let t = c .before .before .before .before .before .before .load-tile in
     let q = c .before .before .add-rows in
     let l = least-above 64 (c .before .before .before .before .before .before .before .before .before .before .before .before .before .args .width - c .before .before .before .before .before .before .before .before .before .before .loop .c) (c .before .before .before .before .before .before .before .before .least .result) (omega arith) (omega arith) (c .before .before .before .before .before .before .before .before .least .ensures) in
-    (omega arith, t .kept .1 .1 .1 .1 .1 .1 .1 .1 .0 ∙ w .inv .1, q .kept .1 .1 .1 .1 .1 .1 .1 .1 .1 .1 .1 .0 ∙ w .inv .2, q .ensures)
+    let e : length (t .last .1 .1 .1 .1 .1 .1 .1 .1 .0) ≡ length (w .x) = t .kept .1 .1 .1 .1 .1 .1 .1 .1 .0 in
+    (omega arith, e ∙ w .inv .1, q .kept .1 .1 .1 .1 .1 .1 .1 .1 .1 .1 .1 .0 ∙ w .inv .2, q .ensures)
 
 same-length : tie.Need-same-length Inv-loop μ-loop
 same-length c = c .before .loop .inv .2

@@ -1,4 +1,3 @@
-use mathlib.Core.Path.{_≡_}
 use native.Mathlib.Omega.{arith}
 use lib.ListN.{length}
 use Rattle.product.specs.Piece.{aatAnswer, aatLeaves}

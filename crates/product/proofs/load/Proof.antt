@@ -4,7 +4,7 @@ use native.Mathlib.Omega.{arith}
 use borrow.Author.Needs.{needs}
 use lib.ListN.{length, length-set}
 use Rattle.product.specs.Values.{floatAt}
-use Rattle.product.proofs.InPlace.{filled, filled-none, filled-step, filled-all, length-filled}
+use Rattle.product.proofs.InPlace.{filled, filled-none, filled-step, filled-all}
 use Rattle.product.proofs.load.Statement.{statement}
 use Rattle.product.proofs.load.Tie as tie
 
