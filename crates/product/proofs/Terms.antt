@@ -2,7 +2,7 @@
 use mathlib.Core.Path.{_≡_, sym, ap, _∙_}
 use mathlib.Core.Bool.{Bool, cond}
 use mathlib.Core.Logic.{⊎-elim}
-use Prim.Native.Nat.{ℕ, _+_, _-_, _≤_, _<_, min}
+use Prim.Native.Nat.{ℕ, _+_, _-_, _*_, _≤_, _<_, min}
 use native.Mathlib.Nat.{min-le-left, min-le-right, min-eq-left, min-eq-right}
 use native.Mathlib.Omega.{arith}
 use lib.Dec.{ltb}
@@ -55,6 +55,10 @@ module _ (k n c m : ℕ) where
 
     pub row-size : (c + size ≤ c + m) × (c + size ≤ r + 1)
     row-size = let e : min m (r - c + 1) ≤ r - c + 1 = min-le-right m (r - c + 1) in omega (arith, size-tile)
+
+    -- and stays within the row
+    pub row-fit : (w len : ℕ) → c + m ≤ w → r * w + w ≤ len → (r * w + c + size ≤ len) × (size ≤ m)
+    row-fit w len b b' = (omega (arith, size-tile), size-tile)
 
     pub row-old : (j : ℕ) → j < size → rowsTo r r (c + j) ≡ k
     row-old j b = waiting r r (c + j) (omega arith) (omega arith)

@@ -28,24 +28,24 @@ aatEntry f values rows columns start r c = cond (leb c r) (product r c) plusZero
     product : ℕ → ℕ → Float
     product r c = dot f (row values rows columns (start + r)) (row values rows columns (start + c))
 
--- what does not meet 20: "start ≥ total, start + height ≠ total, start + width > total"
+-- met by none of 20's "start ≥ total, start + height ≠ total, start + width > total"
 unfoldable pub goodPiece : ℕ → ℕ → ℕ → ℕ → Bool
 goodPiece total start height width = ltb start total && (eqb (start + height) total && leb (start + width) total)
 
--- what does not meet 1: "if rows and columns are both above 0 and the bytes are fewer than offset + 8 × rows × columns"
+-- not met by 1: "if rows and columns are both above 0 and the bytes are fewer than offset + 8 × rows × columns"
 unfoldable pub enoughBytes : ℕ → ℕ → ℕ → ℕ → Bool
-enoughBytes bytes offset rows columns = eqb rows 0 || (eqb columns 0 || leb (offset + 8 * rows * columns) bytes)
+enoughBytes byteCount offset rows columns = eqb rows 0 || (eqb columns 0 || leb (offset + 8 * rows * columns) byteCount)
 
--- "18 comes first." "Then 15, then 1": good says whether the call does not meet 20
+-- "18 comes first", then 20, which is met unless good, "then 15, then 1"
 unfoldable pub pieceAnswer : Bool → ℕ → ℕ → ℕ → ℕ → ℕ → ℕ → ℕ → ℕ → Answer
 unfolding checkCount check enoughBytes
-pieceAnswer good bytes offset rows columns start height width piece =
+pieceAnswer good byteCount offset rows columns start height width pieceLength =
     checkCount rows
     (checkCount columns
     (checkCount start
     (checkCount height
     (checkCount width
-    (check good 20 (check (eqb (height * width) piece) 15 (check (enoughBytes bytes offset rows columns) 1 (done []))))))))
+    (check good 20 (check (eqb (height * width) pieceLength) 15 (check (enoughBytes byteCount offset rows columns) 1 (done []))))))))
 
 -- the list that a call leaves: "Every refusal leaves all lent bytes and values unchanged"
 unfoldable pub leaves : Answer → List Float → List Float → List Float

@@ -9,7 +9,7 @@ use borrow.Rule.Slice.PartMut.{same-len-mid}
 use Rattle.product.specs.Steps.{lineValue, lowerPiece}
 use Rattle.product.proofs.Parts.{length-part}
 use Rattle.product.proofs.Grid.{row-below}
-use Rattle.product.proofs.Terms.{rowsTo, rows-none, rows-all, row-size}
+use Rattle.product.proofs.Terms.{rowsTo, rows-none, rows-all, row-fit}
 use Rattle.product.proofs.Lower.{lower-ext, row-place}
 use Rattle.product.proofs.Turn.{row-turn}
 use Rattle.product.proofs.add_rows.Statement.{statement}
@@ -68,8 +68,15 @@ add-least c = omega arith
 least-requires : tie.Need-least-requires Inv-loop μ-loop
 least-requires c κs = tt
 
+sized : (c : tie.After-least Inv-loop μ-loop) → (c .before .before .before .before .before .before .loop .r * c .before .before .before .before .before .before .before .before .before .args .width + c .before .before .before .before .before .before .before .before .before .args .c + c .least .result ≤ length (c .before .before .before .before .before .before .loop .piece)) × (c .least .result ≤ c .before .before .before .before .before .before .before .before .before .args .m)
+sized c =
+    let s = c .before .before .before .before .before .before .before .before .before in
+    let a = s .args in
+    let w = c .before .before .before .before .before .before .loop in
+    row-fit (a .k) (a .n) (a .c) (a .m) (w .r) (c .least .result) (w .inv .0) (c .least .ensures) (a .width) (length (w .piece)) (s .pre .4) (inside (c .before .before .before .before .before))
+
 add-end : tie.Need-add-end Inv-loop μ-loop
-add-end c = omega (arith, inside (c .before .before .before .before .before), row-size (c .before .before .before .before .before .before .before .before .before .args .k) (c .before .before .before .before .before .before .before .before .before .args .n) (c .before .before .before .before .before .before .before .before .before .args .c) (c .before .before .before .before .before .before .before .before .before .args .m) (c .before .before .before .before .before .before .loop .r) (c .least .result) (omega arith) (c .least .ensures))
+add-end c = omega (arith, sized c)
 
 mul-add-all : tie.Need-mul-add-all Inv-loop μ-loop
 mul-add-all c = omega (arith, inside (c .before .before .before .before .before .before))
@@ -81,7 +88,7 @@ part-add-all-start : tie.Need-part-add-all-start Inv-loop μ-loop
 part-add-all-start c = omega arith
 
 part-add-all-end : tie.Need-part-add-all-end Inv-loop μ-loop
-part-add-all-end c = omega (arith, inside (c .before .before .before .before .before .before), row-size (c .before .before .before .before .before .before .before .before .before .before .args .k) (c .before .before .before .before .before .before .before .before .before .before .args .n) (c .before .before .before .before .before .before .before .before .before .before .args .c) (c .before .before .before .before .before .before .before .before .before .before .args .m) (c .before .before .before .before .before .before .before .loop .r) (c .before .least .result) (omega arith) (c .before .least .ensures))
+part-add-all-end c = omega (arith, sized (c .before))
 
 add-all-requires : tie.Need-add-all-requires Inv-loop μ-loop
 add-all-requires c κs =
@@ -89,8 +96,8 @@ add-all-requires c κs =
     let w = c .before .before .before .before .before .before .before .before .loop in
     let size = c .before .before .least .result in
     let from = w .r * a .width + a .c in
-    let e : length (take (from + size - from) (drop from (w .piece))) ≡ from + size - from = length-part from (from + size - from) (w .piece) (omega (arith, inside (c .before .before .before .before .before .before .before), row-size (c .before .before .before .before .before .before .before .before .before .before .before .args .k) (c .before .before .before .before .before .before .before .before .before .before .before .args .n) (c .before .before .before .before .before .before .before .before .before .before .before .args .c) (c .before .before .before .before .before .before .before .before .before .before .before .args .m) (c .before .before .before .before .before .before .before .before .loop .r) (c .before .before .least .result) (omega arith) (c .before .before .least .ensures))) in
-    (omega arith, omega (arith, row-size (c .before .before .before .before .before .before .before .before .before .before .before .args .k) (c .before .before .before .before .before .before .before .before .before .before .before .args .n) (c .before .before .before .before .before .before .before .before .before .before .before .args .c) (c .before .before .before .before .before .before .before .before .before .before .before .args .m) (c .before .before .before .before .before .before .before .before .loop .r) (c .before .before .least .result) (omega arith) (c .before .before .least .ensures)))
+    let e : length (take (from + size - from) (drop from (w .piece))) ≡ from + size - from = length-part from (from + size - from) (w .piece) (omega (arith, sized (c .before .before))) in
+    (omega arith, omega (arith, sized (c .before .before)))
 
 add-r : tie.Need-add-r Inv-loop μ-loop
 add-r c = omega arith

@@ -60,8 +60,8 @@ loop-again c =
     let t = c .before .before .before .before .before .before .load-tile in
     let q = c .before .before .add-rows in
     let l = least-above 64 (c .before .before .before .before .before .before .before .before .before .before .before .before .before .args .width - c .before .before .before .before .before .before .before .before .before .before .loop .c) (c .before .before .before .before .before .before .before .before .least .result) (omega arith) (omega arith) (c .before .before .before .before .before .before .before .before .least .ensures) in
-    let e : length (t .last .1 .1 .1 .1 .1 .1 .1 .1 .0) ≡ length (w .x) = t .kept .1 .1 .1 .1 .1 .1 .1 .1 .0 in
-    (omega arith, e ∙ w .inv .1, q .kept .1 .1 .1 .1 .1 .1 .1 .1 .1 .1 .1 .0 ∙ w .inv .2, q .ensures)
+    let e : length (t .last .1 .1 .1 .1 .1 .1 .1 .1 .0) ≡ 2048 = omega (arith, t .kept .1 .1 .1 .1 .1 .1 .1 .1 .0, w .inv .1) in
+    (omega arith, e, q .kept .1 .1 .1 .1 .1 .1 .1 .1 .1 .1 .1 .0 ∙ w .inv .2, q .ensures)
 
 same-length : tie.Need-same-length Inv-loop μ-loop
 same-length c = c .before .loop .inv .2

@@ -33,29 +33,34 @@ add-c c = omega arith
 loop2-holds : tie.Need-loop2-holds Inv-loop2 μ-loop2 Inv-loop μ-loop
 loop2-holds c = (omega arith, omega arith, refl, refl)
 
+both-in : (c : tie.In-loop2 Inv-loop2 μ-loop2 Inv-loop μ-loop) → (c .before .before .before .loop .r * c .before .before .before .before .args .width + c .before .before .before .before .args .width ≤ c .before .before .before .before .args .width * c .before .before .before .before .args .width) × (c .before .loop2 .c * c .before .before .before .before .args .width + c .before .before .before .before .args .width ≤ c .before .before .before .before .args .width * c .before .before .before .before .args .width)
+both-in c =
+    let w = c .before .before .before .before .args .width in
+    (row-in w w (c .before .before .before .loop .r) (omega arith), row-in w w (c .before .loop2 .c) (omega arith))
+
 mul-piece : tie.Need-mul-piece Inv-loop2 μ-loop2 Inv-loop μ-loop
-mul-piece c = omega (arith, row-in (c .before .before .before .before .args .width) (c .before .before .before .before .args .width) (c .before .loop2 .c) (omega arith))
+mul-piece c = omega (arith, both-in c)
 
 add-piece : tie.Need-add-piece Inv-loop2 μ-loop2 Inv-loop μ-loop
-add-piece c = omega (arith, row-in (c .before .before .before .before .args .width) (c .before .before .before .before .args .width) (c .before .loop2 .c) (omega arith))
+add-piece c = omega (arith, both-in c)
 
 mul-piece-2 : tie.Need-mul-piece-2 Inv-loop2 μ-loop2 Inv-loop μ-loop
-mul-piece-2 c = omega (arith, row-in (c .before .before .before .before .args .width) (c .before .before .before .before .args .width) (c .before .loop2 .c) (omega arith))
+mul-piece-2 c = omega (arith, both-in c)
 
 slice-read-piece : tie.Need-slice-read-piece Inv-loop2 μ-loop2 Inv-loop μ-loop
-slice-read-piece c = omega (arith, row-in (c .before .before .before .before .before .args .width) (c .before .before .before .before .before .args .width) (c .before .before .loop2 .c) (omega arith))
+slice-read-piece c = omega (arith, both-in (c .before))
 
 mul-piece-3 : tie.Need-mul-piece-3 Inv-loop2 μ-loop2 Inv-loop μ-loop
-mul-piece-3 c = omega (arith, row-in (c .before .before .before .before .before .args .width) (c .before .before .before .before .before .args .width) (c .before .before .before .before .loop .r) (omega arith))
+mul-piece-3 c = omega (arith, both-in (c .before))
 
 add-piece-2 : tie.Need-add-piece-2 Inv-loop2 μ-loop2 Inv-loop μ-loop
-add-piece-2 c = omega (arith, row-in (c .before .before .before .before .before .args .width) (c .before .before .before .before .before .args .width) (c .before .before .before .before .loop .r) (omega arith))
+add-piece-2 c = omega (arith, both-in (c .before))
 
 mul-piece-4 : tie.Need-mul-piece-4 Inv-loop2 μ-loop2 Inv-loop μ-loop
-mul-piece-4 c = omega (arith, row-in (c .before .before .before .before .before .args .width) (c .before .before .before .before .before .args .width) (c .before .before .before .before .loop .r) (omega arith))
+mul-piece-4 c = omega (arith, both-in (c .before))
 
 slice-write-piece : tie.Need-slice-write-piece Inv-loop2 μ-loop2 Inv-loop μ-loop
-slice-write-piece c = omega (arith, row-in (c .before .before .before .before .before .args .width) (c .before .before .before .before .before .args .width) (c .before .before .before .before .loop .r) (omega arith))
+slice-write-piece c = omega (arith, both-in (c .before))
 
 add-c-2 : tie.Need-add-c-2 Inv-loop2 μ-loop2 Inv-loop μ-loop
 add-c-2 c = omega arith
