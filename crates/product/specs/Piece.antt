@@ -28,11 +28,11 @@ aatEntry f values rows columns start r c = cond (leb c r) (product r c) plusZero
     product : ℕ → ℕ → Float
     product r c = dot f (row values rows columns (start + r)) (row values rows columns (start + c))
 
--- met by none of 20's "start ≥ total, start + height ≠ total, start + width > total"
+-- none of 20's "start ≥ total, start + height ≠ total, start + width > total"
 unfoldable pub goodPiece : ℕ → ℕ → ℕ → ℕ → Bool
 goodPiece total start height width = ltb start total && (eqb (start + height) total && leb (start + width) total)
 
--- not met by 1: "if rows and columns are both above 0 and the bytes are fewer than offset + 8 × rows × columns"
+-- 1 is not met: "if rows and columns are both above 0 and the bytes are fewer than offset + 8 × rows × columns"
 unfoldable pub enoughBytes : ℕ → ℕ → ℕ → ℕ → Bool
 enoughBytes byteCount offset rows columns = eqb rows 0 || (eqb columns 0 || leb (offset + 8 * rows * columns) byteCount)
 

@@ -19,7 +19,7 @@ lineValue bytes base line step r k = floatAt bytes (base + 8 * (r * line + k * s
 
 -- values from k on, n of them, of each of so many lines stand in the bytes
 abbrev pub LinesIn : ℕ → ℕ → ℕ → ℕ → ℕ → ℕ → ℕ → Type 0
-LinesIn bytes base line step lines k n = (r i : ℕ) → r < lines → i < n → base + 8 * (r * line + (k + i) * step) + 8 ≤ bytes
+LinesIn byteCount base line step lines k n = (r i : ℕ) → r < lines → i < n → base + 8 * (r * line + (k + i) * step) + 8 ≤ byteCount
 
 -- a piece with +0 above the diagonal, and so many terms of each other sum
 unfoldable pub lowerPiece : Format → ℕ → ℕ → (ℕ → ℕ → Float) → (ℕ → ℕ → ℕ) → List Float

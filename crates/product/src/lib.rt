@@ -138,8 +138,8 @@ fn load_tile(
 }
 
 // Adds the products of place i to each sum.
-fn add_one(x: &[f64; 2048], y: &[f64; 32], i: usize, sums: &mut [f64])
-    requires { ⌜ (i + 1 ≤ 32) × (length (now sums) ≤ 64) ⌝ }
+fn add_one(x: &[f64], y: &[f64; 32], i: usize, sums: &mut [f64])
+    requires { ⌜ (i + 1 ≤ 32) × (length (now x) ≡ 2048) × (length (now sums) ≤ 64) ⌝ }
     ensures { λ _. ⌜ now (sums .exit) ≡ tabulate (length (now (sums .entry))) (λ j. sumMore binary64 (getD (now (sums .entry)) j nan) (λ t. getD (now (y .entry)) (i + t) nan) (λ t. getD (now (x .entry)) ((i + t) * 64 + j) nan) 1) ⌝ }
 {
     let y0 = y[i];
@@ -152,8 +152,8 @@ fn add_one(x: &[f64; 2048], y: &[f64; 32], i: usize, sums: &mut [f64])
 }
 
 // Adds the products of places i to i + 3 to each sum, upward.
-fn add_four(x: &[f64; 2048], y: &[f64; 32], i: usize, sums: &mut [f64])
-    requires { ⌜ (i + 4 ≤ 32) × (length (now sums) ≤ 64) ⌝ }
+fn add_four(x: &[f64], y: &[f64; 32], i: usize, sums: &mut [f64])
+    requires { ⌜ (i + 4 ≤ 32) × (length (now x) ≡ 2048) × (length (now sums) ≤ 64) ⌝ }
     ensures { λ _. ⌜ now (sums .exit) ≡ tabulate (length (now (sums .entry))) (λ j. sumMore binary64 (getD (now (sums .entry)) j nan) (λ t. getD (now (y .entry)) (i + t) nan) (λ t. getD (now (x .entry)) ((i + t) * 64 + j) nan) 4) ⌝ }
 {
     let y0 = y[i];
@@ -172,8 +172,8 @@ fn add_four(x: &[f64; 2048], y: &[f64; 32], i: usize, sums: &mut [f64])
 }
 
 // Adds the products of places 0 to n - 1 to each sum, upward.
-fn add_all(x: &[f64; 2048], y: &[f64; 32], n: usize, sums: &mut [f64])
-    requires { ⌜ (n ≤ 32) × (length (now sums) ≤ 64) ⌝ }
+fn add_all(x: &[f64], y: &[f64; 32], n: usize, sums: &mut [f64])
+    requires { ⌜ (n ≤ 32) × (length (now x) ≡ 2048) × (length (now sums) ≤ 64) ⌝ }
     ensures { λ _. ⌜ now (sums .exit) ≡ tabulate (length (now (sums .entry))) (λ j. sumMore binary64 (getD (now (sums .entry)) j nan) (λ i. getD (now (y .entry)) i nan) (λ i. getD (now (x .entry)) (i * 64 + j) nan) n) ⌝ }
 {
     let mut i = 0;
@@ -197,12 +197,12 @@ fn add_rows(
     n: usize,
     c: usize,
     m: usize,
-    x: &[f64; 2048],
+    x: &[f64],
     height: usize,
     width: usize,
     piece: &mut [f64],
 )
-    requires { ⌜ (0 < n) × (n ≤ 32) × (0 < m) × (m ≤ 64) × (c + m ≤ width) × LinesIn (length (now bytes)) base line step height k n × ((i j : ℕ) → i < n → j < m → getD (now x) (i * 64 + j) nan ≡ lineValue (now bytes) base line step (c + j) (k + i)) × (now piece ≡ lowerPiece binary64 height width (lineValue (now bytes) base line step) (λ r' c'. cond (ltb c' c) (k + n) k)) ⌝ }
+    requires { ⌜ (0 < n) × (n ≤ 32) × (0 < m) × (m ≤ 64) × (c + m ≤ width) × (length (now x) ≡ 2048) × LinesIn (length (now bytes)) base line step height k n × ((i j : ℕ) → i < n → j < m → getD (now x) (i * 64 + j) nan ≡ lineValue (now bytes) base line step (c + j) (k + i)) × (now piece ≡ lowerPiece binary64 height width (lineValue (now bytes) base line step) (λ r' c'. cond (ltb c' c) (k + n) k)) ⌝ }
     ensures { λ _. ⌜ now (piece .exit) ≡ lowerPiece binary64 height width (lineValue (now (bytes .entry)) base line step) (λ r' c'. cond (ltb c' (c + m)) (k + n) k) ⌝ }
 {
     let mut y = [0.0f64; 32];
@@ -227,30 +227,17 @@ fn add_tiles(
     n: usize,
     height: usize,
     width: usize,
+    x: &mut [f64],
     piece: &mut [f64],
 )
-    requires { ⌜ (0 < n) × (n ≤ 32) × (k + n < 2 ^ 64) × (width ≤ height) × LinesIn (length (now bytes)) base line step height k n × (now piece ≡ lowerPiece binary64 height width (lineValue (now bytes) base line step) (λ r c. k)) ⌝ }
+    requires { ⌜ (0 < n) × (n ≤ 32) × (k + n < 2 ^ 64) × (width ≤ height) × (length (now x) ≡ 2048) × LinesIn (length (now bytes)) base line step height k n × (now piece ≡ lowerPiece binary64 height width (lineValue (now bytes) base line step) (λ r c. k)) ⌝ }
     ensures { λ _. ⌜ now (piece .exit) ≡ lowerPiece binary64 height width (lineValue (now (bytes .entry)) base line step) (λ r c. k + n) ⌝ }
 {
-    let mut x = [0.0f64; 2048];
     let mut c = 0;
     while c < width {
         let m = least(64, width - c);
-        load_tile(bytes, base, line, step, k, n, c, m, &mut x);
-        add_rows(
-            bytes,
-            base,
-            line,
-            step,
-            k,
-            n,
-            c,
-            m,
-            &x,
-            height,
-            width,
-            piece,
-        );
+        load_tile(bytes, base, line, step, k, n, c, m, x);
+        add_rows(bytes, base, line, step, k, n, c, m, x, height, width, piece);
         c += m;
     }
 }
@@ -284,10 +271,11 @@ fn lower_piece(
     clear(piece);
     if count > 0 {
         let base = offset as usize + 8 * first;
+        let mut x = [0.0f64; 2048];
         let mut k = 0;
         while k < count {
             let n = least(32, count - k);
-            add_tiles(bytes, base, line, step, k, n, height, width, piece);
+            add_tiles(bytes, base, line, step, k, n, height, width, &mut x, piece);
             k += n;
         }
     }

@@ -27,7 +27,7 @@ add-loop : tie.Need-add-loop Inv-loop μ-loop Inv-loop2 μ-loop2
 add-loop c = omega arith
 
 add-four-requires : tie.Need-add-four-requires Inv-loop μ-loop Inv-loop2 μ-loop2
-add-four-requires c κs = (omega arith, omega arith)
+add-four-requires c κs = (omega arith, omega arith, omega arith)
 
 add-i : tie.Need-add-i Inv-loop μ-loop Inv-loop2 μ-loop2
 add-i c = omega arith
@@ -37,7 +37,7 @@ loop-less c = omega arith
 
 loop-again : tie.Need-loop-again Inv-loop μ-loop Inv-loop2 μ-loop2
 loop-again c =
-    let a = c .before .before .before .before .before .before .before .args in
+    let a = c .before .before .before .before .before .before .before .before .args in
     let w = c .before .before .before .before .before .loop in
     let q = c .before .before .add-four in
     let k : length (q .last .1 .1 .1 .0) ≡ length (w .sums) = q .kept .1 .1 .1 .0 in
@@ -47,7 +47,7 @@ loop2-holds : tie.Need-loop2-holds Inv-loop μ-loop Inv-loop2 μ-loop2
 loop2-holds c = (search needs, refl, refl)
 
 add-one-requires : tie.Need-add-one-requires Inv-loop μ-loop Inv-loop2 μ-loop2
-add-one-requires c κs = (omega arith, omega arith)
+add-one-requires c κs = (omega arith, omega arith, omega arith)
 
 add-i-2 : tie.Need-add-i-2 Inv-loop μ-loop Inv-loop2 μ-loop2
 add-i-2 c = omega arith
@@ -57,7 +57,7 @@ loop2-less c = omega arith
 
 loop2-again : tie.Need-loop2-again Inv-loop μ-loop Inv-loop2 μ-loop2
 loop2-again c =
-    let a = c .before .before .before .before .before .before .before .before .before .args in
+    let a = c .before .before .before .before .before .before .before .before .before .before .args in
     let w = c .before .before .before .before .before .loop2 in
     let q = c .before .before .add-one in
     let k : length (q .last .1 .1 .1 .0) ≡ length (w .sums) = q .kept .1 .1 .1 .0 in
@@ -68,7 +68,7 @@ same-length c = c .before .loop2 .inv .1 ∙ c .before .before .before .loop .in
 
 returns : tie.Need-returns Inv-loop μ-loop Inv-loop2 μ-loop2
 returns c =
-    let a = c .before .before .before .before .before .args in
+    let a = c .before .before .before .before .before .before .args in
     let v = c .before .before .before .loop in
     let w = c .before .loop2 in
     sym (finished-all binary64 (a .x .now) (a .y .now) (a .n) (w .i) (w .sums) (omega arith))

@@ -84,8 +84,8 @@ add-sums c = omega arith
 mul-sums-2 : tie.Need-mul-sums-2 Inv-loop μ-loop
 mul-sums-2 c = omega arith
 
-element-copy-out-sums : tie.Need-element-copy-out-sums Inv-loop μ-loop
-element-copy-out-sums c = omega arith
+shared-slice-read-sums : tie.Need-shared-slice-read-sums Inv-loop μ-loop
+shared-slice-read-sums c = omega arith
 
 add-sums-2 : tie.Need-add-sums-2 Inv-loop μ-loop
 add-sums-2 c = omega arith
@@ -93,8 +93,8 @@ add-sums-2 c = omega arith
 mul-sums-3 : tie.Need-mul-sums-3 Inv-loop μ-loop
 mul-sums-3 c = omega arith
 
-element-copy-out-sums-2 : tie.Need-element-copy-out-sums-2 Inv-loop μ-loop
-element-copy-out-sums-2 c = omega arith
+shared-slice-read-sums-2 : tie.Need-shared-slice-read-sums-2 Inv-loop μ-loop
+shared-slice-read-sums-2 c = omega arith
 
 add-sums-3 : tie.Need-add-sums-3 Inv-loop μ-loop
 add-sums-3 c = omega arith
@@ -102,8 +102,8 @@ add-sums-3 c = omega arith
 mul-sums-4 : tie.Need-mul-sums-4 Inv-loop μ-loop
 mul-sums-4 c = omega arith
 
-element-copy-out-sums-3 : tie.Need-element-copy-out-sums-3 Inv-loop μ-loop
-element-copy-out-sums-3 c = omega arith
+shared-slice-read-sums-3 : tie.Need-shared-slice-read-sums-3 Inv-loop μ-loop
+shared-slice-read-sums-3 c = omega arith
 
 add-sums-4 : tie.Need-add-sums-4 Inv-loop μ-loop
 add-sums-4 c = omega arith
@@ -111,8 +111,8 @@ add-sums-4 c = omega arith
 mul-sums-5 : tie.Need-mul-sums-5 Inv-loop μ-loop
 mul-sums-5 c = omega arith
 
-element-copy-out-sums-4 : tie.Need-element-copy-out-sums-4 Inv-loop μ-loop
-element-copy-out-sums-4 c = omega arith
+shared-slice-read-sums-4 : tie.Need-shared-slice-read-sums-4 Inv-loop μ-loop
+shared-slice-read-sums-4 c = omega arith
 
 mul-sums-6 : tie.Need-mul-sums-6 Inv-loop μ-loop
 mul-sums-6 c = omega arith
@@ -167,16 +167,16 @@ add-four-spec =
     slice-read-sums
     add-sums
     mul-sums-2
-    element-copy-out-sums
+    shared-slice-read-sums
     add-sums-2
     mul-sums-3
-    element-copy-out-sums-2
+    shared-slice-read-sums-2
     add-sums-3
     mul-sums-4
-    element-copy-out-sums-3
+    shared-slice-read-sums-3
     add-sums-4
     mul-sums-5
-    element-copy-out-sums-4
+    shared-slice-read-sums-4
     mul-sums-6
     slice-write-sums
     add-j

@@ -39,8 +39,8 @@ add-sums c = omega arith
 mul-sums-2 : tie.Need-mul-sums-2 Inv-loop μ-loop
 mul-sums-2 c = omega arith
 
-element-copy-out-sums : tie.Need-element-copy-out-sums Inv-loop μ-loop
-element-copy-out-sums c = omega arith
+shared-slice-read-sums : tie.Need-shared-slice-read-sums Inv-loop μ-loop
+shared-slice-read-sums c = omega arith
 
 mul-sums-3 : tie.Need-mul-sums-3 Inv-loop μ-loop
 mul-sums-3 c = omega arith
@@ -80,7 +80,7 @@ add-one-spec =
     slice-read-sums
     add-sums
     mul-sums-2
-    element-copy-out-sums
+    shared-slice-read-sums
     mul-sums-3
     slice-write-sums
     add-j

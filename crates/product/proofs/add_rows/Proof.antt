@@ -24,17 +24,17 @@ abbrev μ-loop : tie.MeasureT-loop
 
 loop-holds : tie.Need-loop-holds Inv-loop μ-loop
 loop-holds c =
-    let s = c .before .before in
+    let s = c .before .before .before in
     let a = s .args in
-    (search needs, refl, refl, s .pre .7 ∙ lower-ext binary64 (a .height) (a .width) (lineValue (a .bytes .now) (a .base) (a .line) (a .step)) _ _ (λ r' c' h h' h''. rows-none (a .k) (a .n) (a .c) (a .m) r' c' h''))
+    (search needs, refl, refl, s .pre .8 ∙ lower-ext binary64 (a .height) (a .width) (lineValue (a .bytes .now) (a .base) (a .line) (a .step)) _ _ (λ r' c' h h' h''. rows-none (a .k) (a .n) (a .c) (a .m) r' c' h''))
 
-inside : (c : tie.In-loop Inv-loop μ-loop) → c .before .loop .r * c .before .before .before .before .args .width + c .before .before .before .before .args .width ≤ length (c .before .loop .piece)
+inside : (c : tie.In-loop Inv-loop μ-loop) → c .before .loop .r * c .before .before .before .before .before .args .width + c .before .before .before .before .before .args .width ≤ length (c .before .loop .piece)
 inside c =
-    let a = c .before .before .before .before .args in
+    let a = c .before .before .before .before .before .args in
     row-place binary64 (a .height) (a .width) (lineValue (a .bytes .now) (a .base) (a .line) (a .step)) (rowsTo (a .k) (a .n) (a .c) (a .m) (c .before .loop .r)) (c .before .loop .piece) (c .before .loop .r) (c .before .loop .inv .3) (omega arith)
 
 place-requires : tie.Need-place-requires Inv-loop μ-loop
-place-requires c κs = omega (arith, c .before .before .before .before .pre .5 (c .before .loop .r) 0 (omega arith) (omega arith))
+place-requires c κs = omega (arith, c .before .before .before .before .before .pre .6 (c .before .loop .r) 0 (omega arith) (omega arith))
 
 sub-load : tie.Need-sub-load Inv-loop μ-loop
 sub-load c = omega arith
@@ -47,11 +47,11 @@ part-y-end c = omega arith
 
 load-requires : tie.Need-load-requires Inv-loop μ-loop
 load-requires c κs =
-    let s = c .before .before .before .before .before .before in
+    let s = c .before .before .before .before .before .before .before in
     let w = c .before .before .before .loop in
     λ i h.
     let e : length (take (s .args .n - 0) (w .y)) ≡ s .args .n - 0 = length-take-le (s .args .n - 0) (w .y) (omega arith) in
-    omega (arith, s .pre .5 (w .r) i (omega arith) (omega arith))
+    omega (arith, s .pre .6 (w .r) i (omega arith) (omega arith))
 
 mul-from : tie.Need-mul-from Inv-loop μ-loop
 mul-from c = omega (arith, inside (c .before .before .before .before))
@@ -68,9 +68,9 @@ add-least c = omega arith
 least-requires : tie.Need-least-requires Inv-loop μ-loop
 least-requires c κs = tt
 
-sized : (c : tie.After-least Inv-loop μ-loop) → (c .before .before .before .before .before .before .loop .r * c .before .before .before .before .before .before .before .before .before .args .width + c .before .before .before .before .before .before .before .before .before .args .c + c .least .result ≤ length (c .before .before .before .before .before .before .loop .piece)) × (c .least .result ≤ c .before .before .before .before .before .before .before .before .before .args .m)
+sized : (c : tie.After-least Inv-loop μ-loop) → (c .before .before .before .before .before .before .loop .r * c .before .before .before .before .before .before .before .before .before .before .args .width + c .before .before .before .before .before .before .before .before .before .before .args .c + c .least .result ≤ length (c .before .before .before .before .before .before .loop .piece)) × (c .least .result ≤ c .before .before .before .before .before .before .before .before .before .before .args .m)
 sized c =
-    let s = c .before .before .before .before .before .before .before .before .before in
+    let s = c .before .before .before .before .before .before .before .before .before .before in
     let a = s .args in
     let w = c .before .before .before .before .before .before .loop in
     row-fit (a .k) (a .n) (a .c) (a .m) (w .r) (c .least .result) (w .inv .0) (c .least .ensures) (a .width) (length (w .piece)) (s .pre .4) (inside (c .before .before .before .before .before))
@@ -92,12 +92,12 @@ part-add-all-end c = omega (arith, sized (c .before))
 
 add-all-requires : tie.Need-add-all-requires Inv-loop μ-loop
 add-all-requires c κs =
-    let a = c .before .before .before .before .before .before .before .before .before .before .before .args in
+    let a = c .before .before .before .before .before .before .before .before .before .before .before .before .args in
     let w = c .before .before .before .before .before .before .before .before .loop in
     let size = c .before .before .least .result in
     let from = w .r * a .width + a .c in
     let e : length (take (from + size - from) (drop from (w .piece))) ≡ from + size - from = length-part from (from + size - from) (w .piece) (omega (arith, sized (c .before .before))) in
-    (omega arith, omega (arith, sized (c .before .before)))
+    (omega arith, c .before .before .before .before .before .before .before .before .before .before .before .before .pre .5, omega (arith, sized (c .before .before)))
 
 add-r : tie.Need-add-r Inv-loop μ-loop
 add-r c = omega arith
@@ -107,7 +107,7 @@ loop-less c = omega arith
 
 loop-again : tie.Need-loop-again Inv-loop μ-loop
 loop-again c =
-    let s = c .before .before .before .before .before .before .before .before .before .before .before .before .before .before in
+    let s = c .before .before .before .before .before .before .before .before .before .before .before .before .before .before .before in
     let a = s .args in
     let w = c .before .before .before .before .before .before .before .before .before .before .before .loop in
     let p = c .before .before .before .before .before .before .before .before .before .place in
@@ -118,7 +118,7 @@ loop-again c =
       omega (arith, w .inv .0),
       length-front (w .y) (y .last .1 .1 .1 .0) (a .n - 0) (y .kept .1 .1 .1 .0) ∙ w .inv .1,
       same-len-mid from (from + size .result - from) (w .piece) (q .last .1 .1 .1 .0) (q .kept .1 .1 .1 .0) ∙ w .inv .2,
-      row-turn (a .bytes .now) (a .base) (a .line) (a .step) (a .k) (a .n) (w .r) (p .result) (w .y) (y .last .1 .1 .1 .0) (p .ensures) (omega (arith, w .inv .1, s .pre .1)) (y .ensures) (a .c) (a .m) (size .result) (a .height) (a .width) (a .x .now) (w .piece) (q .last .1 .1 .1 .0) (c .before .before .before .before .before .before .before .before .before .before .loop-test .taken) (w .inv .0) (s .pre .2) (s .pre .4) (size .ensures) (s .pre .6) (w .inv .3) (q .ensures),
+      row-turn (a .bytes .now) (a .base) (a .line) (a .step) (a .k) (a .n) (w .r) (p .result) (w .y) (y .last .1 .1 .1 .0) (p .ensures) (omega (arith, w .inv .1, s .pre .1)) (y .ensures) (a .c) (a .m) (size .result) (a .height) (a .width) (a .x .now) (w .piece) (q .last .1 .1 .1 .0) (c .before .before .before .before .before .before .before .before .before .before .loop-test .taken) (w .inv .0) (s .pre .2) (s .pre .4) (size .ensures) (s .pre .7) (w .inv .3) (q .ensures),
     )
 
 same-length : tie.Need-same-length Inv-loop μ-loop
@@ -126,7 +126,7 @@ same-length c = c .before .loop .inv .2
 
 returns : tie.Need-returns Inv-loop μ-loop
 returns c =
-    let a = c .before .before .before .before .args in
+    let a = c .before .before .before .before .before .args in
     let w = c .before .loop in
     w .inv .3
     ∙ lower-ext binary64 (a .height) (a .width) (lineValue (a .bytes .now) (a .base) (a .line) (a .step)) _ _ (λ r' c' h h' h''. rows-all (a .k) (a .n) (a .c) (a .m) (w .r) r' c' (row-below (a .height) (a .width) r' c' (w .r) h (omega arith)))

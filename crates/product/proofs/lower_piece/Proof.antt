@@ -1,5 +1,5 @@
-use mathlib.Core.Path.{_≡_, refl, _∙_}
-use Prim.Native.Nat.{_+_, _-_, _*_, _≤_}
+use mathlib.Core.Path.{_≡_, refl, sym, _∙_}
+use Prim.Native.Nat.{_+_, _-_, _*_, _≤_, _<_}
 use native.Mathlib.Omega.{arith}
 use lib.ListN.{length}
 use lib.Ieee.{binary64}
@@ -10,11 +10,11 @@ use Rattle.product.proofs.lower_piece.Statement.{statement}
 use Rattle.product.proofs.lower_piece.Tie as tie
 
 abbrev Inv-loop : tie.InvT-loop
-Inv-loop bytes offset first line step count height width piece₀ base k₀ piece k =
-    (k ≤ count) × (length piece ≡ length piece₀) × (piece ≡ lowerPiece binary64 height width (lineValue bytes base line step) (λ r c. k))
+Inv-loop bytes offset first line step count height width piece₀ base x₀ k₀ piece x k =
+    (k ≤ count) × (length x ≡ 2048) × (length piece ≡ length piece₀) × (piece ≡ lowerPiece binary64 height width (lineValue bytes base line step) (λ r c. k))
 
 abbrev μ-loop : tie.MeasureT-loop
-μ-loop bytes offset first line step count height width piece₀ base k₀ piece k = count - k
+μ-loop bytes offset first line step count height width piece₀ base x₀ k₀ piece x k = count - k
 
 clear-requires : tie.Need-clear-requires Inv-loop μ-loop
 clear-requires c κs = tt
@@ -30,7 +30,7 @@ loop-holds c =
     let s = c .before .before .before .before .before .before .before in
     let a = s .args in
     let q = c .before .before .before .clear in
-    (omega arith, refl, lower-none binary64 (a .height) (a .width) (lineValue (a .bytes .now) (a .offset + 8 * a .first) (a .line) (a .step)) (length (a .piece .now)) (q .last .0) (s .pre .2) (q .ensures))
+    (omega arith, refl, refl, lower-none binary64 (a .height) (a .width) (lineValue (a .bytes .now) (a .offset + 8 * a .first) (a .line) (a .step)) (length (a .piece .now)) (q .last .0) (s .pre .2) (q .ensures))
 
 sub-least : tie.Need-sub-least Inv-loop μ-loop
 sub-least c = omega arith
@@ -38,34 +38,40 @@ sub-least c = omega arith
 least-requires : tie.Need-least-requires Inv-loop μ-loop
 least-requires c κs = tt
 
+sized : (c : tie.After-least Inv-loop μ-loop) → (0 < c .least .result) × (c .least .result ≤ 32) × (c .least .result ≤ c .before .before .before .before .before .before .before .before .before .before .args .count - c .before .before .loop .k)
+sized c = least-above 32 (c .before .before .before .before .before .before .before .before .before .before .args .count - c .before .before .loop .k) (c .least .result) (omega arith) (omega arith) (c .least .ensures)
+
+slice-aggregate-add-tiles : tie.Need-slice-aggregate-add-tiles Inv-loop μ-loop
+slice-aggregate-add-tiles c = sym (c .before .before .before .loop .inv .1)
+
 add-tiles-requires : tie.Need-add-tiles-requires Inv-loop μ-loop
 add-tiles-requires c κs =
-    let s = c .before .before .before .before .before .before .before .before .before .before .before in
-    let w = c .before .before .before .loop in
-    let l = least-above 32 (c .before .before .before .before .before .before .before .before .before .before .before .args .count - c .before .before .before .loop .k) (c .before .least .result) (omega arith) (omega arith) (c .before .least .ensures) in
-    (l .0, l .1, omega arith, s .pre .1, λ r i h h'. omega (arith, s .pre .3 r (w .k + i) h (omega arith)), w .inv .2)
+    let s = c .before .before .before .before .before .before .before .before .before .before .before .before in
+    let w = c .before .before .before .before .loop in
+    let l = sized (c .before .before) in
+    (l .0, l .1, omega arith, s .pre .1, w .inv .1, λ r i h h'. omega (arith, s .pre .3 r (w .k + i) h (omega arith)), w .inv .3)
 
 add-k : tie.Need-add-k Inv-loop μ-loop
 add-k c = omega arith
 
 loop-less : tie.Need-loop-less Inv-loop μ-loop
-loop-less c = omega (arith, least-above 32 (c .before .before .before .before .before .before .before .before .before .before .before .before .before .before .args .count - c .before .before .before .before .before .before .loop .k) (c .before .before .before .before .least .result) (omega arith) (omega arith) (c .before .before .before .before .least .ensures))
+loop-less c = omega (arith, sized (c .before .before .before .before .before .before))
 
 loop-again : tie.Need-loop-again Inv-loop μ-loop
 loop-again c =
-    let w = c .before .before .before .before .before .before .loop in
-    let q = c .before .before .add-tiles in
-    let l = least-above 32 (c .before .before .before .before .before .before .before .before .before .before .before .before .before .before .args .count - c .before .before .before .before .before .before .loop .k) (c .before .before .before .before .least .result) (omega arith) (omega arith) (c .before .before .before .before .least .ensures) in
-    (omega arith, q .kept .1 .1 .1 .1 .1 .1 .1 .1 .0 ∙ w .inv .1, q .ensures)
+    let w = c .before .before .before .before .before .before .before .before .loop in
+    let q = c .before .before .before .add-tiles in
+    let l = sized (c .before .before .before .before .before .before) in
+    (omega (arith, w .inv .0), omega (arith, q .kept .1 .1 .1 .1 .1 .1 .1 .1 .0, w .inv .1), omega (arith, q .kept .1 .1 .1 .1 .1 .1 .1 .1 .1 .0, w .inv .2), q .ensures)
 
 same-length : tie.Need-same-length Inv-loop μ-loop
-same-length c = c .before .loop .inv .1 ∙ c .before .before .before .before .before .clear .kept .0
+same-length c = c .before .loop .inv .2 ∙ c .before .before .before .before .before .clear .kept .0
 
 returns : tie.Need-returns Inv-loop μ-loop
 returns c =
     let a = c .before .before .before .before .before .before .before .before .before .args in
     let w = c .before .loop in
-    w .inv .2
+    w .inv .3
     ∙ lower-ext binary64 (a .height) (a .width) (lineValue (a .bytes .now) (a .offset + 8 * a .first) (a .line) (a .step)) _ _ (λ r' c' h h' h''. omega arith)
 
 same-length-2 : tie.Need-same-length-2 Inv-loop μ-loop
@@ -91,6 +97,7 @@ lower-piece-spec =
     loop-holds
     sub-least
     least-requires
+    slice-aggregate-add-tiles
     add-tiles-requires
     add-k
     loop-less
