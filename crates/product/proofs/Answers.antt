@@ -65,6 +65,14 @@ accepted least total bytes offset rows columns start height width piece x says t
       held = λ p q. leb-true (offset + 8 * rows * columns) bytes (simp (ne-eqb rows 0 (λ z. omega arith), ne-eqb columns 0 (λ z. omega arith)) at (e8 .0));
     }
 
+-- where 1 is not met, the eight bytes of row i of column j stand in the bytes
+pub value-in : (bytes offset rows columns : ℕ) → enoughBytes bytes offset rows columns ≡ true → (i j : ℕ) → i < rows → j < columns → offset + 8 * (j * rows + i) + 8 ≤ bytes
+unfolding enoughBytes
+value-in bytes offset rows columns e i j b b' =
+    let z : j * rows + rows ≤ columns * rows = row-in columns rows j b' in
+    let h : offset + 8 * rows * columns ≤ bytes = leb-true (offset + 8 * rows * columns) bytes (simp (ne-eqb rows 0 (λ q. omega arith), ne-eqb columns 0 (λ q. omega arith)) at e) in
+    omega arith
+
 -- the lines of an accepted call stand in the bytes
 module _ (bytes offset rows columns start height width piece : ℕ) where
   -- columns start, start + 1 and so on

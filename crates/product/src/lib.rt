@@ -100,9 +100,9 @@ fn load(bytes: &[u8], at: usize, step: usize, dst: &mut [f64])
 }
 
 // The pieces are formed from lines of values: columns for A'A, rows for AA'. Value k of line r stands at
-// base + 8 × (r × line + k × step). The sums run in passes of up to 32 values of every line, so each pass reads
-// bytes that no other pass reads, and AA' goes through them once. In a pass the columns of the piece are taken in
-// tiles of up to 64, and the tile's values are made floats once for all rows.
+// base + 8 × (r × line + k × step). The sums grow in passes of up to 32 terms, so AA' goes once through the
+// matrix, 32 columns at a time. In a pass the columns of the piece are taken in tiles of up to 64, whose values
+// are made floats once for all rows.
 
 // Where value k of line r stands.
 fn place(base: usize, line: usize, step: usize, r: usize, k: usize) -> usize
