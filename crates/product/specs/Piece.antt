@@ -58,6 +58,7 @@ unfolding pieceAnswer goodPiece
 ataAnswer bytes offset rows columns start height width piece =
     pieceAnswer (goodPiece columns start height width && ltb 0 width) (length bytes) offset rows columns start height width (length piece)
 
+-- the piece that `file_ata_piece` leaves
 unfoldable pub ataLeaves : List ℕ → ℕ → ℕ → ℕ → ℕ → ℕ → ℕ → List Float → List Float
 ataLeaves bytes offset rows columns start height width piece =
     leaves (ataAnswer bytes offset rows columns start height width piece)
@@ -70,6 +71,7 @@ unfolding pieceAnswer goodPiece
 aatAnswer bytes offset rows columns start height width piece =
     pieceAnswer (goodPiece rows start height width) (length bytes) offset rows columns start height width (length piece)
 
+-- the piece that `file_aat_piece` leaves
 unfoldable pub aatLeaves : List ℕ → ℕ → ℕ → ℕ → ℕ → ℕ → ℕ → List Float → List Float
 aatLeaves bytes offset rows columns start height width piece =
     leaves (aatAnswer bytes offset rows columns start height width piece)

@@ -22,8 +22,10 @@ floatsOf bytes offset count = tabulate count (λ k. floatAt bytes (offset + 8 * 
 unfoldable pub valueAt : List Float → ℕ → ℕ → ℕ → Float
 valueAt values rows i j = getD values (j * rows + i) nan
 
+-- column j, row by row
 unfoldable pub column : List Float → ℕ → ℕ → List Float
 column values rows j = tabulate rows (λ i. valueAt values rows i j)
 
+-- row i, column by column
 unfoldable pub row : List Float → ℕ → ℕ → ℕ → List Float
 row values rows columns i = tabulate columns (λ j. valueAt values rows i j)
