@@ -1,0 +1,14 @@
+pub mod Bytes
+pub mod InPlace
+pub mod Sums
+pub mod Rows
+pub mod Parts
+pub mod Tile
+pub mod Grid
+pub mod Lower
+pub mod Terms
+pub mod Turn
+pub mod Checks
+pub mod Mirrored
+pub mod Pieces
+pub mod Answers

@@ -1,0 +1,186 @@
+use mathlib.Core.Path.{_≡_, refl, _∙_}
+use Prim.Native.Nat.{_-_, _≤_}
+use native.Mathlib.Omega.{arith}
+use borrow.Author.Needs.{needs}
+use lib.ListN.{length, length-set}
+use lib.Ieee.{binary64}
+use Rattle.product.proofs.InPlace.{filled, filled-none, filled-all}
+use Rattle.product.proofs.Rows.{grown, four-step}
+use Rattle.product.proofs.add_four.Statement.{statement}
+use Rattle.product.proofs.add_four.Tie as tie
+
+abbrev Inv-loop : tie.InvT-loop
+Inv-loop x y i sums₀ y0 y1 y2 y3 x0 x1 x2 x3 j₀ sums j = (j ≤ length sums₀) × (length sums ≡ length sums₀) × (sums ≡ filled (grown binary64 x y i 4 sums₀) j sums₀)
+
+abbrev μ-loop : tie.MeasureT-loop
+μ-loop x y i sums₀ y0 y1 y2 y3 x0 x1 x2 x3 j₀ sums j = length sums₀ - j
+
+mul-y0 : tie.Need-mul-y0 Inv-loop μ-loop
+mul-y0 c = omega arith
+
+element-copy-out-y0 : tie.Need-element-copy-out-y0 Inv-loop μ-loop
+element-copy-out-y0 c = omega arith
+
+add-y1 : tie.Need-add-y1 Inv-loop μ-loop
+add-y1 c = omega arith
+
+mul-y1 : tie.Need-mul-y1 Inv-loop μ-loop
+mul-y1 c = omega arith
+
+element-copy-out-y1 : tie.Need-element-copy-out-y1 Inv-loop μ-loop
+element-copy-out-y1 c = omega arith
+
+add-y2 : tie.Need-add-y2 Inv-loop μ-loop
+add-y2 c = omega arith
+
+mul-y2 : tie.Need-mul-y2 Inv-loop μ-loop
+mul-y2 c = omega arith
+
+element-copy-out-y2 : tie.Need-element-copy-out-y2 Inv-loop μ-loop
+element-copy-out-y2 c = omega arith
+
+add-y3 : tie.Need-add-y3 Inv-loop μ-loop
+add-y3 c = omega arith
+
+mul-y3 : tie.Need-mul-y3 Inv-loop μ-loop
+mul-y3 c = omega arith
+
+element-copy-out-y3 : tie.Need-element-copy-out-y3 Inv-loop μ-loop
+element-copy-out-y3 c = omega arith
+
+mul-x0 : tie.Need-mul-x0 Inv-loop μ-loop
+mul-x0 c = omega arith
+
+add-x1 : tie.Need-add-x1 Inv-loop μ-loop
+add-x1 c = omega arith
+
+mul-x1 : tie.Need-mul-x1 Inv-loop μ-loop
+mul-x1 c = omega arith
+
+add-x2 : tie.Need-add-x2 Inv-loop μ-loop
+add-x2 c = omega arith
+
+mul-x2 : tie.Need-mul-x2 Inv-loop μ-loop
+mul-x2 c = omega arith
+
+add-x3 : tie.Need-add-x3 Inv-loop μ-loop
+add-x3 c = omega arith
+
+mul-x3 : tie.Need-mul-x3 Inv-loop μ-loop
+mul-x3 c = omega arith
+
+loop-holds : tie.Need-loop-holds Inv-loop μ-loop
+loop-holds c = (search needs, refl, filled-none _ _)
+
+mul-sums : tie.Need-mul-sums Inv-loop μ-loop
+mul-sums c = omega arith
+
+slice-read-sums : tie.Need-slice-read-sums Inv-loop μ-loop
+slice-read-sums c = omega arith
+
+add-sums : tie.Need-add-sums Inv-loop μ-loop
+add-sums c = omega arith
+
+mul-sums-2 : tie.Need-mul-sums-2 Inv-loop μ-loop
+mul-sums-2 c = omega arith
+
+shared-slice-read-sums : tie.Need-shared-slice-read-sums Inv-loop μ-loop
+shared-slice-read-sums c = omega arith
+
+add-sums-2 : tie.Need-add-sums-2 Inv-loop μ-loop
+add-sums-2 c = omega arith
+
+mul-sums-3 : tie.Need-mul-sums-3 Inv-loop μ-loop
+mul-sums-3 c = omega arith
+
+shared-slice-read-sums-2 : tie.Need-shared-slice-read-sums-2 Inv-loop μ-loop
+shared-slice-read-sums-2 c = omega arith
+
+add-sums-3 : tie.Need-add-sums-3 Inv-loop μ-loop
+add-sums-3 c = omega arith
+
+mul-sums-4 : tie.Need-mul-sums-4 Inv-loop μ-loop
+mul-sums-4 c = omega arith
+
+shared-slice-read-sums-3 : tie.Need-shared-slice-read-sums-3 Inv-loop μ-loop
+shared-slice-read-sums-3 c = omega arith
+
+add-sums-4 : tie.Need-add-sums-4 Inv-loop μ-loop
+add-sums-4 c = omega arith
+
+mul-sums-5 : tie.Need-mul-sums-5 Inv-loop μ-loop
+mul-sums-5 c = omega arith
+
+shared-slice-read-sums-4 : tie.Need-shared-slice-read-sums-4 Inv-loop μ-loop
+shared-slice-read-sums-4 c = omega arith
+
+mul-sums-6 : tie.Need-mul-sums-6 Inv-loop μ-loop
+mul-sums-6 c = omega arith
+
+slice-write-sums : tie.Need-slice-write-sums Inv-loop μ-loop
+slice-write-sums c = omega arith
+
+add-j : tie.Need-add-j Inv-loop μ-loop
+add-j c = omega arith
+
+loop-less : tie.Need-loop-less Inv-loop μ-loop
+loop-less c = omega arith
+
+loop-again : tie.Need-loop-again Inv-loop μ-loop
+loop-again c =
+    let a = c .before .before .before .before .before .before .before .before .before .before .before .args in
+    let w = c .before .before .before .before .before .before .loop in
+    (omega arith, simp length-set (omega arith), four-step binary64 (a .x .now) (a .y .now) (a .sums .now) (w .sums) (a .i) (w .j) (omega arith) (w .inv .2))
+
+same-length : tie.Need-same-length Inv-loop μ-loop
+same-length c = c .before .loop .inv .1
+
+returns : tie.Need-returns Inv-loop μ-loop
+returns c = c .before .loop .inv .2 ∙ filled-all _ _ _ (omega arith)
+
+pub add-four-spec : {M : Type 1} → statement M
+add-four-spec =
+    tie.close
+    (tie.spec
+    Inv-loop
+    μ-loop
+    mul-y0
+    element-copy-out-y0
+    add-y1
+    mul-y1
+    element-copy-out-y1
+    add-y2
+    mul-y2
+    element-copy-out-y2
+    add-y3
+    mul-y3
+    element-copy-out-y3
+    mul-x0
+    add-x1
+    mul-x1
+    add-x2
+    mul-x2
+    add-x3
+    mul-x3
+    loop-holds
+    mul-sums
+    slice-read-sums
+    add-sums
+    mul-sums-2
+    shared-slice-read-sums
+    add-sums-2
+    mul-sums-3
+    shared-slice-read-sums-2
+    add-sums-3
+    mul-sums-4
+    shared-slice-read-sums-3
+    add-sums-4
+    mul-sums-5
+    shared-slice-read-sums-4
+    mul-sums-6
+    slice-write-sums
+    add-j
+    loop-less
+    loop-again
+    same-length
+    returns)

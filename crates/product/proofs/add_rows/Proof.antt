@@ -1,0 +1,161 @@
+use mathlib.Core.Path.{_≡_, refl, _∙_}
+use Prim.Native.Nat.{_+_, _-_, _*_, _≤_}
+use native.Mathlib.Omega.{arith}
+use borrow.Author.Needs.{needs}
+use lib.ListN.{length, take, drop}
+use lib.Seq.{length-take-le, length-front}
+use lib.Ieee.{binary64}
+use borrow.Rule.Slice.PartMut.{same-len-mid}
+use Rattle.product.specs.Steps.{lineValue, lowerPiece}
+use Rattle.product.proofs.Parts.{length-part}
+use Rattle.product.proofs.Grid.{row-below}
+use Rattle.product.proofs.Terms.{rowsTo, rows-none, rows-all, row-fit}
+use Rattle.product.proofs.Lower.{lower-ext, row-place}
+use Rattle.product.proofs.Turn.{row-turn}
+use Rattle.product.proofs.add_rows.Statement.{statement}
+use Rattle.product.proofs.add_rows.Tie as tie
+
+abbrev Inv-loop : tie.InvT-loop
+Inv-loop bytes base line step k n c m x height width piece₀ y₀ r₀ piece y r =
+    (c ≤ r) × (length y ≡ 32) × (length piece ≡ length piece₀) × (piece ≡ lowerPiece binary64 height width (lineValue bytes base line step) (rowsTo k n c m r))
+
+abbrev μ-loop : tie.MeasureT-loop
+μ-loop bytes base line step k n c m x height width piece₀ y₀ r₀ piece y r = height - r
+
+loop-holds : tie.Need-loop-holds Inv-loop μ-loop
+loop-holds c =
+    let s = c .before .before .before in
+    let a = s .args in
+    (search needs, refl, refl, s .pre .8 ∙ lower-ext binary64 (a .height) (a .width) (lineValue (a .bytes .now) (a .base) (a .line) (a .step)) _ _ (λ r' c' h h' h''. rows-none (a .k) (a .n) (a .c) (a .m) r' c' h''))
+
+inside : (c : tie.In-loop Inv-loop μ-loop) → c .before .loop .r * c .before .before .before .before .before .args .width + c .before .before .before .before .before .args .width ≤ length (c .before .loop .piece)
+inside c =
+    let a = c .before .before .before .before .before .args in
+    row-place binary64 (a .height) (a .width) (lineValue (a .bytes .now) (a .base) (a .line) (a .step)) (rowsTo (a .k) (a .n) (a .c) (a .m) (c .before .loop .r)) (c .before .loop .piece) (c .before .loop .r) (c .before .loop .inv .3) (omega arith)
+
+place-requires : tie.Need-place-requires Inv-loop μ-loop
+place-requires c κs = omega (arith, c .before .before .before .before .before .pre .6 (c .before .loop .r) 0 (omega arith) (omega arith))
+
+sub-load : tie.Need-sub-load Inv-loop μ-loop
+sub-load c = omega arith
+
+part-y-start : tie.Need-part-y-start Inv-loop μ-loop
+part-y-start c = omega arith
+
+part-y-end : tie.Need-part-y-end Inv-loop μ-loop
+part-y-end c = omega arith
+
+load-requires : tie.Need-load-requires Inv-loop μ-loop
+load-requires c κs =
+    let s = c .before .before .before .before .before .before .before in
+    let w = c .before .before .before .loop in
+    λ i h.
+    let e : length (take (s .args .n - 0) (w .y)) ≡ s .args .n - 0 = length-take-le (s .args .n - 0) (w .y) (omega arith) in
+    omega (arith, s .pre .6 (w .r) i (omega arith) (omega arith))
+
+mul-from : tie.Need-mul-from Inv-loop μ-loop
+mul-from c = omega (arith, inside (c .before .before .before .before))
+
+add-from : tie.Need-add-from Inv-loop μ-loop
+add-from c = omega (arith, inside (c .before .before .before .before))
+
+sub-least : tie.Need-sub-least Inv-loop μ-loop
+sub-least c = omega arith
+
+add-least : tie.Need-add-least Inv-loop μ-loop
+add-least c = omega arith
+
+least-requires : tie.Need-least-requires Inv-loop μ-loop
+least-requires c κs = tt
+
+sized : (c : tie.After-least Inv-loop μ-loop) → (c .before .before .before .before .before .before .loop .r * c .before .before .before .before .before .before .before .before .before .before .args .width + c .before .before .before .before .before .before .before .before .before .before .args .c + c .least .result ≤ length (c .before .before .before .before .before .before .loop .piece)) × (c .least .result ≤ c .before .before .before .before .before .before .before .before .before .before .args .m)
+sized c =
+    let s = c .before .before .before .before .before .before .before .before .before .before in
+    let a = s .args in
+    let w = c .before .before .before .before .before .before .loop in
+    row-fit (a .k) (a .n) (a .c) (a .m) (w .r) (c .least .result) (w .inv .0) (c .least .ensures) (a .width) (length (w .piece)) (s .pre .4) (inside (c .before .before .before .before .before))
+
+add-end : tie.Need-add-end Inv-loop μ-loop
+add-end c = omega (arith, sized c)
+
+mul-add-all : tie.Need-mul-add-all Inv-loop μ-loop
+mul-add-all c = omega (arith, inside (c .before .before .before .before .before .before))
+
+sub-add-all : tie.Need-sub-add-all Inv-loop μ-loop
+sub-add-all c = omega arith
+
+part-add-all-start : tie.Need-part-add-all-start Inv-loop μ-loop
+part-add-all-start c = omega arith
+
+part-add-all-end : tie.Need-part-add-all-end Inv-loop μ-loop
+part-add-all-end c = omega (arith, sized (c .before))
+
+add-all-requires : tie.Need-add-all-requires Inv-loop μ-loop
+add-all-requires c κs =
+    let a = c .before .before .before .before .before .before .before .before .before .before .before .before .args in
+    let w = c .before .before .before .before .before .before .before .before .loop in
+    let size = c .before .before .least .result in
+    let from = w .r * a .width + a .c in
+    let e : length (take (from + size - from) (drop from (w .piece))) ≡ from + size - from = length-part from (from + size - from) (w .piece) (omega (arith, sized (c .before .before))) in
+    (omega arith, c .before .before .before .before .before .before .before .before .before .before .before .before .pre .5, omega (arith, sized (c .before .before)))
+
+add-r : tie.Need-add-r Inv-loop μ-loop
+add-r c = omega arith
+
+loop-less : tie.Need-loop-less Inv-loop μ-loop
+loop-less c = omega arith
+
+loop-again : tie.Need-loop-again Inv-loop μ-loop
+loop-again c =
+    let s = c .before .before .before .before .before .before .before .before .before .before .before .before .before .before .before in
+    let a = s .args in
+    let w = c .before .before .before .before .before .before .before .before .before .before .before .loop in
+    let p = c .before .before .before .before .before .before .before .before .before .place in
+    let y = c .before .before .before .before .before .before .before .load in
+    let q = c .before .before .add-all in
+    let size = c .before .before .before .before .before .least in
+    let from = w .r * a .width + a .c in (
+      omega (arith, w .inv .0),
+      length-front (w .y) (y .last .1 .1 .1 .0) (a .n - 0) (y .kept .1 .1 .1 .0) ∙ w .inv .1,
+      same-len-mid from (from + size .result - from) (w .piece) (q .last .1 .1 .1 .0) (q .kept .1 .1 .1 .0) ∙ w .inv .2,
+      row-turn (a .bytes .now) (a .base) (a .line) (a .step) (a .k) (a .n) (w .r) (p .result) (w .y) (y .last .1 .1 .1 .0) (p .ensures) (omega (arith, w .inv .1, s .pre .1)) (y .ensures) (a .c) (a .m) (size .result) (a .height) (a .width) (a .x .now) (w .piece) (q .last .1 .1 .1 .0) (c .before .before .before .before .before .before .before .before .before .before .loop-test .taken) (w .inv .0) (s .pre .2) (s .pre .4) (size .ensures) (s .pre .7) (w .inv .3) (q .ensures),
+    )
+
+same-length : tie.Need-same-length Inv-loop μ-loop
+same-length c = c .before .loop .inv .2
+
+returns : tie.Need-returns Inv-loop μ-loop
+returns c =
+    let a = c .before .before .before .before .before .args in
+    let w = c .before .loop in
+    w .inv .3
+    ∙ lower-ext binary64 (a .height) (a .width) (lineValue (a .bytes .now) (a .base) (a .line) (a .step)) _ _ (λ r' c' h h' h''. rows-all (a .k) (a .n) (a .c) (a .m) (w .r) r' c' (row-below (a .height) (a .width) r' c' (w .r) h (omega arith)))
+
+pub add-rows-spec : {M : Type 1} → statement M
+add-rows-spec =
+    tie.close
+    (tie.spec
+    Inv-loop
+    μ-loop
+    loop-holds
+    place-requires
+    sub-load
+    part-y-start
+    part-y-end
+    load-requires
+    mul-from
+    add-from
+    sub-least
+    add-least
+    least-requires
+    add-end
+    mul-add-all
+    sub-add-all
+    part-add-all-start
+    part-add-all-end
+    add-all-requires
+    add-r
+    loop-less
+    loop-again
+    same-length
+    returns)

@@ -1,0 +1,72 @@
+use mathlib.Core.Path.{_≡_, refl, _∙_}
+use Prim.Native.Nat.{_+_, _-_, _*_, _≤_}
+use native.Mathlib.Omega.{arith}
+use borrow.Author.Needs.{needs}
+use lib.ListN.{length, length-set}
+use Rattle.product.specs.Values.{floatAt}
+use Rattle.product.proofs.InPlace.{filled, filled-none, filled-step, filled-all}
+use Rattle.product.proofs.load.Statement.{statement}
+use Rattle.product.proofs.load.Tie as tie
+
+abbrev Inv-loop : tie.InvT-loop
+Inv-loop bytes at step dst₀ i₀ dst i = (i ≤ length dst₀) × (length dst ≡ length dst₀) × (dst ≡ filled (λ j. floatAt bytes (at + 8 * (j * step))) i dst₀)
+
+abbrev μ-loop : tie.MeasureT-loop
+μ-loop bytes at step dst₀ i₀ dst i = length dst₀ - i
+
+loop-holds : tie.Need-loop-holds Inv-loop μ-loop
+loop-holds c = (search needs, refl, filled-none _ _)
+
+mul-float-at : tie.Need-mul-float-at Inv-loop μ-loop
+mul-float-at c = omega (arith, c .before .before .before .before .pre (c .before .loop .i) (omega arith))
+
+mul-float-at-2 : tie.Need-mul-float-at-2 Inv-loop μ-loop
+mul-float-at-2 c = omega (arith, c .before .before .before .before .pre (c .before .loop .i) (omega arith))
+
+add-float-at : tie.Need-add-float-at Inv-loop μ-loop
+add-float-at c = omega (arith, c .before .before .before .before .pre (c .before .loop .i) (omega arith))
+
+float-at-requires : tie.Need-float-at-requires Inv-loop μ-loop
+float-at-requires c κs = c .before .before .before .before .pre (c .before .loop .i) (omega arith)
+
+mul-dst : tie.Need-mul-dst Inv-loop μ-loop
+mul-dst c = omega arith
+
+slice-write-dst : tie.Need-slice-write-dst Inv-loop μ-loop
+slice-write-dst c = search needs
+
+add-i : tie.Need-add-i Inv-loop μ-loop
+add-i c = search needs
+
+loop-less : tie.Need-loop-less Inv-loop μ-loop
+loop-less c = omega arith
+
+loop-again : tie.Need-loop-again Inv-loop μ-loop
+loop-again c =
+    let inv = c .before .before .loop .inv in
+    (omega arith, simp length-set (omega arith), filled-step _ _ _ _ _ (inv .2) (omega arith) (c .float-at .ensures))
+
+same-length : tie.Need-same-length Inv-loop μ-loop
+same-length c = c .before .loop .inv .1
+
+returns : tie.Need-returns Inv-loop μ-loop
+returns c = c .before .loop .inv .2 ∙ filled-all _ _ _ (omega arith)
+
+pub load-spec : {M : Type 1} → statement M
+load-spec =
+    tie.close
+    (tie.spec
+    Inv-loop
+    μ-loop
+    loop-holds
+    mul-float-at
+    mul-float-at-2
+    add-float-at
+    float-at-requires
+    mul-dst
+    slice-write-dst
+    add-i
+    loop-less
+    loop-again
+    same-length
+    returns)
