@@ -1,0 +1,103 @@
+-- What standardising answers and what it leaves in the two lent buffers. Definitions only.
+use mathlib.Core.Bool.{Bool, true, false, cond}
+use mathlib.Core.List.{List, [], _∷_}
+use Prim.Native.Nat.{ℕ, zero, suc, _+_, _*_, _/_, _%_}
+use lib.IntN.{pos}
+use lib.Dec.{eqb}
+use lib.ListN.{length, getD}
+use lib.Ieee.{Float, nan, Format}
+use Rattle.genotype.specs.Answer.{Answer, done, refused, check, checkCount, isDone, ifDone}
+use Rattle.genotype.specs.Lists.{tabulate}
+use Rattle.genotype.specs.Matrix.{matrixPlace, matrix}
+use Rattle.standardise.specs.declared.Stats.{Stats}
+use Rattle.standardise.specs.declared.MarkerStats.{MarkerStats}
+use Rattle.standardise.specs.declared.MarkerStats.the-variants.{Found, NoIndividuals, IllegalSnpMean}
+use Rattle.standardise.specs.declared.StandardiseAnswer.{StandardiseAnswer}
+use Rattle.standardise.specs.declared.StandardiseAnswer.the-variants as answers
+use Rattle.standardise.specs.Statistics.{markerStats, statsPerMarker, inPlaces, statsAt, standardised}
+
+-- document 01's number and values for each case
+unfoldable pub standardiseSays : StandardiseAnswer → Answer
+standardiseSays answers.Done = done []
+standardiseSays answers.CountTooLarge = refused 18 []
+standardiseSays answers.IndexMismatch = refused 15 []
+standardiseSays answers.StatsMismatch = refused 17 []
+standardiseSays (answers.NoIndividuals m) = refused 13 (pos m ∷ [])
+standardiseSays (answers.IllegalSnpMean m) = refused 14 (pos m ∷ [])
+
+-- "13 and 14 carry the marker's place in the matrix, from 0"
+unfoldable pub markerAnswer : ℕ → MarkerStats → Answer
+markerAnswer m (Found s) = done []
+markerAnswer m NoIndividuals = refused 13 (pos m ∷ [])
+markerAnswer m IllegalSnpMean = refused 14 (pos m ∷ [])
+
+-- "lowest refused marker" of the first n: the lowest of those before, or else the last one
+unfoldable pub markersAnswer : (ℕ → MarkerStats) → ℕ → Answer
+unfolding ifDone markerAnswer
+markersAnswer found zero = done []
+markersAnswer found (suc n) = ifDone (markersAnswer found n) (markerAnswer n (found n)) (markersAnswer found n)
+
+-- "Checks: 18, 15, 17, then markers." 15: "value buffer is not the product of .. the two counts";
+-- 17: "statistics buffer is not 2 times the matrix's markers"
+unfoldable pub bufferChecks : ℕ → ℕ → List Float → List Float → Answer → Answer
+unfolding checkCount check
+bufferChecks iids sids val stats markers =
+    checkCount iids
+    (checkCount sids (check (eqb (iids * sids) (length val)) 15 (check (eqb (statsPerMarker * sids) (length stats)) 17 markers)))
+
+-- "At 13 or 14 refused markers keep old statistics, others get new ones": what place c of a marker's statistics holds
+unfoldable pub keptOrNew : MarkerStats → ℕ → Float → Float
+unfolding inPlaces
+keptOrNew (Found s) c old = getD (inPlaces s) c nan
+keptOrNew NoIndividuals c old = old
+keptOrNew IllegalSnpMean c old = old
+
+-- "still applies to every marker not refused": the later value of a marker's value
+unfoldable pub applied : Format → MarkerStats → Float → Float
+unfolding standardised
+applied f (Found s) v = standardised f s v
+applied f NoIndividuals v = v
+applied f IllegalSnpMean v = v
+
+-- A call, on a matrix in animal order (true) or marker order (false).
+module _ (f : Format) (order : Bool) (iids sids : ℕ) (val : List Float) (useStats : Bool) (stats : List Float) where
+  -- the value of animal i at marker m
+  unfoldable pub value : ℕ → ℕ → Float
+  unfolding matrixPlace
+  value i m = getD val (matrixPlace order iids sids i m) nan
+
+  -- "With lent statistics nothing is recomputed or refused for 13, 14.": what is found for marker m
+  unfoldable pub found : ℕ → MarkerStats
+  unfolding markerStats statsAt value
+  found m = cond useStats (Found (statsAt stats m)) (markerStats f iids (λ i. value i m))
+
+  -- the lowest refused marker
+  unfoldable pub lowestRefused : Answer
+  unfolding markersAnswer found
+  lowestRefused = markersAnswer found sids
+
+  unfoldable pub standardiseAnswer : Answer
+  unfolding bufferChecks lowestRefused
+  standardiseAnswer = bufferChecks iids sids val stats lowestRefused
+
+  -- the statistics afterwards: place p is place p mod 2 of marker p / 2
+  unfoldable pub laterStats : List Float
+  unfolding ifDone bufferChecks found keptOrNew
+  laterStats =
+      ifDone (bufferChecks iids sids val stats (done []))
+      (cond useStats stats
+      (tabulate (statsPerMarker * sids) (λ p. keptOrNew (found (p / statsPerMarker)) (p % statsPerMarker) (getD stats p nan))))
+      stats
+
+  -- "The marker-order standardiser still applies to every marker not refused; the animal-order one changes no value."
+  unfoldable pub mayChange : Bool
+  unfolding isDone lowestRefused
+  mayChange = cond order (isDone lowestRefused) true
+
+  -- the values afterwards. "without applying no value changes"
+  unfoldable pub laterValues : Bool → List Float
+  unfolding ifDone bufferChecks mayChange found applied value matrix
+  laterValues apply =
+      ifDone (bufferChecks iids sids val stats (done []))
+      (cond apply (matrix order iids sids (λ i m. cond mayChange (applied f (found m) (value i m)) (value i m))) val)
+      val
