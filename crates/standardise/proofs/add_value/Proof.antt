@@ -1,15 +1,15 @@
+-- `add_value` is `counted`.
+use lib.Ieee.{ofBits, binary64}
+use Rattle.standardise.proofs.FloatLaws.{nan-counted, number-counted}
 use Rattle.standardise.proofs.add_value.Statement.{statement}
 use Rattle.standardise.proofs.add_value.Tie as tie
-use Rattle.standardise.proofs.add_value.Reads as reads
-use Rattle.standardise.proofs.add_value.Lts as lts
 
--- src/lib.rt:50:9
 returns : tie.Need-returns
-returns c = ?
+returns c = nan-counted binary64 _ _ (c .if1 .taken)
 
--- src/lib.rt:46:1
 returns-2 : tie.Need-returns-2
-returns-2 c = ?
+unfolding ofBits
+returns-2 c = number-counted binary64 _ _ (c .before .before .before .if1 .left)
 
 pub add-value-spec : {M : Type 1} → statement M
 add-value-spec = tie.close (tie.spec returns returns-2)

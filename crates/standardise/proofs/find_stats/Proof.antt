@@ -1,33 +1,32 @@
+-- `find_stats` is `statsFrom`, test by test.
+use lib.Ieee.{binary64, ofBits, div}
+use Rattle.standardise.proofs.FloatLaws.{few-none, mean-nan, deviation-nan, deviation-low, deviation-found}
 use borrow.Author.Needs.{needs}
 use Rattle.standardise.proofs.find_stats.Statement.{statement}
 use Rattle.standardise.proofs.find_stats.Tie as tie
-use Rattle.standardise.proofs.find_stats.Reads as reads
-use Rattle.standardise.proofs.find_stats.Lts as lts
-use Rattle.root.proofs.root_f64.Reads as root-f64-reads
 
--- src/lib.rt:64:9
 returns : tie.Need-returns
-returns c = ?
+unfolding ofBits
+returns c = few-none binary64 _ (c .if1 .taken)
 
--- src/lib.rt:68:9
 returns-2 : tie.Need-returns-2
-returns-2 c = ?
+unfolding ofBits
+returns-2 c = mean-nan binary64 _ (c .before .before .if1 .left) (c .if2 .taken)
 
--- src/lib.rt:71:9
 root-f64-requires : tie.Need-root-f64-requires
 root-f64-requires c κs = search needs
 
--- src/lib.rt:73:9
 returns-3 : tie.Need-returns-3
-returns-3 c = ?
+unfolding ofBits div
+returns-3 c = deviation-nan binary64 _ (c .before .before .before .before .before .if1 .left) (c .before .before .before .if2 .left) _ (c .before .root-f64 .ensures) (c .if3 .taken)
 
--- src/lib.rt:76:9
 returns-4 : tie.Need-returns-4
-returns-4 c = ?
+unfolding ofBits div
+returns-4 c = deviation-low binary64 _ (c .before .before .before .before .before .before .if1 .left) (c .before .before .before .before .if2 .left) _ (c .before .before .root-f64 .ensures) (c .before .if3 .left) (c .if4 .taken)
 
--- src/lib.rt:60:1
 returns-5 : tie.Need-returns-5
-returns-5 c = ?
+unfolding ofBits
+returns-5 c = deviation-found binary64 _ (c .before .before .before .before .before .before .if1 .left) (c .before .before .before .before .if2 .left) _ (c .before .before .root-f64 .ensures) (c .before .if3 .left) (c .if4 .left)
 
 pub find-stats-spec : {M : Type 1} → statement M
 find-stats-spec =

@@ -1,19 +1,20 @@
+-- `scaled` is `scaledBy`, test by test.
+use lib.Ieee.{binary64, ofBits}
+use Rattle.standardise.proofs.FloatLaws.{scaled-infinite, scaled-nan, scaled-number}
 use Rattle.standardise.proofs.scaled.Statement.{statement}
 use Rattle.standardise.proofs.scaled.Tie as tie
-use Rattle.standardise.proofs.scaled.Reads as reads
-use Rattle.standardise.proofs.scaled.Lts as lts
 
--- src/lib.rt:101:9
 returns : tie.Need-returns
-returns c = ?
+unfolding ofBits
+returns c = scaled-infinite binary64 _ _ _ _ (c .if1 .taken)
 
--- src/lib.rt:104:9
 returns-2 : tie.Need-returns-2
-returns-2 c = ?
+unfolding ofBits
+returns-2 c = scaled-nan binary64 _ _ _ _ (c .if2 .taken)
 
--- src/lib.rt:97:1
 returns-3 : tie.Need-returns-3
-returns-3 c = ?
+unfolding ofBits
+returns-3 c = scaled-number binary64 _ _ _ _ (c .before .if1 .left) (c .if2 .left)
 
 pub scaled-spec : {M : Type 1} → statement M
 scaled-spec = tie.close (tie.spec returns returns-2 returns-3)
