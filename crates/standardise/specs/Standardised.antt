@@ -1,20 +1,19 @@
 -- What standardising answers and what it leaves in the two lent buffers. Definitions only.
-use mathlib.Core.Bool.{Bool, true, false, cond}
+use mathlib.Core.Bool.{Bool, true, false, _&&_, cond}
 use mathlib.Core.List.{List, [], _∷_}
-use Prim.Native.Nat.{ℕ, zero, suc, _+_, _*_, _/_, _%_}
+use Prim.Native.Nat.{ℕ, zero, suc, _+_, _*_}
 use lib.IntN.{pos}
 use lib.Dec.{eqb}
 use lib.ListN.{length, getD}
 use lib.Ieee.{Float, nan, Format}
 use Rattle.genotype.specs.Answer.{Answer, done, refused, check, checkCount, isDone, ifDone}
-use Rattle.genotype.specs.Lists.{tabulate}
 use Rattle.genotype.specs.Matrix.{matrixPlace, matrix}
 use Rattle.standardise.specs.declared.Stats.{Stats}
 use Rattle.standardise.specs.declared.MarkerStats.{MarkerStats}
 use Rattle.standardise.specs.declared.MarkerStats.the-variants.{Found, NoIndividuals, IllegalSnpMean}
 use Rattle.standardise.specs.declared.StandardiseAnswer.{StandardiseAnswer}
 use Rattle.standardise.specs.declared.StandardiseAnswer.the-variants as answers
-use Rattle.standardise.specs.Statistics.{markerStats, statsPerMarker, inPlaces, statsAt, standardised}
+use Rattle.standardise.specs.Statistics.{foundFor, statsPerMarker, inPlaces, statsAt, standardised}
 
 -- document 01's number and values for each case
 unfoldable pub standardiseSays : StandardiseAnswer → Answer
@@ -66,12 +65,12 @@ module _ (f : Format) (order : Bool) (iids sids : ℕ) (val : List Float) (useSt
   unfolding matrixPlace
   value i m = getD val (matrixPlace order iids sids i m) nan
 
-  -- "With lent statistics nothing is recomputed or refused for 13, 14.": what is found for marker m
+  -- what is found for marker m
   unfoldable pub found : ℕ → MarkerStats
-  unfolding markerStats statsAt value
-  found m = cond useStats (Found (statsAt stats m)) (markerStats f iids (λ i. value i m))
+  unfolding foundFor statsAt value
+  found m = foundFor f useStats (statsAt stats m) iids (λ i. value i m)
 
-  -- the lowest refused marker
+  -- the answer of the markers: the lowest refused one's
   unfoldable pub lowestRefused : Answer
   unfolding markersAnswer found
   lowestRefused = markersAnswer found sids
@@ -80,24 +79,26 @@ module _ (f : Format) (order : Bool) (iids sids : ℕ) (val : List Float) (useSt
   unfolding bufferChecks lowestRefused
   standardiseAnswer = bufferChecks iids sids val stats lowestRefused
 
-  -- the statistics afterwards: place p is place p mod 2 of marker p / 2
-  unfoldable pub laterStats : List Float
-  unfolding ifDone bufferChecks found keptOrNew
-  laterStats =
-      ifDone (bufferChecks iids sids val stats (done []))
-      (cond useStats stats
-      (tabulate (statsPerMarker * sids) (λ p. keptOrNew (found (p / statsPerMarker)) (p % statsPerMarker) (getD stats p nan))))
-      stats
+  -- the statistics once the buffers are checked; as a matrix in marker order they have number c of marker m at 2m + c
+  unfoldable pub newStats : List Float
+  unfolding found keptOrNew matrix
+  newStats = cond useStats stats (matrix false statsPerMarker sids (λ c m. keptOrNew (found m) c (getD stats (m * statsPerMarker + c) nan)))
 
   -- "The marker-order standardiser still applies to every marker not refused; the animal-order one changes no value."
   unfoldable pub mayChange : Bool
   unfolding isDone lowestRefused
   mayChange = cond order (isDone lowestRefused) true
 
-  -- the values afterwards. "without applying no value changes"
+  -- the values once the buffers are checked. "without applying no value changes"
+  unfoldable pub newValues : Bool → List Float
+  unfolding mayChange found applied value matrix
+  newValues apply = cond (apply && mayChange) (matrix order iids sids (λ i m. applied f (found m) (value i m))) val
+
+  -- "Every refusal leaves all lent bytes and values unchanged, except .. at 13 and 14": the two buffers afterwards
+  unfoldable pub laterStats : List Float
+  unfolding ifDone bufferChecks newStats
+  laterStats = ifDone (bufferChecks iids sids val stats (done [])) newStats stats
+
   unfoldable pub laterValues : Bool → List Float
-  unfolding ifDone bufferChecks mayChange found applied value matrix
-  laterValues apply =
-      ifDone (bufferChecks iids sids val stats (done []))
-      (cond apply (matrix order iids sids (λ i m. cond mayChange (applied f (found m) (value i m)) (value i m))) val)
-      val
+  unfolding ifDone bufferChecks newValues
+  laterValues apply = ifDone (bufferChecks iids sids val stats (done [])) (newValues apply) val

@@ -62,6 +62,12 @@ unfolding accumulated mean statsOf noValue
 markerStats f n column =
     let a = accumulated f column n in cond (noValue column n) NoIndividuals (cond (isNan (mean f a)) IllegalSnpMean (Found (statsOf f a)))
 
+-- "With lent statistics nothing is recomputed or refused for 13, 14.": what is found for a marker, whose lent statistics are s if some are lent
+unfoldable pub foundFor : Format → Bool → Stats → ℕ → (ℕ → Float) → MarkerStats
+unfolding markerStats
+foundFor f true s n column = Found s
+foundFor f false s n column = markerStats f n column
+
 -- how many places a marker has in the statistics buffer, and its numbers in the order of their places:
 -- "its two statistics places, 2m and 2m + 1 for marker m"
 abbrev pub statsPerMarker : ℕ

@@ -8,6 +8,7 @@ use Rattle.standardise.specs.declared.Accumulator.{Accumulator}
 use Rattle.standardise.specs.declared.MarkerStats.{MarkerStats}
 use Rattle.standardise.specs.declared.MarkerStats.the-variants.{Found, NoIndividuals, IllegalSnpMean}
 use Rattle.standardise.specs.Statistics.{plusZero, one, mean, statsOf}
+use Rattle.standardise.specs.Standardised.{keptOrNew, applied}
 
 -- what an accumulator says of its marker: it has no non-NaN value if its count is below 1
 unfoldable pub statsFrom : Format → Accumulator → MarkerStats
@@ -18,10 +19,26 @@ statsFrom f a = cond (lt (a .count) one) NoIndividuals (cond (isNan (mean f a)) 
 unfoldable pub scaledBy : Format → Float → Float → Bool → Float → Float
 scaledBy f mean factor infinite v = cond (isNan v || infinite) plusZero (mul f (sub f v mean) factor)
 
+-- the later number of a marker's statistics, and the later value of one of its values, by the two choices
+unfoldable pub laterStat : Bool → MarkerStats → ℕ → Float → Float
+unfolding keptOrNew
+laterStat useStats found c old = cond useStats old (keptOrNew found c old)
+
+unfoldable pub laterValue : Format → Bool → MarkerStats → Float → Float
+unfolding applied
+laterValue f apply found v = cond apply (applied f found v) v
+
 -- a list after the first k of a row of stores: of `value j` at `place j`
 unfoldable pub written : List Float → (ℕ → ℕ) → (ℕ → Float) → ℕ → List Float
 written xs place value zero = xs
 written xs place value (suc k) = set (written xs place value k) (place k) (value k)
+
+-- the values from a place on, and a list whose n values from a place on are changed
+abbrev pub from : List Float → ℕ → ℕ → Float
+from xs start i = getD xs (start + i) nan
+
+abbrev pub changed : List Float → ℕ → ℕ → (Float → Float) → List Float
+changed xs start n change = written xs (λ i. start + i) (λ i. change (from xs start i)) n
 
 -- the accumulator that stands at place j of three lists
 abbrev pub accumulatorAt : List Float → List Float → List Float → ℕ → Accumulator

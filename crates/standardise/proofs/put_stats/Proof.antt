@@ -1,6 +1,7 @@
 -- `put_stats` writes the places of marker m.
 use native.Mathlib.Omega.{arith}
 use lib.ListN.{length-set}
+use Rattle.standardise.proofs.ChoiceLaws.{stored}
 use borrow.Author.Needs.{needs}
 use Rattle.standardise.proofs.put_stats.Statement.{statement}
 use Rattle.standardise.proofs.put_stats.Tie as tie
@@ -27,7 +28,7 @@ same-length : tie.Need-same-length
 same-length c = search needs
 
 returns : tie.Need-returns
-returns c = search needs
+returns c = stored (c .args .stats .now) (c .args .m) (c .args .s)
 
 pub put-stats-spec : {M : Type 1} → statement M
 put-stats-spec =

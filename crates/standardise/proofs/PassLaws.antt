@@ -1,0 +1,185 @@
+-- Going through the markers one after the other.
+use mathlib.Core.Path.{_≡_, refl, sym, ap, subst, _∙_}
+use mathlib.Core.Bool.{Bool, true, false, _&&_, cond}
+use mathlib.Core.List.{List, []}
+use Prim.Native.Nat.{ℕ, zero, suc, _+_, _*_, _<_, _≤_}
+use native.Mathlib.Numerals.{add-one}
+use native.Mathlib.Nat.{add-zero, mul-comm, mul-le-mul-right, suc-mul}
+use native.Mathlib.Omega.{arith}
+use lib.ListN.{length, getD}
+use lib.Ieee.{Float, nan, Format}
+use Rattle.genotype.specs.Answer.{Answer, done, ifDone}
+use Rattle.genotype.specs.Matrix.{matrixPlace, matrix}
+use Rattle.standardise.specs.declared.Stats.{Stats}
+use Rattle.standardise.specs.declared.MarkerStats.{MarkerStats}
+use Rattle.standardise.specs.Statistics.{statsPerMarker, statsAt, foundFor}
+use Rattle.standardise.specs.Standardised.{markerAnswer, markersAnswer, keptOrNew, applied, value, found, lowestRefused, newStats, mayChange, newValues}
+use Rattle.standardise.specs.Steps.{laterStat, laterValue, written, from, changed}
+use Rattle.genotype.proofs.MatrixLaws.{length-matrix}
+use Rattle.standardise.proofs.CellLaws.{own-cells, matrix-ext, upTo, column-more, column-old, none-new, all-new}
+use Rattle.standardise.proofs.CountLaws.{foundFor-ext}
+
+-- ---- the answer
+module _ (found : ℕ → MarkerStats) where
+  pub answer-more : (m : ℕ) (a b : Answer) (r : MarkerStats) → a ≡ markersAnswer found m → r ≡ found m → b ≡ ifDone a (markerAnswer m r) a
+      → b ≡ markersAnswer found (m + 1)
+  unfolding markersAnswer
+  answer-more m a b r e g h =
+      h
+      ∙ ap (λ (x : Answer). ifDone x (markerAnswer m r) x) e
+      ∙ ap (λ (x : MarkerStats). ifDone (markersAnswer found m) (markerAnswer m x) (markersAnswer found m)) g
+      ∙ ap (markersAnswer found) (sym (add-one m))
+
+  pub answer-all : (m n : ℕ) (a : Answer) → a ≡ markersAnswer found m → m ≤ n → n ≤ m → a ≡ markersAnswer found n
+  answer-all m n a e h k = let z : m ≡ n = omega arith in e ∙ ap (markersAnswer found) z
+
+-- ---- the statistics
+abbrev pairOf : Float → Float → Stats
+pairOf x y = record { mean = x; deviation = y }
+
+-- number c of marker m, before and after
+abbrev pub oldStat : List Float → ℕ → ℕ → Float
+oldStat stats c m = getD stats (m * statsPerMarker + c) nan
+
+abbrev pub newStat : Bool → (ℕ → MarkerStats) → List Float → ℕ → ℕ → Float
+newStat useStats found stats c m = laterStat useStats (found m) c (oldStat stats c m)
+
+module _ (sids : ℕ) (useStats : Bool) (found : ℕ → MarkerStats) (stats : List Float) (l : statsPerMarker * sids ≡ length stats) where
+  stats-own : stats ≡ matrix false statsPerMarker sids (oldStat stats)
+  unfolding matrixPlace
+  stats-own = own-cells false statsPerMarker sids stats (sym l)
+
+  pub stats-none : stats ≡ matrix false statsPerMarker sids (upTo 0 (newStat useStats found stats) (oldStat stats))
+  stats-none = stats-own ∙ none-new false statsPerMarker sids (newStat useStats found stats) (oldStat stats)
+
+  module _ (m : ℕ) (h : m < sids) (now : List Float) (e : now ≡ matrix false statsPerMarker sids (upTo m (newStat useStats found stats) (oldStat stats))) where
+    pub stat-old : (c : ℕ) → c < statsPerMarker → oldStat now c m ≡ oldStat stats c m
+    stat-old c k =
+        ap (λ (x : List Float). getD x (m * statsPerMarker + c) nan) e
+        ∙ column-old statsPerMarker sids (newStat useStats found stats) (oldStat stats) m c h k
+
+    pub statsAt-old : statsAt now m ≡ statsAt stats m
+    unfolding statsAt
+    statsAt-old =
+        let z : getD now (m * 2) nan ≡ getD stats (m * 2) nan = (
+          ap (λ (x : ℕ). getD now x nan) (sym (add-zero (m * 2)))
+          ∙ stat-old 0 (omega arith)
+          ∙ ap (λ (x : ℕ). getD stats x nan) (add-zero (m * 2))
+        ) in
+        ap (λ (x : Float). pairOf x (getD now (m * 2 + 1) nan)) z ∙ ap (pairOf (getD stats (m * 2) nan)) (stat-old 1 (omega arith))
+
+    pub stats-more : (later : List Float) (r : MarkerStats) → r ≡ found m
+        → later ≡ written now (λ c. m * statsPerMarker + c) (λ c. laterStat useStats r c (oldStat now c m)) statsPerMarker
+        → later ≡ matrix false statsPerMarker sids (upTo (m + 1) (newStat useStats found stats) (oldStat stats))
+    stats-more later r g w =
+        w
+        ∙ ap (λ (x : List Float). written x (λ c. m * statsPerMarker + c) (λ c. laterStat useStats r c (oldStat now c m)) statsPerMarker) e
+        ∙ column-more statsPerMarker sids (newStat useStats found stats) (oldStat stats) m h (λ c. laterStat useStats r c (oldStat now c m))
+        (λ c k. ap (λ (x : MarkerStats). laterStat useStats x c (oldStat now c m)) g ∙ ap (laterStat useStats (found m) c) (stat-old c k))
+
+  pub stats-all : (m : ℕ) (now : List Float) → now ≡ matrix false statsPerMarker sids (upTo m (newStat useStats found stats) (oldStat stats)) → sids ≤ m
+      → now ≡ cond useStats stats (matrix false statsPerMarker sids (λ c k. keptOrNew (found k) c (oldStat stats c k)))
+  unfolding laterStat
+  stats-all m now e h = e ∙ all-new false statsPerMarker sids (newStat useStats found stats) (oldStat stats) m h ∙ choice useStats
+    where
+      choice : (b : Bool) → matrix false statsPerMarker sids (newStat b found stats) ≡ cond b stats (matrix false statsPerMarker sids (λ c k. keptOrNew (found k) c (oldStat stats c k)))
+      choice true = sym stats-own
+      choice false = refl
+
+-- ---- the values, in marker order
+module _ (f : Format) (iids sids : ℕ) (apply : Bool) (found : ℕ → MarkerStats) (val : List Float) where
+  abbrev oldCell : ℕ → ℕ → Float
+  oldCell i m = getD val (m * iids + i) nan
+
+  abbrev newCell : ℕ → ℕ → Float
+  newCell i m = laterValue f apply (found m) (oldCell i m)
+
+  abbrev pub ValuesPassed : ℕ → List Float → Type 0
+  ValuesPassed m now = now ≡ matrix false iids sids (upTo m newCell oldCell)
+
+  module _ (m : ℕ) (h : m < sids) (now : List Float) (e : ValuesPassed m now) where
+    pub value-old : (i : ℕ) → i < iids → from now (m * iids) i ≡ oldCell i m
+    value-old i k = ap (λ (x : List Float). getD x (m * iids + i) nan) e ∙ column-old iids sids newCell oldCell m i h k
+
+    pub values-more : (later : List Float) (r : MarkerStats) → r ≡ found m → later ≡ changed now (m * iids) iids (laterValue f apply r) → ValuesPassed (m + 1) later
+    values-more later r g w =
+        w
+        ∙ ap (λ (x : List Float). written x (λ i. m * iids + i) (λ i. laterValue f apply r (from now (m * iids) i)) iids) e
+        ∙ column-more iids sids newCell oldCell m h (λ i. laterValue f apply r (from now (m * iids) i))
+        (λ i k. ap (λ (x : MarkerStats). laterValue f apply x (from now (m * iids) i)) g ∙ ap (laterValue f apply (found m)) (value-old i k))
+
+  module _ (l : iids * sids ≡ length val) where
+    values-own : val ≡ matrix false iids sids oldCell
+    unfolding matrixPlace
+    values-own = own-cells false iids sids val (sym l)
+
+    pub values-none : ValuesPassed 0 val
+    values-none = values-own ∙ none-new false iids sids newCell oldCell
+
+    pub values-all : (m : ℕ) (now : List Float) → ValuesPassed m now → sids ≤ m → now ≡ cond (apply && true) (matrix false iids sids (λ i k. applied f (found k) (oldCell i k))) val
+    unfolding laterValue
+    values-all m now e h = e ∙ all-new false iids sids newCell oldCell m h ∙ choice apply
+      where
+        choice : (b : Bool) → matrix false iids sids (λ i k. laterValue f b (found k) (oldCell i k)) ≡ cond (b && true) (matrix false iids sids (λ i k. applied f (found k) (oldCell i k))) val
+        choice true = refl
+        choice false = sym values-own
+
+-- ---- all of it, in marker order
+module _ (f : Format) (iids sids : ℕ) (val : List Float) (useStats : Bool) (stats : List Float) (apply : Bool) where
+  abbrev here : ℕ → MarkerStats
+  here = found f false iids sids val useStats stats
+
+  pub record Passed (m : ℕ) (answer : Answer) (values statistics : List Float) : Type 0 where
+    pub within : m ≤ sids
+    pub answered : answer ≡ markersAnswer here m
+    pub valued : ValuesPassed f iids sids apply here val m values
+    pub stored : statistics ≡ matrix false statsPerMarker sids (upTo m (newStat useStats here stats) (oldStat stats))
+
+  module _ {m : ℕ} {answer : Answer} {values statistics : List Float} (p : Passed m answer values statistics) where
+    pub values-length : length values ≡ iids * sids
+    values-length = ap length (p .valued) ∙ length-matrix false iids sids _
+
+    pub stats-length : length statistics ≡ statsPerMarker * sids
+    stats-length = ap length (p .stored) ∙ length-matrix false statsPerMarker sids _
+
+    pub column-inside : m < sids → m * iids + iids ≤ length values
+    column-inside h = let l : length values ≡ iids * sids = values-length in let c : iids * sids ≡ sids * iids = mul-comm iids sids in let d : suc m * iids ≤ sids * iids = mul-le-mul-right iids h in
+        let e : suc m * iids ≡ m * iids + iids = suc-mul m iids in omega arith
+
+    pub marker-inside : m < sids → m * statsPerMarker + statsPerMarker ≤ length statistics
+    marker-inside h = let l : length statistics ≡ 2 * sids = stats-length in omega arith
+
+  module _ (l : iids * sids ≡ length val) (k : statsPerMarker * sids ≡ length stats) where
+    pub passed-none : Passed 0 (done []) val stats
+    unfolding markersAnswer
+    passed-none = record { within = omega arith; answered = refl; valued = values-none f iids sids apply here val l; stored = stats-none sids useStats here stats k }
+
+    pub passed-all : {m : ℕ} {answer : Answer} {values statistics : List Float} → Passed m answer values statistics → sids ≤ m
+        → (answer ≡ lowestRefused f false iids sids val useStats stats) × (values ≡ newValues f false iids sids val useStats stats apply)
+        × (statistics ≡ newStats f false iids sids val useStats stats)
+    unfolding lowestRefused newValues newStats mayChange value matrixPlace
+    passed-all {m} {answer} {values} {statistics} p h = (
+      answer-all here m sids answer (p .answered) (p .within) h,
+      values-all f iids sids apply here val l m values (p .valued) h,
+      stats-all sids useStats here stats k m statistics (p .stored) h,
+    )
+
+    module _ {m : ℕ} (h : m < sids) {answer : Answer} {values statistics : List Float} (p : Passed m answer values statistics) (r : MarkerStats)
+      (e : r ≡ foundFor f useStats (statsAt statistics m) iids (from values (m * iids))) where
+      is-found : r ≡ here m
+      unfolding found value matrixPlace
+      is-found =
+          e
+          ∙ ap (λ (s : Stats). foundFor f useStats s iids (from values (m * iids))) (statsAt-old sids useStats here stats k m h statistics (p .stored))
+          ∙ foundFor-ext f (from values (m * iids)) (λ i. getD val (m * iids + i) nan) useStats (statsAt stats m) iids (λ i b. value-old f iids sids apply here val m h values (p .valued) i b)
+
+      pub passed-more : (answer′ : Answer) (values′ statistics′ : List Float) → answer′ ≡ ifDone answer (markerAnswer m r) answer
+          → values′ ≡ changed values (m * iids) iids (laterValue f apply r)
+          → statistics′ ≡ written statistics (λ c. m * statsPerMarker + c) (λ c. laterStat useStats r c (oldStat statistics c m)) statsPerMarker
+          → Passed (m + 1) answer′ values′ statistics′
+      passed-more answer′ values′ statistics′ a v s = record {
+        within = omega arith;
+        answered = answer-more here m answer answer′ r (p .answered) is-found a;
+        valued = values-more f iids sids apply here val m h values (p .valued) values′ r is-found v;
+        stored = stats-more sids useStats here stats k m h statistics (p .stored) statistics′ r is-found s
+      }
