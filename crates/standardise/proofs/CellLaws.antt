@@ -78,10 +78,10 @@ module _ (order : Bool) (rows cols : ℕ) where
           getD-written xs place v k (matrixPlace order rows cols i m) (h i m)
           (λ j l. let z : length xs ≡ rows * cols = length-matrix order rows cols g in let y : place j < rows * cols = place-below rows cols (a j) (b j) (A j l) (B j l) order in omega arith)
           (λ j l e.
-            new j l
-            ∙ sym (getD-matrix rows cols (a j) (b j) (A j l) (B j l) order h nan)
-            ∙ ap (λ (x : ℕ). getD target x nan) e
-            ∙ getD-matrix rows cols i m hi hm order h nan)
+          new j l
+          ∙ sym (getD-matrix rows cols (a j) (b j) (A j l) (B j l) order h nan)
+          ∙ ap (λ (x : ℕ). getD target x nan) e
+          ∙ getD-matrix rows cols i m hi hm order h nan)
           (λ none. getD-matrix rows cols i m hi hm order g nan ∙ old i m hi hm (λ j l p q. none j l (ap (λ (x : ℕ). matrixPlace order rows cols x (b j)) p ∙ ap (matrixPlace order rows cols i) q)))
 
 -- the columns below n are new, the others old

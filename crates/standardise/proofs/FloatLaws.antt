@@ -47,22 +47,22 @@ module _ (f : Format) (a : Accumulator) where
     mean-nan g = simp (e, is-nan (div f (a .sum) (a .count)) g)
 
     module _
-      (g : ne (div f (a .sum) (a .count)) (div f (a .sum) (a .count)) ≡ false) (d : Float)
-      (r : d ≡ root f (sub f (div f (a .squares) (a .count)) (mul f (div f (a .sum) (a .count)) (div f (a .sum) (a .count)))))
+        (g : ne (div f (a .sum) (a .count)) (div f (a .sum) (a .count)) ≡ false) (d : Float)
+        (r : d ≡ root f (sub f (div f (a .squares) (a .count)) (mul f (div f (a .sum) (a .count)) (div f (a .sum) (a .count)))))
       where
-      found-is : statsFrom f a ≡ Found (record { mean = div f (a .sum) (a .count); deviation = cond (isNan d || le d plusZero) (inf false) d })
-      unfolding statsFrom mean statsOf deviation variance
-      found-is = simp (e, is-nan (div f (a .sum) (a .count)) g, r)
+        found-is : statsFrom f a ≡ Found (record { mean = div f (a .sum) (a .count); deviation = cond (isNan d || le d plusZero) (inf false) d })
+        unfolding statsFrom mean statsOf deviation variance
+        found-is = simp (e, is-nan (div f (a .sum) (a .count)) g, r)
 
-      pub deviation-nan : ne d d ≡ true → Found (record { mean = div f (a .sum) (a .count); deviation = inf false }) ≡ statsFrom f a
-      deviation-nan h = sym (found-is ∙ simp (is-nan d h))
+        pub deviation-nan : ne d d ≡ true → Found (record { mean = div f (a .sum) (a .count); deviation = inf false }) ≡ statsFrom f a
+        deviation-nan h = sym (found-is ∙ simp (is-nan d h))
 
-      module _ (h : ne d d ≡ false) where
-        pub deviation-low : le d plusZero ≡ true → Found (record { mean = div f (a .sum) (a .count); deviation = inf false }) ≡ statsFrom f a
-        deviation-low k = sym (found-is ∙ simp (is-nan d h, k))
+        module _ (h : ne d d ≡ false) where
+          pub deviation-low : le d plusZero ≡ true → Found (record { mean = div f (a .sum) (a .count); deviation = inf false }) ≡ statsFrom f a
+          deviation-low k = sym (found-is ∙ simp (is-nan d h, k))
 
-        pub deviation-found : le d plusZero ≡ false → Found (record { mean = div f (a .sum) (a .count); deviation = d }) ≡ statsFrom f a
-        deviation-found k = sym (found-is ∙ simp (is-nan d h, k))
+          pub deviation-found : le d plusZero ≡ false → Found (record { mean = div f (a .sum) (a .count); deviation = d }) ≡ statsFrom f a
+          deviation-found k = sym (found-is ∙ simp (is-nan d h, k))
 
 pub infinity-above : (x : Float) → eq x (inf false) ≡ true → true ≡ isInfinite x
 unfolding eq isInfinite

@@ -4,3 +4,6 @@ pub mod CellLaws
 pub mod CountLaws
 pub mod ChoiceLaws
 pub mod PassLaws
+pub mod TileLaws
+pub mod ApplyLaws
+pub mod CallLaws

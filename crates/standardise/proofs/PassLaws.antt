@@ -44,47 +44,71 @@ oldStat stats c m = getD stats (m * statsPerMarker + c) nan
 abbrev pub newStat : Bool → (ℕ → MarkerStats) → List Float → ℕ → ℕ → Float
 newStat useStats found stats c m = laterStat useStats (found m) c (oldStat stats c m)
 
-module _ (sids : ℕ) (useStats : Bool) (found : ℕ → MarkerStats) (stats : List Float) (l : statsPerMarker * sids ≡ length stats) where
-  stats-own : stats ≡ matrix false statsPerMarker sids (oldStat stats)
-  unfolding matrixPlace
-  stats-own = own-cells false statsPerMarker sids stats (sym l)
+module _ (sids : ℕ) (useStats : Bool) (found : ℕ → MarkerStats) (stats : List Float) where
+  -- the markers below m are passed
+  pub record StatsPassed (m : ℕ) (answer : Answer) (now : List Float) : Type 0 where
+    pub within : m ≤ sids
+    pub answered : answer ≡ markersAnswer found m
+    pub stored : now ≡ matrix false statsPerMarker sids (upTo m (newStat useStats found stats) (oldStat stats))
 
-  pub stats-none : stats ≡ matrix false statsPerMarker sids (upTo 0 (newStat useStats found stats) (oldStat stats))
-  stats-none = stats-own ∙ none-new false statsPerMarker sids (newStat useStats found stats) (oldStat stats)
+  module _ {m : ℕ} {answer : Answer} {now : List Float} (p : StatsPassed m answer now) where
+    pub stats-length : length now ≡ statsPerMarker * sids
+    stats-length = ap length (p .stored) ∙ length-matrix false statsPerMarker sids _
 
-  module _ (m : ℕ) (h : m < sids) (now : List Float) (e : now ≡ matrix false statsPerMarker sids (upTo m (newStat useStats found stats) (oldStat stats))) where
-    pub stat-old : (c : ℕ) → c < statsPerMarker → oldStat now c m ≡ oldStat stats c m
-    stat-old c k =
-        ap (λ (x : List Float). getD x (m * statsPerMarker + c) nan) e
-        ∙ column-old statsPerMarker sids (newStat useStats found stats) (oldStat stats) m c h k
+    pub marker-inside : m < sids → m * statsPerMarker + statsPerMarker ≤ length now
+    marker-inside h = let l : length now ≡ 2 * sids = stats-length in omega arith
 
-    pub statsAt-old : statsAt now m ≡ statsAt stats m
-    unfolding statsAt
-    statsAt-old =
-        let z : getD now (m * 2) nan ≡ getD stats (m * 2) nan = (
+    module _ (h : m < sids) where
+      stat-old : (c : ℕ) → c < statsPerMarker → oldStat now c m ≡ oldStat stats c m
+      stat-old c k =
+          ap (λ (x : List Float). getD x (m * statsPerMarker + c) nan) (p .stored)
+          ∙ column-old statsPerMarker sids (newStat useStats found stats) (oldStat stats) m c h k
+
+      pub statsAt-old : statsAt now m ≡ statsAt stats m
+      unfolding statsAt
+      statsAt-old =
+          let z : getD now (m * 2) nan ≡ getD stats (m * 2) nan = (
           ap (λ (x : ℕ). getD now x nan) (sym (add-zero (m * 2)))
           ∙ stat-old 0 (omega arith)
           ∙ ap (λ (x : ℕ). getD stats x nan) (add-zero (m * 2))
-        ) in
-        ap (λ (x : Float). pairOf x (getD now (m * 2 + 1) nan)) z ∙ ap (pairOf (getD stats (m * 2) nan)) (stat-old 1 (omega arith))
+          ) in
+          ap (λ (x : Float). pairOf x (getD now (m * 2 + 1) nan)) z ∙ ap (pairOf (getD stats (m * 2) nan)) (stat-old 1 (omega arith))
 
-    pub stats-more : (later : List Float) (r : MarkerStats) → r ≡ found m
-        → later ≡ written now (λ c. m * statsPerMarker + c) (λ c. laterStat useStats r c (oldStat now c m)) statsPerMarker
-        → later ≡ matrix false statsPerMarker sids (upTo (m + 1) (newStat useStats found stats) (oldStat stats))
-    stats-more later r g w =
-        w
-        ∙ ap (λ (x : List Float). written x (λ c. m * statsPerMarker + c) (λ c. laterStat useStats r c (oldStat now c m)) statsPerMarker) e
-        ∙ column-more statsPerMarker sids (newStat useStats found stats) (oldStat stats) m h (λ c. laterStat useStats r c (oldStat now c m))
-        (λ c k. ap (λ (x : MarkerStats). laterStat useStats x c (oldStat now c m)) g ∙ ap (laterStat useStats (found m) c) (stat-old c k))
+      pub stats-passed-more : (answer′ : Answer) (later : List Float) (r : MarkerStats) → r ≡ found m → answer′ ≡ ifDone answer (markerAnswer m r) answer
+          → later ≡ written now (λ c. m * statsPerMarker + c) (λ c. laterStat useStats r c (oldStat now c m)) statsPerMarker
+          → StatsPassed (m + 1) answer′ later
+      stats-passed-more answer′ later r g a w = record {
+        within = omega arith;
+        answered = answer-more found m answer answer′ r (p .answered) g a;
+        stored =
+            w
+            ∙ ap (λ (x : List Float). written x (λ c. m * statsPerMarker + c) (λ c. laterStat useStats r c (oldStat now c m)) statsPerMarker) (p .stored)
+            ∙ column-more statsPerMarker sids (newStat useStats found stats) (oldStat stats) m h (λ c. laterStat useStats r c (oldStat now c m))
+            (λ c k. ap (λ (x : MarkerStats). laterStat useStats x c (oldStat now c m)) g ∙ ap (laterStat useStats (found m) c) (stat-old c k));
+      }
 
-  pub stats-all : (m : ℕ) (now : List Float) → now ≡ matrix false statsPerMarker sids (upTo m (newStat useStats found stats) (oldStat stats)) → sids ≤ m
-      → now ≡ cond useStats stats (matrix false statsPerMarker sids (λ c k. keptOrNew (found k) c (oldStat stats c k)))
-  unfolding laterStat
-  stats-all m now e h = e ∙ all-new false statsPerMarker sids (newStat useStats found stats) (oldStat stats) m h ∙ choice useStats
-    where
-      choice : (b : Bool) → matrix false statsPerMarker sids (newStat b found stats) ≡ cond b stats (matrix false statsPerMarker sids (λ c k. keptOrNew (found k) c (oldStat stats c k)))
-      choice true = sym stats-own
-      choice false = refl
+  module _ (l : statsPerMarker * sids ≡ length stats) where
+    stats-own : stats ≡ matrix false statsPerMarker sids (oldStat stats)
+    unfolding matrixPlace
+    stats-own = own-cells false statsPerMarker sids stats (sym l)
+
+    pub stats-passed-none : StatsPassed 0 (done []) stats
+    unfolding markersAnswer
+    stats-passed-none = record {
+      within = omega arith;
+      answered = refl;
+      stored = stats-own ∙ none-new false statsPerMarker sids (newStat useStats found stats) (oldStat stats);
+    }
+
+    pub stats-passed-all : {m : ℕ} {answer : Answer} {now : List Float} → StatsPassed m answer now → sids ≤ m
+        → (answer ≡ markersAnswer found sids) × (now ≡ cond useStats stats (matrix false statsPerMarker sids (λ c k. keptOrNew (found k) c (oldStat stats c k))))
+    unfolding laterStat
+    stats-passed-all {m} {answer} {now} p h =
+        (answer-all found m sids answer (p .answered) (p .within) h, p .stored ∙ all-new false statsPerMarker sids (newStat useStats found stats) (oldStat stats) m h ∙ choice useStats)
+      where
+        choice : (b : Bool) → matrix false statsPerMarker sids (newStat b found stats) ≡ cond b stats (matrix false statsPerMarker sids (λ c k. keptOrNew (found k) c (oldStat stats c k)))
+        choice true = sym stats-own
+        choice false = refl
 
 -- ---- the values, in marker order
 module _ (f : Format) (iids sids : ℕ) (apply : Bool) (found : ℕ → MarkerStats) (val : List Float) where
@@ -130,56 +154,47 @@ module _ (f : Format) (iids sids : ℕ) (val : List Float) (useStats : Bool) (st
   here = found f false iids sids val useStats stats
 
   pub record Passed (m : ℕ) (answer : Answer) (values statistics : List Float) : Type 0 where
-    pub within : m ≤ sids
-    pub answered : answer ≡ markersAnswer here m
+    pub counted : StatsPassed sids useStats here stats m answer statistics
     pub valued : ValuesPassed f iids sids apply here val m values
-    pub stored : statistics ≡ matrix false statsPerMarker sids (upTo m (newStat useStats here stats) (oldStat stats))
 
   module _ {m : ℕ} {answer : Answer} {values statistics : List Float} (p : Passed m answer values statistics) where
     pub values-length : length values ≡ iids * sids
     values-length = ap length (p .valued) ∙ length-matrix false iids sids _
 
-    pub stats-length : length statistics ≡ statsPerMarker * sids
-    stats-length = ap length (p .stored) ∙ length-matrix false statsPerMarker sids _
-
     pub column-inside : m < sids → m * iids + iids ≤ length values
-    column-inside h = let l : length values ≡ iids * sids = values-length in let c : iids * sids ≡ sids * iids = mul-comm iids sids in let d : suc m * iids ≤ sids * iids = mul-le-mul-right iids h in
-        let e : suc m * iids ≡ m * iids + iids = suc-mul m iids in omega arith
-
-    pub marker-inside : m < sids → m * statsPerMarker + statsPerMarker ≤ length statistics
-    marker-inside h = let l : length statistics ≡ 2 * sids = stats-length in omega arith
+    column-inside h =
+        let l : length values ≡ iids * sids = values-length in
+        let c : iids * sids ≡ sids * iids = mul-comm iids sids in
+        let d : suc m * iids ≤ sids * iids = mul-le-mul-right iids h in
+        let e : suc m * iids ≡ m * iids + iids = suc-mul m iids in
+        omega arith
 
   module _ (l : iids * sids ≡ length val) (k : statsPerMarker * sids ≡ length stats) where
     pub passed-none : Passed 0 (done []) val stats
-    unfolding markersAnswer
-    passed-none = record { within = omega arith; answered = refl; valued = values-none f iids sids apply here val l; stored = stats-none sids useStats here stats k }
+    passed-none = record { counted = stats-passed-none sids useStats here stats k; valued = values-none f iids sids apply here val l }
 
     pub passed-all : {m : ℕ} {answer : Answer} {values statistics : List Float} → Passed m answer values statistics → sids ≤ m
         → (answer ≡ lowestRefused f false iids sids val useStats stats) × (values ≡ newValues f false iids sids val useStats stats apply)
         × (statistics ≡ newStats f false iids sids val useStats stats)
     unfolding lowestRefused newValues newStats mayChange value matrixPlace
-    passed-all {m} {answer} {values} {statistics} p h = (
-      answer-all here m sids answer (p .answered) (p .within) h,
-      values-all f iids sids apply here val l m values (p .valued) h,
-      stats-all sids useStats here stats k m statistics (p .stored) h,
-    )
+    passed-all {m} {answer} {values} {statistics} p h =
+        let q = stats-passed-all sids useStats here stats k (p .counted) h in
+        (q .0, values-all f iids sids apply here val l m values (p .valued) h, q .1)
 
-    module _ {m : ℕ} (h : m < sids) {answer : Answer} {values statistics : List Float} (p : Passed m answer values statistics) (r : MarkerStats)
+  module _ {m : ℕ} (h : m < sids) {answer : Answer} {values statistics : List Float} (p : Passed m answer values statistics) (r : MarkerStats)
       (e : r ≡ foundFor f useStats (statsAt statistics m) iids (from values (m * iids))) where
-      is-found : r ≡ here m
-      unfolding found value matrixPlace
-      is-found =
-          e
-          ∙ ap (λ (s : Stats). foundFor f useStats s iids (from values (m * iids))) (statsAt-old sids useStats here stats k m h statistics (p .stored))
-          ∙ foundFor-ext f (from values (m * iids)) (λ i. getD val (m * iids + i) nan) useStats (statsAt stats m) iids (λ i b. value-old f iids sids apply here val m h values (p .valued) i b)
+    is-found : r ≡ here m
+    unfolding found value matrixPlace
+    is-found =
+        e
+        ∙ ap (λ (s : Stats). foundFor f useStats s iids (from values (m * iids))) (statsAt-old sids useStats here stats (p .counted) h)
+        ∙ foundFor-ext f (from values (m * iids)) (λ i. getD val (m * iids + i) nan) useStats (statsAt stats m) iids (λ i b. value-old f iids sids apply here val m h values (p .valued) i b)
 
-      pub passed-more : (answer′ : Answer) (values′ statistics′ : List Float) → answer′ ≡ ifDone answer (markerAnswer m r) answer
-          → values′ ≡ changed values (m * iids) iids (laterValue f apply r)
-          → statistics′ ≡ written statistics (λ c. m * statsPerMarker + c) (λ c. laterStat useStats r c (oldStat statistics c m)) statsPerMarker
-          → Passed (m + 1) answer′ values′ statistics′
-      passed-more answer′ values′ statistics′ a v s = record {
-        within = omega arith;
-        answered = answer-more here m answer answer′ r (p .answered) is-found a;
-        valued = values-more f iids sids apply here val m h values (p .valued) values′ r is-found v;
-        stored = stats-more sids useStats here stats k m h statistics (p .stored) statistics′ r is-found s
-      }
+    pub passed-more : (answer′ : Answer) (values′ statistics′ : List Float) → answer′ ≡ ifDone answer (markerAnswer m r) answer
+        → values′ ≡ changed values (m * iids) iids (laterValue f apply r)
+        → statistics′ ≡ written statistics (λ c. m * statsPerMarker + c) (λ c. laterStat useStats r c (oldStat statistics c m)) statsPerMarker
+        → Passed (m + 1) answer′ values′ statistics′
+    passed-more answer′ values′ statistics′ a v s = record {
+      counted = stats-passed-more sids useStats here stats (p .counted) h answer′ statistics′ r is-found a s;
+      valued = values-more f iids sids apply here val m h values (p .valued) values′ r is-found v;
+    }

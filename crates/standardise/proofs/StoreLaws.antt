@@ -63,6 +63,12 @@ module _ (xs : List Float) (place : ℕ → ℕ) where
       ap (set (written xs place v k) (place k)) (e k (omega arith))
       ∙ ap (λ (l : List Float). set l (place k) (w k)) (written-ext v w k (λ j h. e j (omega arith)))
 
+  pub written-places : (q : ℕ → ℕ) (v : ℕ → Float) (k : ℕ) → ((j : ℕ) → place j ≡ q j) → written xs place v k ≡ written xs q v k
+  unfolding written
+  written-places q v zero e = refl
+  written-places q v (suc k) e =
+      ap (λ (x : ℕ). set (written xs place v k) x (v k)) (e k) ∙ ap (λ (l : List Float). set l (q k) (v k)) (written-places q v k e)
+
   -- storing what is there changes nothing
   pub written-same : (k : ℕ) → written xs place (λ j. getD xs (place j) nan) k ≡ xs
   unfolding written
@@ -70,16 +76,17 @@ module _ (xs : List Float) (place : ℕ → ℕ) where
   written-same (suc k) = ap (λ (l : List Float). set l (place k) (getD xs (place k) nan)) (written-same k) ∙ set-getD xs (place k) nan
 
 -- values from a place on, changed one by one
-module _ (xs : List Float) (start : ℕ) (change : Float → Float) where
-  pub length-changed : (n : ℕ) → length (changed xs start n change) ≡ length xs
-  length-changed n = length-written xs (λ i. start + i) (λ i. change (from xs start i)) n
+pub row-changed-more : (xs : List Float) (start : ℕ) (change : ℕ → Float → Float) (n : ℕ) (ys : List Float) (w : Float)
+    → ys ≡ written xs (λ i. start + i) (λ i. change i (from xs start i)) n → w ≡ change n (getD ys (start + n) nan)
+    → set ys (start + n) w ≡ written xs (λ i. start + i) (λ i. change i (from xs start i)) (n + 1)
+row-changed-more xs start change n ys w e g =
+    written-more xs (λ i. start + i) (λ i. change i (from xs start i)) n ys w e
+    (g ∙ ap (λ (l : List Float). change n (getD l (start + n) nan)) e
+    ∙ ap (change n) (unwritten xs (λ i. start + i) (λ i. change i (from xs start i)) n (start + n) (λ j h p. let q : start + j ≡ start + n = p in omega arith)))
 
-  pub changed-more : (n : ℕ) (ys : List Float) (w : Float) → ys ≡ changed xs start n change → w ≡ change (getD ys (start + n) nan)
-      → set ys (start + n) w ≡ changed xs start (n + 1) change
-  changed-more n ys w e g =
-      written-more xs (λ i. start + i) (λ i. change (from xs start i)) n ys w e
-      (g ∙ ap (λ (l : List Float). change (getD l (start + n) nan)) e
-      ∙ ap change (unwritten xs (λ i. start + i) (λ i. change (from xs start i)) n (start + n) (λ j h p. let q : start + j ≡ start + n = p in omega arith)))
+pub changed-more : (xs : List Float) (start : ℕ) (change : Float → Float) (n : ℕ) (ys : List Float) (w : Float) → ys ≡ changed xs start n change
+    → w ≡ change (getD ys (start + n) nan) → set ys (start + n) w ≡ changed xs start (n + 1) change
+changed-more xs start change n ys w e g = row-changed-more xs start (λ i. change) n ys w e g
 
 pub changed-ext : (xs : List Float) (start n : ℕ) (g h : Float → Float) → ((v : Float) → g v ≡ h v) → changed xs start n g ≡ changed xs start n h
 changed-ext xs start n g h e = written-ext xs (λ i. start + i) (λ i. g (from xs start i)) (λ i. h (from xs start i)) n (λ j l. e (from xs start j))

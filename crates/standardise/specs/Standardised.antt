@@ -58,17 +58,17 @@ applied f (Found s) v = standardised f s v
 applied f NoIndividuals v = v
 applied f IllegalSnpMean v = v
 
--- A call, on a matrix in animal order (true) or marker order (false).
-module _ (f : Format) (order : Bool) (iids sids : ℕ) (val : List Float) (useStats : Bool) (stats : List Float) where
-  -- the value of animal i at marker m
-  unfoldable pub value : ℕ → ℕ → Float
-  unfolding matrixPlace
-  value i m = getD val (matrixPlace order iids sids i m) nan
+-- the value of animal i at marker m, of a matrix in animal order (true) or marker order (false)
+unfoldable pub value : Bool → ℕ → ℕ → List Float → ℕ → ℕ → Float
+unfolding matrixPlace
+value order iids sids val i m = getD val (matrixPlace order iids sids i m) nan
 
+-- a call
+module _ (f : Format) (order : Bool) (iids sids : ℕ) (val : List Float) (useStats : Bool) (stats : List Float) where
   -- what is found for marker m
   unfoldable pub found : ℕ → MarkerStats
   unfolding foundFor statsAt value
-  found m = foundFor f useStats (statsAt stats m) iids (λ i. value i m)
+  found m = foundFor f useStats (statsAt stats m) iids (λ i. value order iids sids val i m)
 
   -- the answer of the markers: the lowest refused one's
   unfoldable pub lowestRefused : Answer
@@ -92,7 +92,7 @@ module _ (f : Format) (order : Bool) (iids sids : ℕ) (val : List Float) (useSt
   -- the values once the buffers are checked. "without applying no value changes"
   unfoldable pub newValues : Bool → List Float
   unfolding mayChange found applied value matrix
-  newValues apply = cond (apply && mayChange) (matrix order iids sids (λ i m. applied f (found m) (value i m))) val
+  newValues apply = cond (apply && mayChange) (matrix order iids sids (λ i m. applied f (found m) (value order iids sids val i m))) val
 
   -- "Every refusal leaves all lent bytes and values unchanged, except .. at 13 and 14": the two buffers afterwards
   unfoldable pub laterStats : List Float

@@ -1,14 +1,18 @@
 -- What the steps of the calculation promise each other. Nothing outside this crate rests on it. Definitions only.
-use mathlib.Core.Bool.{Bool, true, false, _||_, cond}
+use mathlib.Core.Path.{_≡_}
+use mathlib.Core.Bool.{Bool, true, false, _&&_, _||_, cond}
 use mathlib.Core.List.{List}
 use Prim.Native.Nat.{ℕ, zero, suc, _+_}
+use lib.Dec.{leb, ltb}
 use lib.ListN.{getD, set}
-use lib.Ieee.{Float, nan, Format, sub, mul, lt, isNan}
+use lib.Ieee.{Float, nan, Format, sub, mul, div, lt, isNan}
+use Rattle.genotype.specs.Matrix.{matrix}
 use Rattle.standardise.specs.declared.Accumulator.{Accumulator}
+use Rattle.standardise.specs.declared.Stats.{Stats}
 use Rattle.standardise.specs.declared.MarkerStats.{MarkerStats}
 use Rattle.standardise.specs.declared.MarkerStats.the-variants.{Found, NoIndividuals, IllegalSnpMean}
-use Rattle.standardise.specs.Statistics.{plusZero, one, mean, statsOf}
-use Rattle.standardise.specs.Standardised.{keptOrNew, applied}
+use Rattle.standardise.specs.Statistics.{plusZero, one, mean, statsOf, statsAt, isInfinite, standardised}
+use Rattle.standardise.specs.Standardised.{value, keptOrNew, applied}
 
 -- what an accumulator says of its marker: it has no non-NaN value if its count is below 1
 unfoldable pub statsFrom : Format → Accumulator → MarkerStats
@@ -43,3 +47,27 @@ changed xs start n change = written xs (λ i. start + i) (λ i. change (from xs 
 -- the accumulator that stands at place j of three lists
 abbrev pub accumulatorAt : List Float → List Float → List Float → ℕ → Accumulator
 accumulatorAt counts sums squares j = record { count = getD counts j nan; sum = getD sums j nan; squares = getD squares j nan }
+
+-- ---- applying in animal order
+
+-- the values of neighbouring markers, standardised by what stands at place j of three lists
+unfoldable pub scaledAt : Format → List Float → List Float → List Float → ℕ → Float → Float
+unfolding scaledBy isInfinite
+scaledAt f means deviations factors j v = scaledBy f (getD means j nan) (getD factors j nan) (isInfinite (getD deviations j nan)) v
+
+-- a marker's statistics with the reciprocal of the deviation
+pub record IsLoaded (f : Format) (s : Stats) (mean deviation factor : Float) : Type 0 where
+  pub its-mean : mean ≡ s .mean
+  pub its-deviation : deviation ≡ s .deviation
+  pub its-factor : factor ≡ div f one (s .deviation)
+
+-- an animal-order matrix whose markers are all standardised, and one of which only some neighbouring ones are
+unfoldable pub allApplied : Format → ℕ → ℕ → List Float → List Float → List Float
+unfolding matrix standardised statsAt value
+allApplied f iids sids stats val = matrix true iids sids (λ i m. standardised f (statsAt stats m) (value true iids sids val i m))
+
+unfoldable pub tileApplied : Format → ℕ → ℕ → List Float → ℕ → ℕ → List Float → List Float
+unfolding matrix standardised statsAt value
+tileApplied f iids sids stats base width val =
+    matrix true iids sids
+    (λ i m. cond (leb base m && ltb m (base + width)) (standardised f (statsAt stats m) (value true iids sids val i m)) (value true iids sids val i m))

@@ -52,17 +52,20 @@ loop-less : tie.Need-loop-less Inv-loop μ-loop
 loop-less c = omega arith
 
 loop-again : tie.Need-loop-again Inv-loop μ-loop
-loop-again c = 
+loop-again c =
     let s = c .before .before .before .before .before .before .before in
-    let l = c .before .before .before .loop in
-    (omega arith, length-set (l .val) _ _ ∙ l .inv .1, changed-more (s .args .val .now) (s .args .start)
-      (scaledBy binary64 (s .args .s .mean) (c .before .before .before .before .before .find-factor .result) (c .before .before .before .before .is-infinite .result)) (l .i) (l .val) _ (l .inv .2) (c .scaled .ensures))
+    let l = c .before .before .before .loop in (
+      omega arith,
+      length-set (l .val) _ _ ∙ l .inv .1,
+      changed-more (s .args .val .now) (s .args .start)
+          (scaledBy binary64 (s .args .s .mean) (c .before .before .before .before .before .find-factor .result) (c .before .before .before .before .is-infinite .result)) (l .i) (l .val) _ (l .inv .2) (c .scaled .ensures),
+    )
 
 same-length : tie.Need-same-length Inv-loop μ-loop
 same-length c = c .before .loop .inv .1
 
 returns : tie.Need-returns Inv-loop μ-loop
-returns c = 
+returns c =
     let s = c .before .before .before .before .before in
     let l = c .before .loop in
     all-scaled binary64 (s .args .s) _ _ (c .before .before .before .find-factor .ensures) (c .before .before .is-infinite .ensures) (s .args .val .now) (s .args .start)

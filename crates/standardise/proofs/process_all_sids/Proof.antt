@@ -18,12 +18,12 @@ abbrev μ-loop : tie.MeasureT-loop
 
 loop-holds : tie.Need-loop-holds Inv-loop μ-loop
 unfolding standardiseSays
-loop-holds c = 
+loop-holds c =
     let s = c .before .before in
     passed-none binary64 (s .args .iid-count) (s .args .sid-count) (s .args .val .now) (s .args .use-stats) (s .args .stats .now) (s .args .apply-in-place) (s .pre .0) (s .pre .1)
 
 mul-start : tie.Need-mul-start Inv-loop μ-loop
-mul-start c = 
+mul-start c =
     let s = c .before .before .before .before in
     let p = c .before .loop .inv in
     let h : c .before .loop .m * s .args .iid-count + s .args .iid-count ≤ length (c .before .loop .val) = column-inside binary64 (s .args .iid-count) (s .args .sid-count) (s .args .val .now) (s .args .use-stats) (s .args .stats .now) (s .args .apply-in-place) p (c .loop-test .taken) in
@@ -31,10 +31,10 @@ mul-start c =
     omega (arith, s .good .0 .0, s .pre .0)
 
 process-sid-requires : tie.Need-process-sid-requires Inv-loop μ-loop
-process-sid-requires c κs = 
+process-sid-requires c κs =
     let s = c .before .before .before .before .before .before in
     let p = c .before .before .before .loop .inv in
-    (column-inside binary64 (s .args .iid-count) (s .args .sid-count) (s .args .val .now) (s .args .use-stats) (s .args .stats .now) (s .args .apply-in-place) p (c .before .before .loop-test .taken), marker-inside binary64 (s .args .iid-count) (s .args .sid-count) (s .args .val .now) (s .args .use-stats) (s .args .stats .now) (s .args .apply-in-place) p (c .before .before .loop-test .taken))
+    (column-inside binary64 (s .args .iid-count) (s .args .sid-count) (s .args .val .now) (s .args .use-stats) (s .args .stats .now) (s .args .apply-in-place) p (c .before .before .loop-test .taken), marker-inside _ _ _ _ (p .counted) (c .before .before .loop-test .taken))
 
 first-refusal-requires : tie.Need-first-refusal-requires Inv-loop μ-loop
 first-refusal-requires c κs = search needs
@@ -46,16 +46,16 @@ loop-less : tie.Need-loop-less Inv-loop μ-loop
 loop-less c = omega arith
 
 loop-again : tie.Need-loop-again Inv-loop μ-loop
-loop-again c = 
+loop-again c =
     let s = c .before .before .before .before .before .before .before .before .before .before .before .before in
     let e = c .before .before .before .before .before .process-sid .ensures in
-    passed-more binary64 (s .args .iid-count) (s .args .sid-count) (s .args .val .now) (s .args .use-stats) (s .args .stats .now) (s .args .apply-in-place) (s .pre .0) (s .pre .1) (c .before .before .before .before .before .before .before .before .loop-test .taken) (c .before .before .before .before .before .before .before .before .before .loop .inv) _ (e .0) _ _ _ (c .first-refusal .ensures) (e .1) (e .2)
+    passed-more binary64 (s .args .iid-count) (s .args .sid-count) (s .args .val .now) (s .args .use-stats) (s .args .stats .now) (s .args .apply-in-place) (c .before .before .before .before .before .before .before .before .loop-test .taken) (c .before .before .before .before .before .before .before .before .before .loop .inv) _ (e .0) _ _ _ (c .first-refusal .ensures) (e .1) (e .2)
 
 same-length : tie.Need-same-length Inv-loop μ-loop
 same-length c = let s = c .before .before .before .before in values-length binary64 (s .args .iid-count) (s .args .sid-count) (s .args .val .now) (s .args .use-stats) (s .args .stats .now) (s .args .apply-in-place) (c .before .loop .inv) ∙ s .pre .0
 
 same-length-2 : tie.Need-same-length-2 Inv-loop μ-loop
-same-length-2 c = let s = c .before .before .before .before in stats-length binary64 (s .args .iid-count) (s .args .sid-count) (s .args .val .now) (s .args .use-stats) (s .args .stats .now) (s .args .apply-in-place) (c .before .loop .inv) ∙ s .pre .1
+same-length-2 c = let s = c .before .before .before .before in stats-length _ _ _ _ (c .before .loop .inv .counted) ∙ s .pre .1
 
 returns : tie.Need-returns Inv-loop μ-loop
 returns c = let s = c .before .before .before .before in passed-all binary64 (s .args .iid-count) (s .args .sid-count) (s .args .val .now) (s .args .use-stats) (s .args .stats .now) (s .args .apply-in-place) (s .pre .0) (s .pre .1) (c .before .loop .inv) (c .loop-test .left)
