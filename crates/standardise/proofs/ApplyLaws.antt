@@ -13,10 +13,11 @@ use borrow.Author.Tests.{eqb-true, eqb-false, lt-ltb, le-ltb, le-leb, lt-leb, le
 use Rattle.genotype.specs.Matrix.{matrixPlace, matrix}
 use Rattle.genotype.proofs.Tests.{by-test, by-lt, leb-both}
 use Rattle.genotype.proofs.MatrixLaws.{length-matrix, getD-matrix}
-use Rattle.standardise.specs.declared.Stats.{Stats}
-use Rattle.standardise.specs.Statistics.{one, isInfinite, standardised, statsAt}
+use Rattle.statistics.specs.declared.Stats.{Stats}
+use Rattle.statistics.specs.Statistics.{one, isInfinite, standardised, statsAt}
 use Rattle.standardise.specs.Standardised.{value}
-use Rattle.standardise.specs.Steps.{scaledBy, scaledAt, IsLoaded, written, from, tileApplied, allApplied}
+use Rattle.standardise.specs.Steps.{scaledAt, IsLoaded, written, from, tileApplied, allApplied}
+use Rattle.statistics.specs.Statistics.{scaledBy}
 use Rattle.standardise.proofs.StoreLaws.{written-places}
 use Rattle.standardise.proofs.CellLaws.{own-cells, matrix-ext, written-cells, upTo, upTo-below, upTo-above, none-new, all-new}
 use Rattle.standardise.proofs.ChoiceLaws.{scaled-standardised}

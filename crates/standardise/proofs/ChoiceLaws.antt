@@ -8,13 +8,14 @@ use native.Mathlib.Omega.{arith}
 use lib.ListN.{getD, set}
 use lib.Ieee.{Float, nan, Format, div}
 use Rattle.genotype.specs.Answer.{Answer, isDone, ifDone}
-use Rattle.standardise.specs.declared.Stats.{Stats}
-use Rattle.standardise.specs.declared.MarkerStats.{MarkerStats}
-use Rattle.standardise.specs.declared.MarkerStats.the-variants.{Found, NoIndividuals, IllegalSnpMean}
+use Rattle.statistics.specs.declared.Stats.{Stats}
+use Rattle.statistics.specs.declared.MarkerStats.{MarkerStats}
+use Rattle.statistics.specs.declared.MarkerStats.the-variants.{Found, NoIndividuals, IllegalSnpMean}
 use Rattle.standardise.specs.declared.StandardiseAnswer.{StandardiseAnswer}
-use Rattle.standardise.specs.Statistics.{one, isInfinite, standardised, inPlaces, statsPerMarker, markerStats, foundFor}
+use Rattle.statistics.specs.Statistics.{one, isInfinite, standardised, inPlaces, statsPerMarker, markerStats, foundFor}
 use Rattle.standardise.specs.Standardised.{keptOrNew, applied, standardiseSays}
-use Rattle.standardise.specs.Steps.{scaledBy, laterStat, laterValue, written, from, changed}
+use Rattle.standardise.specs.Steps.{laterStat, laterValue, written, from, changed}
+use Rattle.statistics.specs.Statistics.{scaledBy}
 use Rattle.standardise.proofs.StoreLaws.{written-ext, written-same, changed-ext}
 
 -- ---- the reciprocal, worked out once, gives the standardised value

@@ -1,7 +1,5 @@
-pub mod FloatLaws
 pub mod StoreLaws
 pub mod CellLaws
-pub mod CountLaws
 pub mod ChoiceLaws
 pub mod PassLaws
 pub mod TileLaws

@@ -10,14 +10,14 @@ use lib.ListN.{length, getD}
 use lib.Ieee.{Float, nan, Format}
 use Rattle.genotype.specs.Answer.{Answer, done, ifDone}
 use Rattle.genotype.specs.Matrix.{matrixPlace, matrix}
-use Rattle.standardise.specs.declared.Stats.{Stats}
-use Rattle.standardise.specs.declared.MarkerStats.{MarkerStats}
-use Rattle.standardise.specs.Statistics.{statsPerMarker, statsAt, foundFor}
+use Rattle.statistics.specs.declared.Stats.{Stats}
+use Rattle.statistics.specs.declared.MarkerStats.{MarkerStats}
+use Rattle.statistics.specs.Statistics.{statsPerMarker, statsAt, foundFor}
 use Rattle.standardise.specs.Standardised.{markerAnswer, markersAnswer, keptOrNew, applied, value, found, lowestRefused, newStats, mayChange, newValues}
 use Rattle.standardise.specs.Steps.{laterStat, laterValue, written, from, changed}
 use Rattle.genotype.proofs.MatrixLaws.{length-matrix}
 use Rattle.standardise.proofs.CellLaws.{own-cells, matrix-ext, upTo, column-more, column-old, none-new, all-new}
-use Rattle.standardise.proofs.CountLaws.{foundFor-ext}
+use Rattle.statistics.proofs.CountLaws.{foundFor-ext}
 
 -- ---- the answer
 module _ (found : ℕ → MarkerStats) where

@@ -13,12 +13,13 @@ use borrow.Author.Tests.{eqb-true, eqb-false, lt-ltb, le-ltb}
 use Rattle.genotype.specs.Answer.{Answer, ifDone}
 use Rattle.genotype.specs.Matrix.{matrixPlace}
 use Rattle.genotype.proofs.Tests.{by-test, leb-both}
-use Rattle.standardise.specs.declared.Accumulator.{Accumulator}
-use Rattle.standardise.specs.declared.MarkerStats.{MarkerStats}
-use Rattle.standardise.specs.Statistics.{plusZero, start, counted, accumulated, foundFor, statsPerMarker}
+use Rattle.statistics.specs.declared.Accumulator.{Accumulator}
+use Rattle.statistics.specs.declared.MarkerStats.{MarkerStats}
+use Rattle.statistics.specs.Statistics.{plusZero, start, counted, accumulated, foundFor, statsPerMarker}
 use Rattle.standardise.specs.Standardised.{value, found, markerAnswer}
-use Rattle.standardise.specs.Steps.{from, accumulatorAt, statsFrom, laterStat, written}
-use Rattle.standardise.proofs.CountLaws.{accumulated-more, stats-from}
+use Rattle.standardise.specs.Steps.{from, accumulatorAt, laterStat, written}
+use Rattle.statistics.specs.Statistics.{statsFrom}
+use Rattle.statistics.proofs.CountLaws.{accumulated-more, stats-from}
 use Rattle.standardise.proofs.PassLaws.{StatsPassed, stats-passed-more, oldStat}
 
 abbrev triple : Float → Float → Float → Accumulator

@@ -8,12 +8,12 @@ use lib.ListN.{length, getD}
 use lib.Ieee.{Float, nan, Format}
 use Rattle.genotype.specs.Answer.{Answer, done, refused, check, checkCount, isDone, ifDone}
 use Rattle.genotype.specs.Matrix.{matrixPlace, matrix}
-use Rattle.standardise.specs.declared.Stats.{Stats}
-use Rattle.standardise.specs.declared.MarkerStats.{MarkerStats}
-use Rattle.standardise.specs.declared.MarkerStats.the-variants.{Found, NoIndividuals, IllegalSnpMean}
+use Rattle.statistics.specs.declared.Stats.{Stats}
+use Rattle.statistics.specs.declared.MarkerStats.{MarkerStats}
+use Rattle.statistics.specs.declared.MarkerStats.the-variants.{Found, NoIndividuals, IllegalSnpMean}
 use Rattle.standardise.specs.declared.StandardiseAnswer.{StandardiseAnswer}
 use Rattle.standardise.specs.declared.StandardiseAnswer.the-variants as answers
-use Rattle.standardise.specs.Statistics.{foundFor, statsPerMarker, inPlaces, statsAt, standardised}
+use Rattle.statistics.specs.Statistics.{foundFor, statsPerMarker, inPlaces, statsAt, standardised}
 
 -- document 01's number and values for each case
 unfoldable pub standardiseSays : StandardiseAnswer → Answer

@@ -7,21 +7,12 @@ use lib.Dec.{leb, ltb}
 use lib.ListN.{getD, set}
 use lib.Ieee.{Float, nan, Format, sub, mul, div, lt, isNan}
 use Rattle.genotype.specs.Matrix.{matrix}
-use Rattle.standardise.specs.declared.Accumulator.{Accumulator}
-use Rattle.standardise.specs.declared.Stats.{Stats}
-use Rattle.standardise.specs.declared.MarkerStats.{MarkerStats}
-use Rattle.standardise.specs.declared.MarkerStats.the-variants.{Found, NoIndividuals, IllegalSnpMean}
-use Rattle.standardise.specs.Statistics.{plusZero, one, mean, statsOf, statsAt, isInfinite, standardised}
+use Rattle.statistics.specs.declared.Accumulator.{Accumulator}
+use Rattle.statistics.specs.declared.Stats.{Stats}
+use Rattle.statistics.specs.declared.MarkerStats.{MarkerStats}
+use Rattle.statistics.specs.declared.MarkerStats.the-variants.{Found, NoIndividuals, IllegalSnpMean}
+use Rattle.statistics.specs.Statistics.{one, statsAt, isInfinite, standardised, scaledBy}
 use Rattle.standardise.specs.Standardised.{value, keptOrNew, applied}
-
--- what an accumulator says of its marker: it has no non-NaN value if its count is below 1
-unfoldable pub statsFrom : Format → Accumulator → MarkerStats
-unfolding mean statsOf
-statsFrom f a = cond (lt (a .count) one) NoIndividuals (cond (isNan (mean f a)) IllegalSnpMean (Found (statsOf f a)))
-
--- a value standardised by the reciprocal of the deviation
-unfoldable pub scaledBy : Format → Float → Float → Bool → Float → Float
-scaledBy f mean factor infinite v = cond (isNan v || infinite) plusZero (mul f (sub f v mean) factor)
 
 -- the later number of a marker's statistics, and the later value of one of its values, by the two choices
 unfoldable pub laterStat : Bool → MarkerStats → ℕ → Float → Float

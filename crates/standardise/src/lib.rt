@@ -1,36 +1,19 @@
 // Standardising the markers of a matrix of f64: `impute_and_zero_mean_snps` with Unit.
+use statistics::Accumulator;
+use statistics::MarkerStats;
+use statistics::Stats;
 ghost use mathlib.Core.Path.{_≡_};
 ghost use mathlib.Core.Bool.{true, false, _&&_, cond};
 ghost use Prim.Native.Nat.{ℕ, _+_, _*_, _≤_, _<_};
-ghost use lib.ListN.{length, getD, set};
-ghost use lib.Ieee.{nan, div, binary64};
+ghost use lib.ListN.{length, getD};
+ghost use lib.Ieee.{nan, binary64};
 ghost use Rattle.genotype.specs.Answer.{isDone, ifDone};
-ghost use Rattle.standardise.specs.Statistics.{one, start, counted, accumulated, markerStats, foundFor, statsPerMarker, inPlaces, statsAt, isInfinite, standardised};
+ghost use Rattle.statistics.specs.Statistics.{start, counted, accumulated, markerStats, foundFor, statsPerMarker, inPlaces, statsAt, standardised};
 ghost use Rattle.standardise.specs.Standardised.{value, standardiseSays, markerAnswer, lowestRefused, newStats, newValues, standardiseAnswer, laterStats, laterValues};
-ghost use Rattle.standardise.specs.Steps.{statsFrom, scaledBy, laterStat, laterValue, from, changed, written, accumulatorAt, scaledAt, IsLoaded, tileApplied, allApplied};
+ghost use Rattle.standardise.specs.Steps.{laterStat, laterValue, from, changed, written, accumulatorAt, scaledAt, IsLoaded, tileApplied, allApplied};
 
 // How many numbers a marker has in the statistics buffer: mean, then deviation.
 pub const STATS_PER_MARKER: usize = 2;
-
-// Count, sum and sum of squares over a marker's values that are no NaN.
-pub struct Accumulator {
-    pub count: f64,
-    pub sum: f64,
-    pub squares: f64,
-}
-
-// The pair of mean and deviation found for a marker.
-pub struct Stats {
-    pub mean: f64,
-    pub deviation: f64,
-}
-
-// What is found for a marker.
-pub enum MarkerStats {
-    Found(Stats),
-    NoIndividuals,
-    IllegalSnpMean,
-}
 
 // What standardising answers; 13 and 14 carry the marker's place.
 pub enum StandardiseAnswer {
@@ -40,76 +23,6 @@ pub enum StandardiseAnswer {
     StatsMismatch,
     NoIndividuals(usize),
     IllegalSnpMean(usize),
-}
-
-// One value more; only a NaN is not equal to itself.
-fn add_value(a: Accumulator, v: f64) -> Accumulator
-    ensures { λ r. ⌜ r ≡ counted binary64 a v ⌝ }
-{
-    if v != v {
-        return a;
-    }
-    Accumulator {
-        count: a.count + 1.0,
-        sum: a.sum + v,
-        squares: a.squares + v * v,
-    }
-}
-
-// What a whole accumulator says of its marker.
-fn find_stats(a: Accumulator) -> MarkerStats
-    ensures { λ r. ⌜ r ≡ statsFrom binary64 a ⌝ }
-{
-    if a.count < 1.0 {
-        return MarkerStats::NoIndividuals;
-    }
-    let mean = a.sum / a.count;
-    if mean != mean {
-        return MarkerStats::IllegalSnpMean;
-    }
-    let variance = a.squares / a.count - mean * mean;
-    let deviation = root::root_f64(variance);
-    if deviation != deviation {
-        return MarkerStats::Found(Stats {
-            mean,
-            deviation: 1.0 / 0.0,
-        });
-    }
-    if deviation <= 0.0 {
-        return MarkerStats::Found(Stats {
-            mean,
-            deviation: 1.0 / 0.0,
-        });
-    }
-    MarkerStats::Found(Stats { mean, deviation })
-}
-
-fn is_infinite(x: f64) -> bool
-    ensures { λ r. ⌜ r ≡ isInfinite x ⌝ }
-{
-    if x == 1.0 / 0.0 {
-        return true;
-    }
-    x == -1.0 / 0.0
-}
-
-// 1 / deviation, by which values are multiplied.
-fn find_factor(deviation: f64) -> f64
-    ensures { λ r. ⌜ r ≡ div binary64 one deviation ⌝ }
-{
-    1.0 / deviation
-}
-
-fn scaled(v: f64, mean: f64, factor: f64, infinite: bool) -> f64
-    ensures { λ r. ⌜ r ≡ scaledBy binary64 mean factor infinite v ⌝ }
-{
-    if infinite {
-        return 0.0;
-    }
-    if v != v {
-        return 0.0;
-    }
-    (v - mean) * factor
 }
 
 // The statistics that stand in the buffer for marker m.
@@ -161,10 +74,10 @@ fn column_stats(val: &[f64], start: usize, iid_count: usize) -> MarkerStats
     };
     let mut i = 0;
     while i < iid_count {
-        a = add_value(a, val[start + i]);
+        a = statistics::add_value(a, val[start + i]);
         i += 1;
     }
-    find_stats(a)
+    statistics::find_stats(a)
 }
 
 // Standardises the `iid_count` values from `start` on.
@@ -174,12 +87,12 @@ fn apply_column(val: &mut [f64], start: usize, iid_count: usize, s: Stats)
 {
     let mean = s.mean;
     let deviation = s.deviation;
-    let factor = find_factor(deviation);
-    let infinite = is_infinite(deviation);
+    let factor = statistics::find_factor(deviation);
+    let infinite = statistics::is_infinite(deviation);
     let mut i = 0;
     while i < iid_count {
         let at = start + i;
-        val[at] = scaled(val[at], mean, factor, infinite);
+        val[at] = statistics::scaled(val[at], mean, factor, infinite);
         i += 1;
     }
 }
@@ -336,7 +249,7 @@ fn count_row(
         let sum = sums[j];
         let square_sum = squares[j];
         let v = val[start + j];
-        let a = add_value(
+        let a = statistics::add_value(
             Accumulator {
                 count,
                 sum,
@@ -409,7 +322,7 @@ fn all_stats(
             let count = counts[j];
             let sum = sums[j];
             let square_sum = squares[j];
-            let found = find_stats(Accumulator {
+            let found = statistics::find_stats(Accumulator {
                 count,
                 sum,
                 squares: square_sum,
@@ -444,7 +357,7 @@ fn apply_row(
         let mean = means[j];
         let deviation = deviations[j];
         let factor = factors[j];
-        val[at] = scaled(v, mean, factor, is_infinite(deviation));
+        val[at] = statistics::scaled(v, mean, factor, statistics::is_infinite(deviation));
         j += 1;
     }
 }
@@ -468,7 +381,7 @@ fn load_tile(
         let s = get_stats(stats, base + j);
         means[j] = s.mean;
         deviations[j] = s.deviation;
-        factors[j] = find_factor(s.deviation);
+        factors[j] = statistics::find_factor(s.deviation);
         j += 1;
     }
 }

@@ -5,7 +5,8 @@ use native.Mathlib.Omega.{arith}
 use borrow.Author.Needs.{needs, scaled-fits}
 use lib.ListN.{length, length-set}
 use lib.Ieee.{binary64}
-use Rattle.standardise.specs.Steps.{scaledBy, written, changed}
+use Rattle.standardise.specs.Steps.{written, changed}
+use Rattle.statistics.specs.Statistics.{scaledBy}
 use Rattle.standardise.proofs.StoreLaws.{changed-more}
 use Rattle.standardise.proofs.ChoiceLaws.{all-scaled}
 use Rattle.standardise.proofs.apply_column.Statement.{statement}

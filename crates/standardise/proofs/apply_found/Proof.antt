@@ -2,7 +2,7 @@
 use mathlib.Core.Path.{sym, ap, _∙_}
 use lib.Ieee.{binary64}
 use borrow.Author.Tests.{not-true, not-false}
-use Rattle.standardise.specs.declared.MarkerStats.{MarkerStats}
+use Rattle.statistics.specs.declared.MarkerStats.{MarkerStats}
 use Rattle.standardise.specs.Standardised.{applied}
 use Rattle.standardise.proofs.ChoiceLaws.{not-applied, applied-found, refused-kept}
 use borrow.Author.Needs.{needs}

@@ -6,7 +6,8 @@ use native.Mathlib.Omega.{arith}
 use borrow.Author.Needs.{needs, scaled-fits}
 use lib.ListN.{length, getD, length-set}
 use lib.Ieee.{nan, binary64}
-use Rattle.standardise.specs.Steps.{scaledBy, scaledAt, written, from}
+use Rattle.standardise.specs.Steps.{scaledAt, written, from}
+use Rattle.statistics.specs.Statistics.{scaledBy}
 use Rattle.standardise.proofs.StoreLaws.{row-changed-more}
 use Rattle.standardise.proofs.ApplyLaws.{row-applied}
 use Rattle.standardise.proofs.apply_row.Statement.{statement}

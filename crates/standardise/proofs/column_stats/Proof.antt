@@ -4,9 +4,9 @@ use Prim.Native.Nat.{_-_, _≤_}
 use native.Mathlib.Omega.{arith}
 use borrow.Author.Needs.{needs, scaled-fits}
 use lib.Ieee.{binary64, ofBits}
-use Rattle.standardise.specs.Statistics.{accumulated}
+use Rattle.statistics.specs.Statistics.{accumulated}
 use Rattle.standardise.specs.Steps.{from}
-use Rattle.standardise.proofs.CountLaws.{accumulated-more, column-found}
+use Rattle.statistics.proofs.CountLaws.{accumulated-more, column-found}
 use Rattle.standardise.proofs.column_stats.Statement.{statement}
 use Rattle.standardise.proofs.column_stats.Tie as tie
 

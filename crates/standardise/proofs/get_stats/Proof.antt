@@ -1,6 +1,6 @@
 -- `get_stats` reads the places of marker m.
 use mathlib.Core.Path.{refl}
-use Rattle.standardise.specs.Statistics.{statsAt}
+use Rattle.statistics.specs.Statistics.{statsAt}
 use borrow.Author.Needs.{needs}
 use Rattle.standardise.proofs.get_stats.Statement.{statement}
 use Rattle.standardise.proofs.get_stats.Tie as tie

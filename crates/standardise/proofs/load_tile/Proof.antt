@@ -5,7 +5,7 @@ use native.Mathlib.Omega.{arith}
 use borrow.Author.Needs.{needs}
 use lib.ListN.{length, getD, length-set}
 use lib.Ieee.{nan, binary64}
-use Rattle.standardise.specs.Statistics.{statsAt}
+use Rattle.statistics.specs.Statistics.{statsAt}
 use Rattle.standardise.specs.Steps.{IsLoaded}
 use Rattle.standardise.proofs.ApplyLaws.{loaded-more}
 use Rattle.standardise.proofs.load_tile.Statement.{statement}

@@ -1,7 +1,7 @@
 -- `marker_stats`: lent, or worked out.
 use mathlib.Core.Path.{ap}
 use lib.Ieee.{binary64}
-use Rattle.standardise.specs.declared.MarkerStats.the-variants.{Found}
+use Rattle.statistics.specs.declared.MarkerStats.the-variants.{Found}
 use Rattle.standardise.proofs.ChoiceLaws.{found-lent, found-worked-out}
 use borrow.Author.Needs.{needs}
 use Rattle.standardise.proofs.marker_stats.Statement.{statement}

@@ -1,6 +1,6 @@
 -- `put_found`, by the choice and by what is found.
 use mathlib.Core.Path.{sym, ap, _∙_}
-use Rattle.standardise.specs.declared.MarkerStats.{MarkerStats}
+use Rattle.statistics.specs.declared.MarkerStats.{MarkerStats}
 use Rattle.standardise.specs.Standardised.{keptOrNew}
 use Rattle.standardise.proofs.ChoiceLaws.{lent-kept, found-stored, refused-stats-kept}
 use borrow.Author.Needs.{needs}

@@ -1,8 +1,8 @@
 -- `add_value` is `counted`.
 use lib.Ieee.{ofBits, binary64}
-use Rattle.standardise.proofs.FloatLaws.{nan-counted, number-counted}
-use Rattle.standardise.proofs.add_value.Statement.{statement}
-use Rattle.standardise.proofs.add_value.Tie as tie
+use Rattle.statistics.proofs.FloatLaws.{nan-counted, number-counted}
+use Rattle.statistics.proofs.add_value.Statement.{statement}
+use Rattle.statistics.proofs.add_value.Tie as tie
 
 returns : tie.Need-returns
 returns c = nan-counted binary64 _ _ (c .if1 .taken)

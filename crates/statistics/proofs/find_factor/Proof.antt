@@ -1,8 +1,8 @@
 -- `find_factor` is 1 / deviation.
 use mathlib.Core.Path.{refl}
 use lib.Ieee.{ofBits}
-use Rattle.standardise.proofs.find_factor.Statement.{statement}
-use Rattle.standardise.proofs.find_factor.Tie as tie
+use Rattle.statistics.proofs.find_factor.Statement.{statement}
+use Rattle.statistics.proofs.find_factor.Tie as tie
 
 returns : tie.Need-returns
 unfolding ofBits

@@ -7,12 +7,12 @@ use lib.IntN.{pos}
 use lib.Ieee.{Float, nan, inf, fin, Format, up, down, add, sub, mul, div, lt, le, eq, ne, isNan}
 use borrow.Author.Tests.{eq-eqb}
 use Rattle.root.specs.Root.{root}
-use Rattle.standardise.specs.declared.Accumulator.{Accumulator}
-use Rattle.standardise.specs.declared.Stats.{Stats}
-use Rattle.standardise.specs.declared.MarkerStats.{MarkerStats}
-use Rattle.standardise.specs.declared.MarkerStats.the-variants.{Found, NoIndividuals, IllegalSnpMean}
-use Rattle.standardise.specs.Statistics.{plusZero, one, counted, mean, variance, deviation, statsOf, isInfinite, standardised}
-use Rattle.standardise.specs.Steps.{statsFrom, scaledBy}
+use Rattle.statistics.specs.declared.Accumulator.{Accumulator}
+use Rattle.statistics.specs.declared.Stats.{Stats}
+use Rattle.statistics.specs.declared.MarkerStats.{MarkerStats}
+use Rattle.statistics.specs.declared.MarkerStats.the-variants.{Found, NoIndividuals, IllegalSnpMean}
+use Rattle.statistics.specs.Statistics.{plusZero, one, counted, mean, variance, deviation, statsOf, isInfinite, standardised}
+use Rattle.statistics.specs.Statistics.{statsFrom, scaledBy}
 
 -- "x != x" is the test for a NaN
 pub differs : (x : Float) → ne x x ≡ isNan x

@@ -1,8 +1,8 @@
 -- `scaled` is `scaledBy`, test by test.
 use lib.Ieee.{binary64, ofBits}
-use Rattle.standardise.proofs.FloatLaws.{scaled-infinite, scaled-nan, scaled-number}
-use Rattle.standardise.proofs.scaled.Statement.{statement}
-use Rattle.standardise.proofs.scaled.Tie as tie
+use Rattle.statistics.proofs.FloatLaws.{scaled-infinite, scaled-nan, scaled-number}
+use Rattle.statistics.proofs.scaled.Statement.{statement}
+use Rattle.statistics.proofs.scaled.Tie as tie
 
 returns : tie.Need-returns
 unfolding ofBits

@@ -1,8 +1,8 @@
 -- `is_infinite` is `isInfinite`.
 use lib.Ieee.{ofBits, div, neg}
-use Rattle.standardise.proofs.FloatLaws.{infinity-above, infinity-below}
-use Rattle.standardise.proofs.is_infinite.Statement.{statement}
-use Rattle.standardise.proofs.is_infinite.Tie as tie
+use Rattle.statistics.proofs.FloatLaws.{infinity-above, infinity-below}
+use Rattle.statistics.proofs.is_infinite.Statement.{statement}
+use Rattle.statistics.proofs.is_infinite.Tie as tie
 
 returns : tie.Need-returns
 unfolding ofBits div neg

@@ -10,12 +10,12 @@ use lib.Ieee.{Float, nan, inf, fin, Format, binary32, binary64, up, down, round,
 use lib.Ieee.Fits.{up-pos, down-pos}
 use lib.Ieee.Order.{round-mono}
 use borrow.Author.Tests.{le-ltb}
-use Rattle.standardise.specs.declared.Accumulator.{Accumulator}
-use Rattle.standardise.specs.declared.Stats.{Stats}
-use Rattle.standardise.specs.declared.MarkerStats.{MarkerStats}
-use Rattle.standardise.specs.declared.MarkerStats.the-variants.{Found, NoIndividuals, IllegalSnpMean}
-use Rattle.standardise.specs.Statistics.{plusZero, one, start, counted, accumulated, mean, statsOf, noValue, markerStats, foundFor}
-use Rattle.standardise.specs.Steps.{statsFrom}
+use Rattle.statistics.specs.declared.Accumulator.{Accumulator}
+use Rattle.statistics.specs.declared.Stats.{Stats}
+use Rattle.statistics.specs.declared.MarkerStats.{MarkerStats}
+use Rattle.statistics.specs.declared.MarkerStats.the-variants.{Found, NoIndividuals, IllegalSnpMean}
+use Rattle.statistics.specs.Statistics.{plusZero, one, start, counted, accumulated, mean, statsOf, noValue, markerStats, foundFor}
+use Rattle.statistics.specs.Statistics.{statsFrom}
 
 pub one-whole : (f : Format) → round f false 1 1 ≡ one
 unfolding round

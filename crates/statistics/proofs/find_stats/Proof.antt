@@ -1,9 +1,9 @@
 -- `find_stats` is `statsFrom`, test by test.
 use lib.Ieee.{binary64, ofBits, div}
-use Rattle.standardise.proofs.FloatLaws.{few-none, mean-nan, deviation-nan, deviation-low, deviation-found}
+use Rattle.statistics.proofs.FloatLaws.{few-none, mean-nan, deviation-nan, deviation-low, deviation-found}
 use borrow.Author.Needs.{needs}
-use Rattle.standardise.proofs.find_stats.Statement.{statement}
-use Rattle.standardise.proofs.find_stats.Tie as tie
+use Rattle.statistics.proofs.find_stats.Statement.{statement}
+use Rattle.statistics.proofs.find_stats.Tie as tie
 
 returns : tie.Need-returns
 unfolding ofBits

@@ -4,12 +4,12 @@ use mathlib.Core.List.{List, [], _∷_}
 use Prim.Native.Nat.{ℕ, zero, suc, _+_, _*_}
 use lib.IntN.{pos}
 use lib.ListN.{getD}
-use lib.Ieee.{Float, nan, inf, fin, Format, add, sub, mul, div, le, isNan}
+use lib.Ieee.{Float, nan, inf, fin, Format, add, sub, mul, div, lt, le, isNan}
 use Rattle.root.specs.Root.{root}
-use Rattle.standardise.specs.declared.Accumulator.{Accumulator}
-use Rattle.standardise.specs.declared.Stats.{Stats}
-use Rattle.standardise.specs.declared.MarkerStats.{MarkerStats}
-use Rattle.standardise.specs.declared.MarkerStats.the-variants.{Found, NoIndividuals, IllegalSnpMean}
+use Rattle.statistics.specs.declared.Accumulator.{Accumulator}
+use Rattle.statistics.specs.declared.Stats.{Stats}
+use Rattle.statistics.specs.declared.MarkerStats.{MarkerStats}
+use Rattle.statistics.specs.declared.MarkerStats.the-variants.{Found, NoIndividuals, IllegalSnpMean}
 
 -- +0 and 1
 abbrev pub plusZero : Float
@@ -89,3 +89,14 @@ isInfinite (fin s m e) = false
 unfoldable pub standardised : Format → Stats → Float → Float
 unfolding isInfinite
 standardised f s v = cond (isNan v || isInfinite (s .deviation)) plusZero (mul f (sub f v (s .mean)) (div f one (s .deviation)))
+
+-- ---- steps of the calculation
+
+-- what an accumulator says of its marker: it has no non-NaN value if its count is below 1
+unfoldable pub statsFrom : Format → Accumulator → MarkerStats
+unfolding mean statsOf
+statsFrom f a = cond (lt (a .count) one) NoIndividuals (cond (isNan (mean f a)) IllegalSnpMean (Found (statsOf f a)))
+
+-- a value standardised by the reciprocal of the deviation
+unfoldable pub scaledBy : Format → Float → Float → Bool → Float → Float
+scaledBy f mean factor infinite v = cond (isNan v || infinite) plusZero (mul f (sub f v mean) factor)
