@@ -1,2 +1,3 @@
 pub mod FloatLaws
 pub mod CountLaws
+pub mod Exact
