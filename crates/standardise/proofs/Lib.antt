@@ -5,3 +5,4 @@ pub mod PassLaws
 pub mod TileLaws
 pub mod ApplyLaws
 pub mod CallLaws
+pub mod Theorems
