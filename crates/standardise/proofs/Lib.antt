@@ -6,3 +6,4 @@ pub mod TileLaws
 pub mod ApplyLaws
 pub mod CallLaws
 pub mod Theorems
+pub mod Examples

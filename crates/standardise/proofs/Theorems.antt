@@ -6,17 +6,20 @@ use mathlib.Core.Logic.{_⊎_, inl, inr}
 use Prim.Native.Nat.{ℕ, zero, suc, _+_, _*_, _<_, _≤_}
 use native.Mathlib.Omega.{arith}
 use lib.Dec.{leb, eqb}
+use lib.IntN.{pos}
 use lib.ListN.{length, getD}
 use lib.Ieee.{Float, nan, Format}
 use Rattle.genotype.specs.Answer.{Answer, done, refused, check, checkCount, countLimit, isDone, ifDone}
 use Rattle.genotype.specs.Matrix.{matrixPlace, matrix}
 use Rattle.genotype.proofs.MatrixLaws.{getD-matrix}
 use Rattle.statistics.specs.declared.MarkerStats.{MarkerStats}
+use Rattle.statistics.specs.declared.MarkerStats.the-variants.{NoIndividuals}
 use Rattle.statistics.specs.Statistics.{statsPerMarker, statsAt, foundFor, markerStats}
 use Rattle.statistics.specs.Calls.{IsCall, FewEnough, NamesEachOnce}
 use Rattle.statistics.proofs.CountLaws.{foundFor-ext, markerStats-ext}
 use Rattle.statistics.proofs.Exact.{reordered-stats, names-below, names-same}
 use Rattle.standardise.specs.Standardised.{markerAnswer, markersAnswer, bufferChecks, keptOrNew, applied, value, found, lowestRefused, standardiseAnswer, newStats, mayChange, newValues, laterStats, laterValues}
+use Rattle.standardise.specs.Steps.{laterValue}
 use Rattle.standardise.proofs.CellLaws.{matrix-ext}
 
 -- ---- what rests on what is found for the markers
@@ -51,23 +54,28 @@ module _ (f : Format) (iids sids : ℕ) (order order′ : Bool) (val val′ : Li
       (λ c m. keptOrNew (found f order′ iids sids val′ useStats stats m) c (getD stats (m * statsPerMarker + c) nan))
       (λ c m a b. ap (λ (x : MarkerStats). keptOrNew x c (getD stats (m * statsPerMarker + c) nan)) (same m b)))
 
+-- whether a call changes values
+abbrev changes : Format → Bool → ℕ → ℕ → List Float → Bool → List Float → Bool → Bool
+changes f order iids sids val useStats stats apply = isDone (bufferChecks iids sids val stats (done [])) && (apply && mayChange f order iids sids val useStats stats)
+
 -- a value afterwards
 module _ (f : Format) (order : Bool) (iids sids : ℕ) (val : List Float) (useStats : Bool) (stats : List Float) (apply : Bool) (i m : ℕ) (hi : i < iids) (hm : m < sids) where
   later-value : value order iids sids (laterValues f order iids sids val useStats stats apply) i m
-      ≡ cond (isDone (bufferChecks iids sids val stats (done [])) && (apply && mayChange f order iids sids val useStats stats))
-      (applied f (found f order iids sids val useStats stats m) (value order iids sids val i m)) (value order iids sids val i m)
-  unfolding laterValues newValues value
+      ≡ laterValue f (changes f order iids sids val useStats stats apply) (found f order iids sids val useStats stats m) (value order iids sids val i m)
+  unfolding laterValues newValues value laterValue
   later-value = go (isDone (bufferChecks iids sids val stats (done []))) (apply && mayChange f order iids sids val useStats stats)
     where
-      new : List Float
-      new = matrix order iids sids (λ i m. applied f (found f order iids sids val useStats stats m) (getD val (matrixPlace order iids sids i m) nan))
+      new : ℕ → ℕ → Float
+      new i m = applied f (found f order iids sids val useStats stats m) (getD val (matrixPlace order iids sids i m) nan)
 
-      go : (b t : Bool) → getD (cond b (cond t new val) val) (matrixPlace order iids sids i m) nan
-          ≡ cond (b && t) (applied f (found f order iids sids val useStats stats m) (getD val (matrixPlace order iids sids i m) nan)) (getD val (matrixPlace order iids sids i m) nan)
-      go true true = getD-matrix iids sids i m hi hm order (λ i m. applied f (found f order iids sids val useStats stats m) (getD val (matrixPlace order iids sids i m) nan)) nan
+      go : (b t : Bool) → getD (cond b (cond t (matrix order iids sids new) val) val) (matrixPlace order iids sids i m) nan ≡ cond (b && t) (new i m) (getD val (matrixPlace order iids sids i m) nan)
+      go true true = getD-matrix iids sids i m hi hm order new nan
       go true false = refl
       go false true = refl
       go false false = refl
+
+same-cell : (f : Format) {a b : Bool} {x y : MarkerStats} {u v : Float} → a ≡ b → x ≡ y → u ≡ v → laterValue f a x u ≡ laterValue f b y v
+same-cell f p q r = λ i. laterValue f (p i) (q i) (r i)
 
 -- ---- 1. the two orders
 -- a check that passed
@@ -110,19 +118,13 @@ module _ (f : Format) (iids sids : ℕ) (rows cols : List Float) (useStats : Boo
       → value true iids sids (laterValues f true iids sids rows useStats stats apply) i m ≡ value false iids sids (laterValues f false iids sids cols useStats stats apply) i m
   unfolding standardiseAnswer
   orders-same-values e apply i m hi hm =
+      let done-rows = markers-done iids sids rows stats (lowestRefused f true iids sids rows useStats stats) e in
       later-value f true iids sids rows useStats stats apply i m hi hm
-      ∙ ap (λ (b : Bool). cond (isDone (bufferChecks iids sids rows stats (done [])) && (apply && b)) (applied f (found f true iids sids rows useStats stats m) (value true iids sids rows i m)) (value true iids sids rows i m)) may
-      ∙ ap (λ (a : Answer). cond (isDone a && (apply && true)) (applied f (found f true iids sids rows useStats stats m) (value true iids sids rows i m)) (value true iids sids rows i m)) (checks-same iids sids rows cols stats (done []) l)
-      ∙ ap (λ (x : MarkerStats). cond (isDone (bufferChecks iids sids cols stats (done [])) && (apply && true)) (applied f x (value true iids sids rows i m)) (value true iids sids rows i m)) (orders-found m hm)
-      ∙ ap (λ (v : Float). cond (isDone (bufferChecks iids sids cols stats (done [])) && (apply && true)) (applied f (found f false iids sids cols useStats stats m) v) v) (cells i m hi hm)
-      ∙ sym (later-value-false)
-    where
-      may : mayChange f true iids sids rows useStats stats ≡ true
-      may = may-rows f iids sids rows useStats stats (markers-done iids sids rows stats (lowestRefused f true iids sids rows useStats stats) e)
-
-      later-value-false : value false iids sids (laterValues f false iids sids cols useStats stats apply) i m
-          ≡ cond (isDone (bufferChecks iids sids cols stats (done [])) && (apply && true)) (applied f (found f false iids sids cols useStats stats m) (value false iids sids cols i m)) (value false iids sids cols i m)
-      later-value-false = later-value f false iids sids cols useStats stats apply i m hi hm ∙ ap (λ (b : Bool). cond (isDone (bufferChecks iids sids cols stats (done [])) && (apply && b)) (applied f (found f false iids sids cols useStats stats m) (value false iids sids cols i m)) (value false iids sids cols i m)) (may-columns f iids sids cols useStats stats)
+      ∙ same-cell f
+      (λ j. isDone (checks-same iids sids rows cols stats (done []) l j)
+        && (apply && (may-rows f iids sids rows useStats stats done-rows ∙ sym (may-columns f iids sids cols useStats stats)) j))
+      (orders-found m hm) (cells i m hi hm)
+      ∙ sym (later-value f false iids sids cols useStats stats apply i m hi hm)
 
 -- ---- 3. animals reordered
 -- row k of the one matrix is row π k of the other, and π names each animal once
@@ -158,8 +160,14 @@ module _ (f : Format) (order : Bool) (iids sids : ℕ) (val val′ : List Float)
       → value order iids sids (laterValues f order iids sids val′ useStats stats apply) k m ≡ value order iids sids (laterValues f order iids sids val useStats stats apply) (π k) m
   reordered-moved-values apply k m hk hm =
       later-value f order iids sids val′ useStats stats apply k m hk hm
-      ∙ ap (λ (b : Bool). cond (isDone (bufferChecks iids sids val′ stats (done [])) && (apply && b)) (applied f (found f order iids sids val′ useStats stats m) (value order iids sids val′ k m)) (value order iids sids val′ k m)) may-same
-      ∙ ap (λ (a : Answer). cond (isDone a && (apply && mayChange f order iids sids val useStats stats)) (applied f (found f order iids sids val′ useStats stats m) (value order iids sids val′ k m)) (value order iids sids val′ k m)) (checks-same iids sids val′ val stats (done []) l)
-      ∙ ap (λ (x : MarkerStats). cond (isDone (bufferChecks iids sids val stats (done [])) && (apply && mayChange f order iids sids val useStats stats)) (applied f x (value order iids sids val′ k m)) (value order iids sids val′ k m)) (reordered-found m hm)
-      ∙ ap (λ (v : Float). cond (isDone (bufferChecks iids sids val stats (done [])) && (apply && mayChange f order iids sids val useStats stats)) (applied f (found f order iids sids val useStats stats m) v) v) (moved k m hk hm)
+      ∙ same-cell f (λ j. isDone (checks-same iids sids val′ val stats (done []) l j) && (apply && may-same j)) (reordered-found m hm) (moved k m hk hm)
       ∙ sym (later-value f order iids sids val useStats stats apply (π k) m (names-below π iids names k hk) hm)
+
+-- ---- no animals: 13 for marker 0, if there is a marker
+pub no-animals : (f : Format) (order : Bool) (n : ℕ) (val stats : List Float) → lowestRefused f order 0 (suc n) val false stats ≡ refused 13 (pos 0 ∷ [])
+unfolding lowestRefused markersAnswer found foundFor markerStats markerAnswer ifDone
+no-animals f order n val stats = go n
+  where
+    go : (k : ℕ) → markersAnswer (λ m. NoIndividuals) (suc k) ≡ refused 13 (pos 0 ∷ [])
+    go zero = refl
+    go (suc k) = ap (λ (a : Answer). ifDone a (refused 13 (pos (suc k) ∷ [])) a) (go k)
