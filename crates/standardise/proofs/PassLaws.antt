@@ -20,6 +20,9 @@ use Rattle.standardise.proofs.CellLaws.{own-cells, matrix-ext, upTo, co
 use Rattle.statistics.proofs.CountLaws.{foundFor-ext}
 
 -- ---- the answer
+pub refusal-of : (a b x y : Answer) → b ≡ ifDone a x a → x ≡ y → b ≡ ifDone a y a
+refusal-of a b x y e g = e ∙ ap (λ (z : Answer). ifDone a z a) g
+
 module _ (found : ℕ → MarkerStats) where
   pub answer-more : (m : ℕ) (a b : Answer) (r : MarkerStats) → a ≡ markersAnswer found m → r ≡ found m → b ≡ ifDone a (markerAnswer m r) a
       → b ≡ markersAnswer found (m + 1)

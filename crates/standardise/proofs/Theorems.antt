@@ -36,7 +36,7 @@ checks-same iids sids val val′ stats later l =
     ap (λ (n : ℕ). checkCount iids (checkCount sids (check (eqb (iids * sids) n) 15 (check (eqb (statsPerMarker * sids) (length stats)) 17 later)))) l
 
 module _ (f : Format) (iids sids : ℕ) (order order′ : Bool) (val val′ : List Float) (useStats : Bool) (stats : List Float)
-  (l : length val ≡ length val′) (same : (m : ℕ) → m < sids → found f order iids sids val useStats stats m ≡ found f order′ iids sids val′ useStats stats m) where
+    (l : length val ≡ length val′) (same : (m : ℕ) → m < sids → found f order iids sids val useStats stats m ≡ found f order′ iids sids val′ useStats stats m) where
   lowest-same : lowestRefused f order iids sids val useStats stats ≡ lowestRefused f order′ iids sids val′ useStats stats
   unfolding lowestRefused
   lowest-same = markersAnswer-ext (found f order iids sids val useStats stats) (found f order′ iids sids val′ useStats stats) sids same
@@ -103,7 +103,7 @@ may-columns f iids sids val useStats stats = refl
 
 -- one matrix in animal order and in marker order
 module _ (f : Format) (iids sids : ℕ) (rows cols : List Float) (useStats : Bool) (stats : List Float) (l : length rows ≡ length cols)
-  (cells : (i m : ℕ) → i < iids → m < sids → value true iids sids rows i m ≡ value false iids sids cols i m) where
+    (cells : (i m : ℕ) → i < iids → m < sids → value true iids sids rows i m ≡ value false iids sids cols i m) where
   orders-found : (m : ℕ) → m < sids → found f true iids sids rows useStats stats m ≡ found f false iids sids cols useStats stats m
   unfolding found
   orders-found m h = foundFor-ext f (λ i. value true iids sids rows i m) (λ i. value false iids sids cols i m) useStats (statsAt stats m) iids (λ i k. cells i m k h)
@@ -122,16 +122,16 @@ module _ (f : Format) (iids sids : ℕ) (rows cols : List Float) (useStats : Boo
       later-value f true iids sids rows useStats stats apply i m hi hm
       ∙ same-cell f
       (λ j. isDone (checks-same iids sids rows cols stats (done []) l j)
-        && (apply && (may-rows f iids sids rows useStats stats done-rows ∙ sym (may-columns f iids sids cols useStats stats)) j))
+      && (apply && (may-rows f iids sids rows useStats stats done-rows ∙ sym (may-columns f iids sids cols useStats stats)) j))
       (orders-found m hm) (cells i m hi hm)
       ∙ sym (later-value f false iids sids cols useStats stats apply i m hi hm)
 
 -- ---- 3. animals reordered
 -- row k of the one matrix is row π k of the other, and π names each animal once
 module _ (f : Format) (order : Bool) (iids sids : ℕ) (val val′ : List Float) (useStats : Bool) (stats : List Float) (π : ℕ → ℕ) (names : NamesEachOnce π iids)
-  (l : length val′ ≡ length val) (moved : (k m : ℕ) → k < iids → m < sids → value order iids sids val′ k m ≡ value order iids sids val (π k) m)
-  -- lent statistics, or decoded calls of few enough animals
-  (known : (useStats ≡ true) ⊎ (FewEnough f iids × ((i m : ℕ) → i < iids → m < sids → IsCall (value order iids sids val i m)))) where
+    (l : length val′ ≡ length val) (moved : (k m : ℕ) → k < iids → m < sids → value order iids sids val′ k m ≡ value order iids sids val (π k) m)
+    -- lent statistics, or decoded calls of few enough animals
+    (known : (useStats ≡ true) ⊎ (FewEnough f iids × ((i m : ℕ) → i < iids → m < sids → IsCall (value order iids sids val i m)))) where
   reordered-found : (m : ℕ) → m < sids → found f order iids sids val′ useStats stats m ≡ found f order iids sids val useStats stats m
   unfolding found foundFor
   reordered-found m h =

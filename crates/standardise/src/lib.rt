@@ -183,14 +183,14 @@ fn marker_answer(m: usize, found: MarkerStats) -> StandardiseAnswer
     }
 }
 
-// The refusal so far, or else that of marker m.
-fn first_refusal(answer: StandardiseAnswer, m: usize, found: MarkerStats) -> StandardiseAnswer
-    ensures { λ r. ⌜ standardiseSays r ≡ ifDone (standardiseSays answer) (markerAnswer m found) (standardiseSays answer) ⌝ }
+// The first of two refusals, if any.
+fn first_refusal(earlier: StandardiseAnswer, later: StandardiseAnswer) -> StandardiseAnswer
+    ensures { λ r. ⌜ standardiseSays r ≡ ifDone (standardiseSays earlier) (standardiseSays later) (standardiseSays earlier) ⌝ }
 {
-    if is_done(answer) {
-        return marker_answer(m, found);
+    if is_done(earlier) {
+        return later;
     }
-    answer
+    earlier
 }
 
 // Marker order: each marker in turn.
@@ -212,7 +212,7 @@ fn process_all_sids(
     while m < sid_count {
         let start = m * iid_count;
         let found = process_sid(val, start, iid_count, m, apply_in_place, use_stats, stats);
-        answer = first_refusal(answer, m, found);
+        answer = first_refusal(answer, marker_answer(m, found));
         m += 1;
     }
     answer
@@ -300,7 +300,7 @@ fn all_stats(
     ensures { λ r. ⌜ (standardiseSays r ≡ lowestRefused binary64 true «iid_count» «sid_count» (now (val .entry)) false (now (stats .entry)))
         × (now (stats .exit) ≡ newStats binary64 true «iid_count» «sid_count» (now (val .entry)) false (now (stats .entry))) ⌝ }
 {
-    let mut answer = StandardiseAnswer::Done;
+    let mut lowest = StandardiseAnswer::Done;
     let mut base = 0;
     while base < sid_count {
         let width = tile_width(sid_count - base);
@@ -329,12 +329,12 @@ fn all_stats(
             });
             let m = base + j;
             put_found(stats, m, found, false);
-            answer = first_refusal(answer, m, found);
+            lowest = first_refusal(lowest, marker_answer(m, found));
             j += 1;
         }
         base += width;
     }
-    answer
+    lowest
 }
 
 // Standardises `width` neighbouring values of one animal, from `start` on, each by its marker's statistics.

@@ -77,7 +77,7 @@ one-more : (f : Format) (a : Accumulator) (n s q : ℕ) (v : Float) (k l : ℕ) 
 one-more f a n s q v k l hn hs hq p w z = record {
   count-exact = ap (λ (x : Float). add f x one) (p .count-exact) ∙ whole-add f n 1 one hn (refl, refl);
   sum-exact = ap (λ (x : Float). add f x v) (p .sum-exact) ∙ whole-add f s k v hs w;
-  squares-exact = ap (λ (x : Float). add f x (mul f v v)) (p .squares-exact) ∙ whole-add f q l (mul f v v) hq z
+  squares-exact = ap (λ (x : Float). add f x (mul f v v)) (p .squares-exact) ∙ whole-add f q l (mul f v v) hq z;
 }
 
 none-more : (f : Format) (a : Accumulator) (n s q : ℕ) → Exactly f a n s q → Exactly f a (n + 0) (s + 0) (q + 0)
@@ -145,7 +145,7 @@ module _ (f : Format) (xs ys : ℕ → Float) (n : ℕ) (calls : Calls xs n) (ca
       let a : accumulated f xs n .count ≡ accumulated f ys n .count = (exact-count f xs n calls few ∙ ap (whole f) (same present) ∙ sym (exact-count f ys n calls′ few)) in
       let b : accumulated f xs n .sum ≡ accumulated f ys n .sum = (exact-sum f xs n calls few ∙ ap (whole f) (same copies) ∙ sym (exact-sum f ys n calls′ few)) in
       let c : accumulated f xs n .squares ≡ accumulated f ys n .squares = (
-        exact-squares f xs n calls few ∙ ap (whole f) (same (λ v. copies v * copies v)) ∙ sym (exact-squares f ys n calls′ few)
+      exact-squares f xs n calls few ∙ ap (whole f) (same (λ v. copies v * copies v)) ∙ sym (exact-squares f ys n calls′ few)
       ) in
       λ i. triple (a i) (b i) (c i)
 

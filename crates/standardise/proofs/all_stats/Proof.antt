@@ -8,22 +8,22 @@ use borrow.Author.Needs.{needs}
 use lib.ListN.{length}
 use lib.Ieee.{Float, binary64, ofBits}
 use Rattle.standardise.specs.Standardised.{standardiseSays, found, lowestRefused, newStats}
-use Rattle.standardise.proofs.PassLaws.{StatsPassed, stats-passed-none, stats-passed-all, stats-length}
+use Rattle.standardise.proofs.PassLaws.{refusal-of, StatsPassed, stats-passed-none, stats-passed-all, stats-length}
 use Rattle.standardise.proofs.TileLaws.{tile-found, PassedFrom, passed-from-none, passed-from-more, passed-tile, zeros-start}
 use Rattle.standardise.proofs.all_stats.Statement.{statement}
 use Rattle.standardise.proofs.all_stats.Tie as tie
 
 abbrev Inv-loop2 : tie.InvT-loop2
-Inv-loop2 val iid-count sid-count stats₀ answer₀ base width counts sums squares j₀ stats answer j = (j ≤ width) × PassedFrom binary64 iid-count sid-count val base (standardiseSays answer₀) stats₀ j (standardiseSays answer) stats
+Inv-loop2 val iid-count sid-count stats₀ lowest₀ base width counts sums squares j₀ stats lowest j = (j ≤ width) × PassedFrom binary64 iid-count sid-count val base (standardiseSays lowest₀) stats₀ j (standardiseSays lowest) stats
 
 abbrev μ-loop2 : tie.MeasureT-loop2
-μ-loop2 val iid-count sid-count stats₀ answer₀ base width counts sums squares j₀ stats answer j = width - j
+μ-loop2 val iid-count sid-count stats₀ lowest₀ base width counts sums squares j₀ stats lowest j = width - j
 
 abbrev Inv-loop : tie.InvT-loop
-Inv-loop val iid-count sid-count stats₀ answer₀ base₀ stats answer base = StatsPassed sid-count false (found binary64 true iid-count sid-count val false stats₀) stats₀ base (standardiseSays answer) stats
+Inv-loop val iid-count sid-count stats₀ lowest₀ base₀ stats lowest base = StatsPassed sid-count false (found binary64 true iid-count sid-count val false stats₀) stats₀ base (standardiseSays lowest) stats
 
 abbrev μ-loop : tie.MeasureT-loop
-μ-loop val iid-count sid-count stats₀ answer₀ base₀ stats answer base = sid-count - base
+μ-loop val iid-count sid-count stats₀ lowest₀ base₀ stats lowest base = sid-count - base
 
 loop-holds : tie.Need-loop-holds Inv-loop2 μ-loop2 Inv-loop μ-loop
 unfolding standardiseSays
@@ -44,7 +44,7 @@ count-tile-requires c κs =
 loop2-holds : tie.Need-loop2-holds Inv-loop2 μ-loop2 Inv-loop μ-loop
 loop2-holds c =
     let s = c .before .before .before .before .before .before .before .before .before in
-    (omega arith, passed-from-none binary64 (s .args .iid-count) (s .args .sid-count) (s .args .val .now) (c .before .before .before .before .before .before .loop .base) (standardiseSays (c .before .before .before .before .before .before .loop .answer)) (c .before .before .before .before .before .before .loop .stats))
+    (omega arith, passed-from-none binary64 (s .args .iid-count) (s .args .sid-count) (s .args .val .now) (c .before .before .before .before .before .before .loop .base) (standardiseSays (c .before .before .before .before .before .before .loop .lowest)) (c .before .before .before .before .before .before .loop .stats))
 
 mul-count : tie.Need-mul-count Inv-loop2 μ-loop2 Inv-loop μ-loop
 mul-count c = omega arith
@@ -76,6 +76,9 @@ put-found-requires c κs =
     let k : length (c .before .before .before .before .before .before .before .before .before .before .loop .stats) ≡ 2 * c .before .before .before .before .before .before .before .before .before .before .before .before .before .args .sid-count = stats-length _ _ _ _ (c .before .before .before .before .before .before .before .before .before .before .loop .inv) in
     omega arith
 
+marker-answer-requires : tie.Need-marker-answer-requires Inv-loop2 μ-loop2 Inv-loop μ-loop
+marker-answer-requires c κs = search needs
+
 first-refusal-requires : tie.Need-first-refusal-requires Inv-loop2 μ-loop2 Inv-loop μ-loop
 first-refusal-requires c κs = search needs
 
@@ -87,13 +90,13 @@ loop2-less c = omega arith
 
 loop2-again : tie.Need-loop2-again Inv-loop2 μ-loop2 Inv-loop μ-loop
 loop2-again c =
-    let s = c .before .before .before .before .before .before .before .before .before .before .before .before .before .before .before .before .before in
-    let o = c .before .before .before .before .before .before .before .before .before .before .before .before .before .before .loop in
-    let l = c .before .before .before .before .before .before .before .loop2 in (
+    let s = c .before .before .before .before .before .before .before .before .before .before .before .before .before .before .before .before .before .before in
+    let o = c .before .before .before .before .before .before .before .before .before .before .before .before .before .before .before .loop in
+    let l = c .before .before .before .before .before .before .before .before .loop2 in (
       omega arith,
-      passed-from-more binary64 (s .args .iid-count) (s .args .sid-count) (s .args .val .now) (o .base) (standardiseSays (o .answer)) (o .stats) (l .j) (standardiseSays (l .answer)) (l .stats) (l .inv .1) (omega arith) _ _
-          (c .before .before .before .before .before .find-stats .ensures) (c .before .before .before .before .before .before .before .before .count-tile .ensures (l .j) (c .before .before .before .before .before .before .loop2-test .taken)) _ _ (c .first-refusal .ensures) (c .before .before .before .put-found .kept .0)
-          (c .before .before .before .put-found .ensures),
+      passed-from-more binary64 (s .args .iid-count) (s .args .sid-count) (s .args .val .now) (o .base) (standardiseSays (o .lowest)) (o .stats) (l .j) (standardiseSays (l .lowest)) (l .stats) (l .inv .1) (omega arith) _ _
+          (c .before .before .before .before .before .before .find-stats .ensures) (c .before .before .before .before .before .before .before .before .before .count-tile .ensures (l .j) (c .before .before .before .before .before .before .before .loop2-test .taken)) _ _ (refusal-of _ _ _ _ (c .first-refusal .ensures) (c .before .marker-answer .ensures)) (c .before .before .before .before .put-found .kept .0)
+          (c .before .before .before .before .put-found .ensures),
     )
 
 add-base : tie.Need-add-base Inv-loop2 μ-loop2 Inv-loop μ-loop
@@ -137,6 +140,7 @@ all-stats-spec =
     find-stats-requires
     add-m
     put-found-requires
+    marker-answer-requires
     first-refusal-requires
     add-j
     loop2-less

@@ -1,6 +1,4 @@
--- `first_refusal`: the refusal so far, or else that of marker m.
-use mathlib.Core.Path.{_∙_}
-use Rattle.standardise.specs.Standardised.{standardiseSays, markerAnswer}
+-- `first_refusal`: the earlier one, or else the later one.
 use Rattle.standardise.proofs.ChoiceLaws.{done-so-far, refused-so-far}
 use borrow.Author.Needs.{needs}
 use Rattle.standardise.proofs.first_refusal.Statement.{statement}
@@ -9,14 +7,11 @@ use Rattle.standardise.proofs.first_refusal.Tie as tie
 is-done-requires : tie.Need-is-done-requires
 is-done-requires c κs = search needs
 
-marker-answer-requires : tie.Need-marker-answer-requires
-marker-answer-requires c κs = search needs
-
 returns : tie.Need-returns
-returns c = c .marker-answer .ensures ∙ done-so-far _ _ _ (c .before .before .is-done .ensures) (c .before .if1 .taken)
+returns c = done-so-far _ _ _ (c .before .is-done .ensures) (c .if1 .taken)
 
 returns-2 : tie.Need-returns-2
 returns-2 c = refused-so-far _ _ _ (c .before .is-done .ensures) (c .if1 .left)
 
 pub first-refusal-spec : {M : Type 1} → statement M
-first-refusal-spec = tie.close (tie.spec is-done-requires marker-answer-requires returns returns-2)
+first-refusal-spec = tie.close (tie.spec is-done-requires returns returns-2)

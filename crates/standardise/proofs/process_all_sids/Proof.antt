@@ -6,7 +6,7 @@ use borrow.Author.Needs.{needs}
 use lib.ListN.{length}
 use lib.Ieee.{binary64}
 use Rattle.standardise.specs.Standardised.{standardiseSays}
-use Rattle.standardise.proofs.PassLaws.{Passed, passed-none, passed-more, passed-all, column-inside, marker-inside, values-length, stats-length}
+use Rattle.standardise.proofs.PassLaws.{refusal-of, Passed, passed-none, passed-more, passed-all, column-inside, marker-inside, values-length, stats-length}
 use Rattle.standardise.proofs.process_all_sids.Statement.{statement}
 use Rattle.standardise.proofs.process_all_sids.Tie as tie
 
@@ -36,6 +36,9 @@ process-sid-requires c κs =
     let p = c .before .before .before .loop .inv in
     (column-inside binary64 (s .args .iid-count) (s .args .sid-count) (s .args .val .now) (s .args .use-stats) (s .args .stats .now) (s .args .apply-in-place) p (c .before .before .loop-test .taken), marker-inside _ _ _ _ (p .counted) (c .before .before .loop-test .taken))
 
+marker-answer-requires : tie.Need-marker-answer-requires Inv-loop μ-loop
+marker-answer-requires c κs = search needs
+
 first-refusal-requires : tie.Need-first-refusal-requires Inv-loop μ-loop
 first-refusal-requires c κs = search needs
 
@@ -47,9 +50,9 @@ loop-less c = omega arith
 
 loop-again : tie.Need-loop-again Inv-loop μ-loop
 loop-again c =
-    let s = c .before .before .before .before .before .before .before .before .before .before .before .before in
-    let e = c .before .before .before .before .before .process-sid .ensures in
-    passed-more binary64 (s .args .iid-count) (s .args .sid-count) (s .args .val .now) (s .args .use-stats) (s .args .stats .now) (s .args .apply-in-place) (c .before .before .before .before .before .before .before .before .loop-test .taken) (c .before .before .before .before .before .before .before .before .before .loop .inv) _ (e .0) _ _ _ (c .first-refusal .ensures) (e .1) (e .2)
+    let s = c .before .before .before .before .before .before .before .before .before .before .before .before .before in
+    let e = c .before .before .before .before .before .before .process-sid .ensures in
+    passed-more binary64 (s .args .iid-count) (s .args .sid-count) (s .args .val .now) (s .args .use-stats) (s .args .stats .now) (s .args .apply-in-place) (c .before .before .before .before .before .before .before .before .before .loop-test .taken) (c .before .before .before .before .before .before .before .before .before .before .loop .inv) _ (e .0) _ _ _ (refusal-of _ _ _ _ (c .first-refusal .ensures) (c .before .marker-answer .ensures)) (e .1) (e .2)
 
 same-length : tie.Need-same-length Inv-loop μ-loop
 same-length c = let s = c .before .before .before .before in values-length binary64 (s .args .iid-count) (s .args .sid-count) (s .args .val .now) (s .args .use-stats) (s .args .stats .now) (s .args .apply-in-place) (c .before .loop .inv) ∙ s .pre .0
@@ -69,6 +72,7 @@ process-all-sids-spec =
     loop-holds
     mul-start
     process-sid-requires
+    marker-answer-requires
     first-refusal-requires
     add-m
     loop-less
