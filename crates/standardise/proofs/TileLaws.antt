@@ -17,7 +17,7 @@ use Rattle.statistics.specs.declared.Accumulator.{Accumulator}
 use Rattle.statistics.specs.declared.MarkerStats.{MarkerStats}
 use Rattle.statistics.specs.Statistics.{plusZero, start, counted, accumulated, foundFor, statsPerMarker}
 use Rattle.standardise.specs.Standardised.{value, found, markerAnswer}
-use Rattle.standardise.specs.Steps.{from, accumulatorAt, laterStat, written}
+use Rattle.standardise.specs.Steps.{tileWidth, from, accumulatorAt, laterStat, written}
 use Rattle.statistics.specs.Statistics.{statsFrom}
 use Rattle.statistics.proofs.CountLaws.{accumulated-more, stats-from}
 use Rattle.standardise.proofs.PassLaws.{StatsPassed, stats-passed-more, oldStat}
@@ -40,9 +40,9 @@ module _ (counts sums squares : List Float) (j : ℕ) (a : Accumulator) where
       ∙ ap (λ (z : Float). triple (getD counts k nan) (getD sums k nan) z) (getD-set-other squares j k (a .squares) nan n)
 
 pub record AreLong (counts sums squares : List Float) : Type 0 where
-  pub counts-long : length counts ≡ 32
-  pub sums-long : length sums ≡ 32
-  pub squares-long : length squares ≡ 32
+  pub counts-long : length counts ≡ tileWidth
+  pub sums-long : length sums ≡ tileWidth
+  pub squares-long : length squares ≡ tileWidth
 
 -- ---- one animal: the first j of its values are counted
 module _ (f : Format) (row : ℕ → Float) (before : ℕ → Accumulator) where
@@ -50,7 +50,7 @@ module _ (f : Format) (row : ℕ → Float) (before : ℕ → Accumulator) where
     pub long : AreLong counts sums squares
     pub each : (k : ℕ) → accumulatorAt counts sums squares k ≡ cond (ltb k j) (counted f (before k) (row k)) (before k)
 
-  pub row-more : (j : ℕ) (counts sums squares : List Float) (a : Accumulator) → j < 32 → RowCounted j counts sums squares
+  pub row-more : (j : ℕ) (counts sums squares : List Float) (a : Accumulator) → j < tileWidth → RowCounted j counts sums squares
       → a ≡ counted f (accumulatorAt counts sums squares j) (row j) → RowCounted (j + 1) (set counts j (a .count)) (set sums j (a .sum)) (set squares j (a .squares))
   row-more j counts sums squares a h p e = record {
     long = record {
@@ -63,9 +63,9 @@ module _ (f : Format) (row : ℕ → Float) (before : ℕ → Accumulator) where
     where
       same : (k : ℕ) → k ≡ j → accumulatorAt (set counts j (a .count)) (set sums j (a .sum)) (set squares j (a .squares)) k ≡ cond (ltb k (j + 1)) (counted f (before k) (row k)) (before k)
       same k q =
-          let l1 : length counts ≡ 32 = p .long .counts-long in
-          let l2 : length sums ≡ 32 = p .long .sums-long in
-          let l3 : length squares ≡ 32 = p .long .squares-long in
+          let l1 : length counts ≡ tileWidth = p .long .counts-long in
+          let l2 : length sums ≡ tileWidth = p .long .sums-long in
+          let l3 : length squares ≡ tileWidth = p .long .squares-long in
           let old : accumulatorAt counts sums squares j ≡ before j = (p .each j ∙ ap (λ (b : Bool). cond b (counted f (before j) (row j)) (before j)) (le-ltb j j (omega arith))) in
           ap (accumulatorAt (set counts j (a .count)) (set sums j (a .sum)) (set squares j (a .squares))) q
           ∙ at-same counts sums squares j a (omega arith) (omega arith) (omega arith)
@@ -155,5 +155,5 @@ module _ (f : Format) (iids sids : ℕ) (val : List Float) (base : ℕ) (answer�
   }
 
 -- accumulators of zeros
-pub zeros-start : (j : ℕ) → j < 32 → accumulatorAt (replicate 32 plusZero) (replicate 32 plusZero) (replicate 32 plusZero) j ≡ start
-zeros-start j h = ap (λ (x : Float). triple x x x) (getD-replicate 32 j plusZero nan h)
+pub zeros-start : (j : ℕ) → j < tileWidth → accumulatorAt (replicate tileWidth plusZero) (replicate tileWidth plusZero) (replicate tileWidth plusZero) j ≡ start
+zeros-start j h = ap (λ (x : Float). triple x x x) (getD-replicate tileWidth j plusZero nan h)

@@ -14,6 +14,10 @@ use Rattle.statistics.specs.declared.MarkerStats.the-variants.{Found, NoIndivid
 use Rattle.statistics.specs.Statistics.{one, statsAt, isInfinite, standardised, scaledBy}
 use Rattle.standardise.specs.Standardised.{value, keptOrNew, applied}
 
+-- how many neighbouring markers are accumulated at a time in animal order
+abbrev pub tileWidth : ℕ
+tileWidth = 1024
+
 -- the later number of a marker's statistics, and the later value of one of its values, by the two choices
 unfoldable pub laterStat : Bool → MarkerStats → ℕ → Float → Float
 unfolding keptOrNew

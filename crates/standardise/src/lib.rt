@@ -10,7 +10,7 @@ ghost use lib.Ieee.{nan, binary64};
 ghost use Rattle.genotype.specs.Answer.{isDone, ifDone};
 ghost use Rattle.statistics.specs.Statistics.{start, counted, accumulated, markerStats, foundFor, statsPerMarker, inPlaces, statsAt, standardised};
 ghost use Rattle.standardise.specs.Standardised.{value, standardiseSays, markerAnswer, lowestRefused, newStats, newValues, standardiseAnswer, laterStats, laterValues};
-ghost use Rattle.standardise.specs.Steps.{laterStat, laterValue, from, changed, written, accumulatorAt, scaledAt, IsLoaded, tileApplied, allApplied};
+ghost use Rattle.standardise.specs.Steps.{tileWidth, laterStat, laterValue, from, changed, written, accumulatorAt, scaledAt, IsLoaded, tileApplied, allApplied};
 
 // How many numbers a marker has in the statistics buffer: mean, then deviation.
 pub const STATS_PER_MARKER: usize = 2;
@@ -219,11 +219,11 @@ fn process_all_sids(
 }
 
 // How many neighbouring markers are accumulated at a time in animal order.
-const TILE: usize = 32;
+const TILE: usize = 1024;
 
 fn tile_width(left: usize) -> usize
     requires { ⌜ 0 < left ⌝ }
-    ensures { λ r. ⌜ (0 < r) × (r ≤ left) × (r ≤ 32) ⌝ }
+    ensures { λ r. ⌜ (0 < r) × (r ≤ left) × (r ≤ tileWidth) ⌝ }
 {
     if left < TILE { left } else { TILE }
 }
@@ -233,13 +233,13 @@ fn count_row(
     val: &[f64],
     start: usize,
     width: usize,
-    counts: &mut [f64; 32],
-    sums: &mut [f64; 32],
-    squares: &mut [f64; 32],
+    counts: &mut [f64; TILE],
+    sums: &mut [f64; TILE],
+    squares: &mut [f64; TILE],
 )
-    requires { ⌜ (start + width ≤ length (now val)) × (width ≤ 32)
-        × (length (now counts) ≡ 32) × (length (now sums) ≡ 32) × (length (now squares) ≡ 32) ⌝ }
-    ensures { λ _. ⌜ (length (now (counts .exit)) ≡ 32) × (length (now (sums .exit)) ≡ 32) × (length (now (squares .exit)) ≡ 32)
+    requires { ⌜ (start + width ≤ length (now val)) × (width ≤ tileWidth)
+        × (length (now counts) ≡ tileWidth) × (length (now sums) ≡ tileWidth) × (length (now squares) ≡ tileWidth) ⌝ }
+    ensures { λ _. ⌜ (length (now (counts .exit)) ≡ tileWidth) × (length (now (sums .exit)) ≡ tileWidth) × (length (now (squares .exit)) ≡ tileWidth)
         × ((j : ℕ) → j < width → accumulatorAt (now (counts .exit)) (now (sums .exit)) (now (squares .exit)) j
         ≡ counted binary64 (accumulatorAt (now (counts .entry)) (now (sums .entry)) (now (squares .entry)) j) (from (now (val .entry)) start j)) ⌝ }
 {
@@ -271,12 +271,12 @@ fn count_tile(
     sid_count: usize,
     base: usize,
     width: usize,
-    counts: &mut [f64; 32],
-    sums: &mut [f64; 32],
-    squares: &mut [f64; 32],
+    counts: &mut [f64; TILE],
+    sums: &mut [f64; TILE],
+    squares: &mut [f64; TILE],
 )
-    requires { ⌜ («iid_count» * «sid_count» ≡ length (now val)) × (base + width ≤ «sid_count») × (width ≤ 32)
-        × (length (now counts) ≡ 32) × (length (now sums) ≡ 32) × (length (now squares) ≡ 32)
+    requires { ⌜ («iid_count» * «sid_count» ≡ length (now val)) × (base + width ≤ «sid_count») × (width ≤ tileWidth)
+        × (length (now counts) ≡ tileWidth) × (length (now sums) ≡ tileWidth) × (length (now squares) ≡ tileWidth)
         × ((j : ℕ) → j < width → accumulatorAt (now counts) (now sums) (now squares) j ≡ start) ⌝ }
     ensures { λ _. ⌜ ((j : ℕ) → j < width → accumulatorAt (now (counts .exit)) (now (sums .exit)) (now (squares .exit)) j
         ≡ accumulated binary64 (λ i. value true «iid_count» «sid_count» (now (val .entry)) i (base + j)) «iid_count») ⌝ }
@@ -304,9 +304,9 @@ fn all_stats(
     let mut base = 0;
     while base < sid_count {
         let width = tile_width(sid_count - base);
-        let mut counts = [0.0; 32];
-        let mut sums = [0.0; 32];
-        let mut squares = [0.0; 32];
+        let mut counts = [0.0; TILE];
+        let mut sums = [0.0; TILE];
+        let mut squares = [0.0; TILE];
         count_tile(
             val,
             iid_count,
@@ -342,11 +342,11 @@ fn apply_row(
     val: &mut [f64],
     start: usize,
     width: usize,
-    means: &[f64; 32],
-    deviations: &[f64; 32],
-    factors: &[f64; 32],
+    means: &[f64; TILE],
+    deviations: &[f64; TILE],
+    factors: &[f64; TILE],
 )
-    requires { ⌜ (start + width ≤ length (now val)) × (width ≤ 32) ⌝ }
+    requires { ⌜ (start + width ≤ length (now val)) × (width ≤ tileWidth) ⌝ }
     ensures { λ _. ⌜ now (val .exit) ≡ written (now (val .entry)) (λ j. start + j)
         (λ j. scaledAt binary64 (now (means .entry)) (now (deviations .entry)) (now (factors .entry)) j (from (now (val .entry)) start j)) width ⌝ }
 {
@@ -367,12 +367,12 @@ fn load_tile(
     stats: &[f64],
     base: usize,
     width: usize,
-    means: &mut [f64; 32],
-    deviations: &mut [f64; 32],
-    factors: &mut [f64; 32],
+    means: &mut [f64; TILE],
+    deviations: &mut [f64; TILE],
+    factors: &mut [f64; TILE],
 )
-    requires { ⌜ ((base + width) * statsPerMarker ≤ length (now stats)) × (width ≤ 32)
-        × (length (now means) ≡ 32) × (length (now deviations) ≡ 32) × (length (now factors) ≡ 32) ⌝ }
+    requires { ⌜ ((base + width) * statsPerMarker ≤ length (now stats)) × (width ≤ tileWidth)
+        × (length (now means) ≡ tileWidth) × (length (now deviations) ≡ tileWidth) × (length (now factors) ≡ tileWidth) ⌝ }
     ensures { λ _. ⌜ ((j : ℕ) → j < width → IsLoaded binary64 (statsAt (now (stats .entry)) (base + j))
         (getD (now (means .exit)) j nan) (getD (now (deviations .exit)) j nan) (getD (now (factors .exit)) j nan)) ⌝ }
 {
@@ -396,12 +396,12 @@ fn apply_tile(
     stats: &[f64],
 )
     requires { ⌜ («iid_count» * «sid_count» ≡ length (now val)) × (statsPerMarker * «sid_count» ≡ length (now stats))
-        × (base + width ≤ «sid_count») × (width ≤ 32) ⌝ }
+        × (base + width ≤ «sid_count») × (width ≤ tileWidth) ⌝ }
     ensures { λ _. ⌜ now (val .exit) ≡ tileApplied binary64 «iid_count» «sid_count» (now (stats .entry)) base width (now (val .entry)) ⌝ }
 {
-    let mut means = [0.0; 32];
-    let mut deviations = [0.0; 32];
-    let mut factors = [0.0; 32];
+    let mut means = [0.0; TILE];
+    let mut deviations = [0.0; TILE];
+    let mut factors = [0.0; TILE];
     load_tile(
         stats,
         base,

@@ -6,13 +6,13 @@ use borrow.Author.Needs.{needs}
 use lib.ListN.{length, getD, length-set}
 use lib.Ieee.{nan, binary64}
 use Rattle.statistics.specs.Statistics.{statsAt}
-use Rattle.standardise.specs.Steps.{IsLoaded}
+use Rattle.standardise.specs.Steps.{tileWidth, IsLoaded}
 use Rattle.standardise.proofs.ApplyLaws.{loaded-more}
 use Rattle.standardise.proofs.load_tile.Statement.{statement}
 use Rattle.standardise.proofs.load_tile.Tie as tie
 
 abbrev Inv-loop : tie.InvT-loop
-Inv-loop stats base width means₀ deviations₀ factors₀ j₀ means deviations factors j = (j ≤ width) × (length means ≡ 32) × (length deviations ≡ 32) × (length factors ≡ 32)
+Inv-loop stats base width means₀ deviations₀ factors₀ j₀ means deviations factors j = (j ≤ width) × (length means ≡ tileWidth) × (length deviations ≡ tileWidth) × (length factors ≡ tileWidth)
     × ((k : ℕ) → k < j → IsLoaded binary64 (statsAt stats (base + k)) (getD means k nan) (getD deviations k nan) (getD factors k nan))
 
 abbrev μ-loop : tie.MeasureT-loop
