@@ -2,21 +2,21 @@
 use mathlib.Core.Path.{_≡_, refl, sym, ap, subst, _∙_}
 use mathlib.Core.Bool.{Bool, true, false, _&&_, cond}
 use mathlib.Core.List.{List}
-use Prim.Native.Nat.{ℕ, zero, suc, _+_, _-_, _*_, _<_, _≤_}
+use Prim.Native.Nat.{ℕ, suc, _+_, _-_, _*_, _<_, _≤_}
 use native.Mathlib.Nat.{add-assoc}
 use native.Mathlib.Omega.{arith}
 use lib.Dec.{ltb, leb, eqb}
-use lib.ListN.{length, getD, set, length-set}
+use lib.ListN.{length, getD, set}
 use lib.Seq.{getD-set-same, getD-set-other}
 use lib.Ieee.{Float, nan, Format, div}
-use borrow.Author.Tests.{eqb-true, eqb-false, lt-ltb, le-ltb, le-leb, lt-leb, leb-true, leb-false, ltb-true, ltb-false}
+use borrow.Author.Tests.{eqb-true, eqb-false, lt-ltb, le-ltb, le-leb, lt-leb}
 use Rattle.genotype.specs.Matrix.{matrixPlace, matrix}
 use Rattle.genotype.proofs.Tests.{by-test, by-lt, leb-both}
 use Rattle.genotype.proofs.MatrixLaws.{length-matrix, getD-matrix}
 use Rattle.statistics.specs.declared.Stats.{Stats}
 use Rattle.statistics.specs.Statistics.{one, isInfinite, standardised, statsAt}
 use Rattle.standardise.specs.Standardised.{value}
-use Rattle.standardise.specs.Steps.{scaledAt, IsLoaded, written, from, tileApplied, allApplied}
+use Rattle.standardise.specs.Steps.{scaledAt, IsLoaded, written, from, markersApplied, allApplied}
 use Rattle.statistics.specs.Statistics.{scaledBy}
 use Rattle.standardise.proofs.StoreLaws.{written-places}
 use Rattle.standardise.proofs.CellLaws.{own-cells, matrix-ext, written-cells, upTo, upTo-below, upTo-above, none-new, all-new}
@@ -187,8 +187,8 @@ module _ (f : Format) (iids sids : ℕ) (stats val : List Float) where
         ∙ ap (standardised f (statsAt stats (base + j)))
         (ap (λ (x : List Float). getD x (r * sids + base + j) nan) e ∙ tile-row-old iids sids base width newCell oldCell r j h k l))
 
-    pub rows-all : (r : ℕ) (now : List Float) → RowsPassed r now → iids ≤ r → now ≡ tileApplied f iids sids stats base width val
-    unfolding tileApplied inTile
+    pub rows-all : (r : ℕ) (now : List Float) → RowsPassed r now → iids ≤ r → now ≡ markersApplied f iids sids stats base width val
+    unfolding markersApplied inTile
     rows-all r now e h = e ∙ tile-end iids sids base width newCell oldCell r h
 
   abbrev pub TilesPassed : ℕ → List Float → Type 0
@@ -200,8 +200,8 @@ module _ (f : Format) (iids sids : ℕ) (stats val : List Float) where
   pub tiles-length : (m : ℕ) (now : List Float) → TilesPassed m now → length now ≡ iids * sids
   tiles-length m now e = ap length e ∙ length-matrix true iids sids (upTo m newCell oldCell)
 
-  pub tiles-more : (base width : ℕ) (now later : List Float) → TilesPassed base now → later ≡ tileApplied f iids sids stats base width now → TilesPassed (base + width) later
-  unfolding tileApplied value inTile
+  pub tiles-more : (base width : ℕ) (now later : List Float) → TilesPassed base now → later ≡ markersApplied f iids sids stats base width now → TilesPassed (base + width) later
+  unfolding markersApplied value inTile
   tiles-more base width now later e w =
       w
       ∙ matrix-ext true iids sids

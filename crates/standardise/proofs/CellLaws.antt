@@ -1,18 +1,17 @@
 -- Matrices that are changed cell by cell.
-use mathlib.Core.Path.{_≡_, refl, sym, ap, subst, _∙_}
+use mathlib.Core.Path.{_≡_, refl, sym, ap, _∙_}
 use mathlib.Core.Bool.{Bool, true, false, cond}
 use mathlib.Core.List.{List}
-use Prim.Native.Nat.{ℕ, zero, suc, _+_, _*_, _/_, _%_, _<_, _≤_}
-use native.Mathlib.Numerals.{add-one}
+use Prim.Native.Nat.{ℕ, suc, _+_, _*_, _/_, _%_, _<_, _≤_}
 use native.Mathlib.Nat.{mul-comm, div-add-mod', div-lt-iff-lt-mul, mod-lt, zero-mul, pos-of-ne-zero, mul-zero}
 use native.Mathlib.Omega.{arith}
-use lib.Dec.{eqb, ltb}
+use lib.Dec.{ltb}
 use lib.ListN.{length, getD}
 use lib.Seq.{ext-getD}
 use lib.Ieee.{Float, nan}
-use borrow.Author.Tests.{eqb-true, eqb-false, lt-ltb, le-ltb}
+use borrow.Author.Tests.{lt-ltb, le-ltb}
 use Rattle.genotype.specs.Matrix.{matrixPlace, matrix}
-use Rattle.genotype.proofs.Tests.{by-test, by-lt, leb-both}
+use Rattle.genotype.proofs.Tests.{leb-both}
 use Rattle.genotype.proofs.MatrixLaws.{length-matrix, place-below, getD-matrix}
 use Rattle.standardise.specs.Steps.{written}
 use Rattle.standardise.proofs.StoreLaws.{length-written, getD-written}

@@ -1,6 +1,6 @@
 -- What is found, stored and changed, by the two choices.
-use mathlib.Core.Path.{_≡_, refl, sym, ap, subst, _∙_}
-use mathlib.Core.Bool.{Bool, true, false, not, cond}
+use mathlib.Core.Path.{_≡_, refl, sym, ap, _∙_}
+use mathlib.Core.Bool.{Bool, true, false, cond}
 use mathlib.Core.List.{List}
 use Prim.Native.Nat.{ℕ, _+_, _*_, _≤_}
 use native.Mathlib.Nat.{add-zero}
@@ -10,11 +10,10 @@ use lib.Ieee.{Float, nan, Format, div}
 use Rattle.genotype.specs.Answer.{Answer, isDone, ifDone}
 use Rattle.statistics.specs.declared.Stats.{Stats}
 use Rattle.statistics.specs.declared.MarkerStats.{MarkerStats}
-use Rattle.statistics.specs.declared.MarkerStats.the-variants.{Found, NoIndividuals, IllegalSnpMean}
-use Rattle.standardise.specs.declared.StandardiseAnswer.{StandardiseAnswer}
+use Rattle.statistics.specs.declared.MarkerStats.the-variants.{Found}
 use Rattle.statistics.specs.Statistics.{one, isInfinite, standardised, inPlaces, statsPerMarker, markerStats, foundFor}
-use Rattle.standardise.specs.Standardised.{keptOrNew, applied, standardiseSays}
-use Rattle.standardise.specs.Steps.{laterStat, laterValue, written, from, changed}
+use Rattle.standardise.specs.Standardised.{keptOrNew, applied}
+use Rattle.standardise.specs.Steps.{laterStat, laterValue, written, changed}
 use Rattle.statistics.specs.Statistics.{scaledBy}
 use Rattle.standardise.proofs.StoreLaws.{written-ext, written-same, changed-ext}
 

@@ -1,6 +1,6 @@
 -- The theorems' hypotheses can be met: two animals, whose calls at one marker are 0 and 2.
 use mathlib.Core.Path.{_≡_, refl}
-use mathlib.Core.Bool.{Bool, true, false}
+use mathlib.Core.Bool.{true, false}
 use mathlib.Core.List.{List, [], _∷_}
 use mathlib.Core.Logic.{inr}
 use Prim.Native.Nat.{ℕ, zero, suc, _-_, _<_}
@@ -8,7 +8,6 @@ use native.Mathlib.Nat.{le-of-suc-le-suc, not-suc-le-zero}
 use native.Mathlib.Omega.{arith}
 use lib.Dec.{lit≤}
 use lib.Ieee.{Float, nan, binary64}
-use Rattle.genotype.specs.Answer.{isDone}
 use Rattle.statistics.specs.Statistics.{plusZero}
 use Rattle.statistics.specs.Calls.{two, IsCall, isZero, isTwo, total, NamesEachOnce}
 use Rattle.standardise.specs.Standardised.{value, standardiseAnswer, laterStats, laterValues}

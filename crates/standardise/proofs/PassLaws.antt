@@ -1,8 +1,8 @@
 -- Going through the markers one after the other.
-use mathlib.Core.Path.{_≡_, refl, sym, ap, subst, _∙_}
+use mathlib.Core.Path.{_≡_, refl, sym, ap, _∙_}
 use mathlib.Core.Bool.{Bool, true, false, _&&_, cond}
 use mathlib.Core.List.{List, []}
-use Prim.Native.Nat.{ℕ, zero, suc, _+_, _*_, _<_, _≤_}
+use Prim.Native.Nat.{ℕ, suc, _+_, _*_, _<_, _≤_}
 use native.Mathlib.Numerals.{add-one}
 use native.Mathlib.Nat.{add-zero, mul-comm, mul-le-mul-right, suc-mul}
 use native.Mathlib.Omega.{arith}
@@ -16,7 +16,7 @@ use Rattle.statistics.specs.Statistics.{statsPerMarker, statsAt, foundFor}
 use Rattle.standardise.specs.Standardised.{markerAnswer, markersAnswer, keptOrNew, applied, value, found, lowestRefused, newStats, mayChange, newValues}
 use Rattle.standardise.specs.Steps.{laterStat, laterValue, written, from, changed}
 use Rattle.genotype.proofs.MatrixLaws.{length-matrix}
-use Rattle.standardise.proofs.CellLaws.{own-cells, matrix-ext, upTo, column-more, column-old, none-new, all-new}
+use Rattle.standardise.proofs.CellLaws.{own-cells, upTo, column-more, column-old, none-new, all-new}
 use Rattle.statistics.proofs.CountLaws.{foundFor-ext}
 
 -- ---- the answer

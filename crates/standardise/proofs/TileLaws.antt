@@ -2,7 +2,7 @@
 use mathlib.Core.Path.{_≡_, refl, sym, ap, subst, _∙_}
 use mathlib.Core.Bool.{Bool, true, false, cond}
 use mathlib.Core.List.{List}
-use Prim.Native.Nat.{ℕ, zero, suc, _+_, _*_, _<_, _≤_}
+use Prim.Native.Nat.{ℕ, suc, _+_, _*_, _<_, _≤_}
 use native.Mathlib.Nat.{suc-mul, mul-le-mul-right, add-assoc, add-zero}
 use native.Mathlib.Omega.{arith}
 use lib.Dec.{ltb, eqb}
@@ -17,10 +17,14 @@ use Rattle.statistics.specs.declared.Accumulator.{Accumulator}
 use Rattle.statistics.specs.declared.MarkerStats.{MarkerStats}
 use Rattle.statistics.specs.Statistics.{plusZero, start, counted, accumulated, foundFor, statsPerMarker}
 use Rattle.standardise.specs.Standardised.{value, found, markerAnswer}
-use Rattle.standardise.specs.Steps.{tileWidth, from, accumulatorAt, laterStat, written}
+use Rattle.standardise.specs.Steps.{from, accumulatorAt, laterStat, written}
 use Rattle.statistics.specs.Statistics.{statsFrom}
 use Rattle.statistics.proofs.CountLaws.{accumulated-more, stats-from}
 use Rattle.standardise.proofs.PassLaws.{StatsPassed, stats-passed-more, oldStat}
+
+-- how many neighbouring markers are accumulated at a time
+abbrev pub tileWidth : ℕ
+tileWidth = 1024
 
 abbrev triple : Float → Float → Float → Accumulator
 triple x y z = record { count = x; sum = y; squares = z }

@@ -8,7 +8,6 @@ use lib.ListN.{length, getD}
 use lib.Ieee.{Float, nan, Format}
 use Rattle.genotype.specs.Answer.{Answer, done, refused, check, checkCount, isDone, ifDone}
 use Rattle.genotype.specs.Matrix.{matrixPlace, matrix}
-use Rattle.statistics.specs.declared.Stats.{Stats}
 use Rattle.statistics.specs.declared.MarkerStats.{MarkerStats}
 use Rattle.statistics.specs.declared.MarkerStats.the-variants.{Found, NoIndividuals, IllegalSnpMean}
 use Rattle.standardise.specs.declared.StandardiseAnswer.{StandardiseAnswer}

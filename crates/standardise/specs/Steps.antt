@@ -1,22 +1,17 @@
 -- What the steps of the calculation promise each other. Nothing outside this crate rests on it. Definitions only.
 use mathlib.Core.Path.{_≡_}
-use mathlib.Core.Bool.{Bool, true, false, _&&_, _||_, cond}
+use mathlib.Core.Bool.{Bool, true, _&&_, cond}
 use mathlib.Core.List.{List}
 use Prim.Native.Nat.{ℕ, zero, suc, _+_}
 use lib.Dec.{leb, ltb}
 use lib.ListN.{getD, set}
-use lib.Ieee.{Float, nan, Format, sub, mul, div, lt, isNan}
+use lib.Ieee.{Float, nan, Format, div}
 use Rattle.genotype.specs.Matrix.{matrix}
 use Rattle.statistics.specs.declared.Accumulator.{Accumulator}
 use Rattle.statistics.specs.declared.Stats.{Stats}
 use Rattle.statistics.specs.declared.MarkerStats.{MarkerStats}
-use Rattle.statistics.specs.declared.MarkerStats.the-variants.{Found, NoIndividuals, IllegalSnpMean}
 use Rattle.statistics.specs.Statistics.{one, statsAt, isInfinite, standardised, scaledBy}
 use Rattle.standardise.specs.Standardised.{value, keptOrNew, applied}
-
--- how many neighbouring markers are accumulated at a time in animal order
-abbrev pub tileWidth : ℕ
-tileWidth = 1024
 
 -- the later number of a marker's statistics, and the later value of one of its values, by the two choices
 unfoldable pub laterStat : Bool → MarkerStats → ℕ → Float → Float
@@ -27,7 +22,7 @@ unfoldable pub laterValue : Format → Bool → MarkerStats → Float → Float
 unfolding applied
 laterValue f apply found v = cond apply (applied f found v) v
 
--- a list after the first k of a row of stores: of `value j` at `place j`
+-- a list in which, for each j below k in turn, the place `place j` is given the value `value j`
 unfoldable pub written : List Float → (ℕ → ℕ) → (ℕ → Float) → ℕ → List Float
 written xs place value zero = xs
 written xs place value (suc k) = set (written xs place value k) (place k) (value k)
@@ -56,13 +51,13 @@ pub record IsLoaded (f : Format) (s : Stats) (mean deviation factor : Float) : T
   pub its-deviation : deviation ≡ s .deviation
   pub its-factor : factor ≡ div f one (s .deviation)
 
--- an animal-order matrix whose markers are all standardised, and one of which only some neighbouring ones are
+-- an animal-order matrix whose markers are all standardised, and one of which only `width` markers from marker `base` on are
 unfoldable pub allApplied : Format → ℕ → ℕ → List Float → List Float → List Float
 unfolding matrix standardised statsAt value
 allApplied f iids sids stats val = matrix true iids sids (λ i m. standardised f (statsAt stats m) (value true iids sids val i m))
 
-unfoldable pub tileApplied : Format → ℕ → ℕ → List Float → ℕ → ℕ → List Float → List Float
+unfoldable pub markersApplied : Format → ℕ → ℕ → List Float → ℕ → ℕ → List Float → List Float
 unfolding matrix standardised statsAt value
-tileApplied f iids sids stats base width val =
+markersApplied f iids sids stats base width val =
     matrix true iids sids
     (λ i m. cond (leb base m && ltb m (base + width)) (standardised f (statsAt stats m) (value true iids sids val i m)) (value true iids sids val i m))

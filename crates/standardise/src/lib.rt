@@ -10,7 +10,7 @@ ghost use lib.Ieee.{nan, binary64};
 ghost use Rattle.genotype.specs.Answer.{isDone, ifDone};
 ghost use Rattle.statistics.specs.Statistics.{start, counted, accumulated, markerStats, foundFor, statsPerMarker, inPlaces, statsAt, standardised};
 ghost use Rattle.standardise.specs.Standardised.{value, standardiseSays, markerAnswer, lowestRefused, newStats, newValues, standardiseAnswer, laterStats, laterValues};
-ghost use Rattle.standardise.specs.Steps.{tileWidth, laterStat, laterValue, from, changed, written, accumulatorAt, scaledAt, IsLoaded, tileApplied, allApplied};
+ghost use Rattle.standardise.specs.Steps.{laterStat, laterValue, from, changed, written, accumulatorAt, scaledAt, IsLoaded, markersApplied, allApplied};
 
 // How many numbers a marker has in the statistics buffer: mean, then deviation.
 pub const STATS_PER_MARKER: usize = 2;
@@ -223,7 +223,7 @@ const TILE: usize = 1024;
 
 fn tile_width(left: usize) -> usize
     requires { ⌜ 0 < left ⌝ }
-    ensures { λ r. ⌜ (0 < r) × (r ≤ left) × (r ≤ tileWidth) ⌝ }
+    ensures { λ r. ⌜ (0 < r) × (r ≤ left) × (r ≤ 1024) ⌝ }
 {
     if left < TILE { left } else { TILE }
 }
@@ -237,9 +237,9 @@ fn count_row(
     sums: &mut [f64; TILE],
     squares: &mut [f64; TILE],
 )
-    requires { ⌜ (start + width ≤ length (now val)) × (width ≤ tileWidth)
-        × (length (now counts) ≡ tileWidth) × (length (now sums) ≡ tileWidth) × (length (now squares) ≡ tileWidth) ⌝ }
-    ensures { λ _. ⌜ (length (now (counts .exit)) ≡ tileWidth) × (length (now (sums .exit)) ≡ tileWidth) × (length (now (squares .exit)) ≡ tileWidth)
+    requires { ⌜ (start + width ≤ length (now val)) × (width ≤ 1024)
+        × (length (now counts) ≡ 1024) × (length (now sums) ≡ 1024) × (length (now squares) ≡ 1024) ⌝ }
+    ensures { λ _. ⌜ (length (now (counts .exit)) ≡ 1024) × (length (now (sums .exit)) ≡ 1024) × (length (now (squares .exit)) ≡ 1024)
         × ((j : ℕ) → j < width → accumulatorAt (now (counts .exit)) (now (sums .exit)) (now (squares .exit)) j
         ≡ counted binary64 (accumulatorAt (now (counts .entry)) (now (sums .entry)) (now (squares .entry)) j) (from (now (val .entry)) start j)) ⌝ }
 {
@@ -275,8 +275,8 @@ fn count_tile(
     sums: &mut [f64; TILE],
     squares: &mut [f64; TILE],
 )
-    requires { ⌜ («iid_count» * «sid_count» ≡ length (now val)) × (base + width ≤ «sid_count») × (width ≤ tileWidth)
-        × (length (now counts) ≡ tileWidth) × (length (now sums) ≡ tileWidth) × (length (now squares) ≡ tileWidth)
+    requires { ⌜ («iid_count» * «sid_count» ≡ length (now val)) × (base + width ≤ «sid_count») × (width ≤ 1024)
+        × (length (now counts) ≡ 1024) × (length (now sums) ≡ 1024) × (length (now squares) ≡ 1024)
         × ((j : ℕ) → j < width → accumulatorAt (now counts) (now sums) (now squares) j ≡ start) ⌝ }
     ensures { λ _. ⌜ ((j : ℕ) → j < width → accumulatorAt (now (counts .exit)) (now (sums .exit)) (now (squares .exit)) j
         ≡ accumulated binary64 (λ i. value true «iid_count» «sid_count» (now (val .entry)) i (base + j)) «iid_count») ⌝ }
@@ -346,7 +346,7 @@ fn apply_row(
     deviations: &[f64; TILE],
     factors: &[f64; TILE],
 )
-    requires { ⌜ (start + width ≤ length (now val)) × (width ≤ tileWidth) ⌝ }
+    requires { ⌜ (start + width ≤ length (now val)) × (width ≤ 1024) ⌝ }
     ensures { λ _. ⌜ now (val .exit) ≡ written (now (val .entry)) (λ j. start + j)
         (λ j. scaledAt binary64 (now (means .entry)) (now (deviations .entry)) (now (factors .entry)) j (from (now (val .entry)) start j)) width ⌝ }
 {
@@ -371,8 +371,8 @@ fn load_tile(
     deviations: &mut [f64; TILE],
     factors: &mut [f64; TILE],
 )
-    requires { ⌜ ((base + width) * statsPerMarker ≤ length (now stats)) × (width ≤ tileWidth)
-        × (length (now means) ≡ tileWidth) × (length (now deviations) ≡ tileWidth) × (length (now factors) ≡ tileWidth) ⌝ }
+    requires { ⌜ ((base + width) * statsPerMarker ≤ length (now stats)) × (width ≤ 1024)
+        × (length (now means) ≡ 1024) × (length (now deviations) ≡ 1024) × (length (now factors) ≡ 1024) ⌝ }
     ensures { λ _. ⌜ ((j : ℕ) → j < width → IsLoaded binary64 (statsAt (now (stats .entry)) (base + j))
         (getD (now (means .exit)) j nan) (getD (now (deviations .exit)) j nan) (getD (now (factors .exit)) j nan)) ⌝ }
 {
@@ -396,8 +396,8 @@ fn apply_tile(
     stats: &[f64],
 )
     requires { ⌜ («iid_count» * «sid_count» ≡ length (now val)) × (statsPerMarker * «sid_count» ≡ length (now stats))
-        × (base + width ≤ «sid_count») × (width ≤ tileWidth) ⌝ }
-    ensures { λ _. ⌜ now (val .exit) ≡ tileApplied binary64 «iid_count» «sid_count» (now (stats .entry)) base width (now (val .entry)) ⌝ }
+        × (base + width ≤ «sid_count») × (width ≤ 1024) ⌝ }
+    ensures { λ _. ⌜ now (val .exit) ≡ markersApplied binary64 «iid_count» «sid_count» (now (stats .entry)) base width (now (val .entry)) ⌝ }
 {
     let mut means = [0.0; TILE];
     let mut deviations = [0.0; TILE];

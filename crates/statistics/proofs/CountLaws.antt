@@ -5,16 +5,16 @@ use Prim.Native.Nat.{ℕ, zero, suc, _+_, _*_, _<_, _≤_}
 use native.Mathlib.Numerals.{add-one}
 use native.Mathlib.Omega.{arith}
 use lib.Dec.{T, ltb, eqb, ltb→lt, eqb→eq}
-use lib.IntN.{ℤ, pos, negsuc}
+use lib.IntN.{ℤ}
 use lib.Ieee.{Float, nan, inf, fin, Format, binary32, binary64, up, down, round, add, mul, lt, le, eq, isNan}
-use lib.Ieee.Fits.{up-pos, down-pos}
+use lib.Ieee.Fits.{down-pos}
 use lib.Ieee.Order.{round-mono}
 use borrow.Author.Tests.{le-ltb}
 use Rattle.statistics.specs.declared.Accumulator.{Accumulator}
 use Rattle.statistics.specs.declared.Stats.{Stats}
 use Rattle.statistics.specs.declared.MarkerStats.{MarkerStats}
 use Rattle.statistics.specs.declared.MarkerStats.the-variants.{Found, NoIndividuals, IllegalSnpMean}
-use Rattle.statistics.specs.Statistics.{plusZero, one, start, counted, accumulated, mean, statsOf, noValue, markerStats, foundFor}
+use Rattle.statistics.specs.Statistics.{plusZero, one, counted, accumulated, mean, statsOf, noValue, markerStats, foundFor}
 use Rattle.statistics.specs.Statistics.{statsFrom}
 
 pub one-whole : (f : Format) → round f false 1 1 ≡ one

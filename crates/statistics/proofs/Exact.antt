@@ -6,16 +6,15 @@ use native.Mathlib.Nat.{mul-pos, eq-or-lt-of-le, le-of-suc-le-suc}
 use native.Mathlib.Omega.{arith}
 use mathlib.Core.Logic.{_⊎_, inl, inr}
 use lib.Dec.{lit≤, ltb}
-use lib.IntN.{ℤ, pos}
-use lib.Ieee.{Float, nan, inf, fin, Format, binary32, binary64, prec, up, down, round, ofInt, add, mul, isNan}
+use lib.IntN.{pos}
+use lib.Ieee.{Float, fin, Format, binary32, binary64, prec, up, down, round, ofInt, add, mul, isNan}
 use lib.Ieee.Fits.{down-pos}
 use lib.Ieee.Exact.{HasValue}
 use lib.Ieee.Back.{round-whole}
 use lib.Ieee.Scale.{round-same}
 use borrow.Author.Tests.{ltb-true, lt-ltb}
 use Rattle.statistics.specs.declared.Accumulator.{Accumulator}
-use Rattle.statistics.specs.declared.MarkerStats.{MarkerStats}
-use Rattle.statistics.specs.Statistics.{plusZero, one, start, counted, accumulated, markerStats, statsFrom}
+use Rattle.statistics.specs.Statistics.{plusZero, one, counted, accumulated, markerStats, statsFrom}
 use Rattle.statistics.specs.Calls.{two, IsCall, isZero, isOne, isTwo, isMissing, whole, present, copies, total, FewEnough, Calls, SameSums, NamesEachOnce}
 use Rattle.statistics.proofs.CountLaws.{stats-from}
 

@@ -1,17 +1,13 @@
 -- The tests of the code on floats, and what each step promises: laws over the format.
-use mathlib.Core.Path.{_≡_, refl, sym, ap, subst, _∙_}
-use mathlib.Core.Bool.{Bool, true, false, not, _&&_, _||_, cond}
-use Prim.Native.Nat.{ℕ, _*_}
-use lib.Dec.{T, eqb}
-use lib.IntN.{pos}
+use mathlib.Core.Path.{_≡_, refl, sym, ap, _∙_}
+use mathlib.Core.Bool.{Bool, true, false, _||_, cond}
+use Prim.Native.Nat.{_*_}
 use lib.Ieee.{Float, nan, inf, fin, Format, up, down, add, sub, mul, div, lt, le, eq, ne, isNan}
 use borrow.Author.Tests.{eq-eqb}
 use Rattle.root.specs.Root.{root}
 use Rattle.statistics.specs.declared.Accumulator.{Accumulator}
-use Rattle.statistics.specs.declared.Stats.{Stats}
-use Rattle.statistics.specs.declared.MarkerStats.{MarkerStats}
 use Rattle.statistics.specs.declared.MarkerStats.the-variants.{Found, NoIndividuals, IllegalSnpMean}
-use Rattle.statistics.specs.Statistics.{plusZero, one, counted, mean, variance, deviation, statsOf, isInfinite, standardised}
+use Rattle.statistics.specs.Statistics.{plusZero, one, counted, mean, variance, deviation, statsOf, isInfinite}
 use Rattle.statistics.specs.Statistics.{statsFrom, scaledBy}
 
 -- "x != x" is the test for a NaN

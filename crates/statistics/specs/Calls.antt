@@ -1,6 +1,6 @@
 -- Decoded calls, whole numbers as floats, and animals reordered: what the theorems of proofs/Exact speak of.
 use mathlib.Core.Path.{_≡_}
-use mathlib.Core.Bool.{true, false, cond}
+use mathlib.Core.Bool.{false, cond}
 use Prim.Native.Nat.{ℕ, zero, suc, _+_, _*_, _^_, _<_, _≤_}
 use lib.IntN.{pos}
 use lib.Ieee.{Float, nan, inf, fin, Format, prec, up, ofInt, isNan}

@@ -1,15 +1,14 @@
 -- `all_stats`: the markers passed, tile by tile.
-use mathlib.Core.Path.{_≡_, refl, sym, ap, _∙_, subst}
+use mathlib.Core.Path.{_≡_, refl, _∙_}
 use mathlib.Core.Bool.{false, true}
-use mathlib.Core.List.{List}
-use Prim.Native.Nat.{ℕ, _+_, _*_, _-_, _≤_, _<_}
+use Prim.Native.Nat.{_*_, _-_, _≤_}
 use native.Mathlib.Omega.{arith}
 use borrow.Author.Needs.{needs}
 use lib.ListN.{length}
-use lib.Ieee.{Float, binary64, ofBits}
+use lib.Ieee.{binary64, ofBits}
 use Rattle.standardise.specs.Standardised.{standardiseSays, found, lowestRefused, newStats}
 use Rattle.standardise.proofs.PassLaws.{refusal-of, StatsPassed, stats-passed-none, stats-passed-all, stats-length}
-use Rattle.standardise.proofs.TileLaws.{tile-found, PassedFrom, passed-from-none, passed-from-more, passed-tile, zeros-start}
+use Rattle.standardise.proofs.TileLaws.{PassedFrom, passed-from-none, passed-from-more, passed-tile, zeros-start}
 use Rattle.standardise.proofs.all_stats.Statement.{statement}
 use Rattle.standardise.proofs.all_stats.Tie as tie
 

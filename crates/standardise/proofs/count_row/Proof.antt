@@ -1,11 +1,10 @@
 -- `count_row`: the values passed are counted.
-use mathlib.Core.Path.{_≡_, refl, sym, ap, _∙_}
 use Prim.Native.Nat.{_-_, _≤_}
 use native.Mathlib.Omega.{arith}
 use borrow.Author.Needs.{needs, scaled-fits}
 use lib.Ieee.{binary64}
 use Rattle.standardise.specs.Steps.{from, accumulatorAt}
-use Rattle.standardise.proofs.TileLaws.{AreLong, RowCounted, row-none, row-more, row-all}
+use Rattle.standardise.proofs.TileLaws.{RowCounted, row-none, row-more, row-all}
 use Rattle.standardise.proofs.count_row.Statement.{statement}
 use Rattle.standardise.proofs.count_row.Tie as tie
 

@@ -1,8 +1,6 @@
 -- `count_tile`: the animals passed are counted.
-use mathlib.Core.Path.{_≡_}
 use Prim.Native.Nat.{_+_, _*_, _-_, _≤_}
 use native.Mathlib.Omega.{arith}
-use borrow.Author.Needs.{needs}
 use lib.Ieee.{binary64}
 use Rattle.standardise.proofs.TileLaws.{TileCounted, tile-none, tile-more, tile-all, row-inside}
 use Rattle.standardise.proofs.count_tile.Statement.{statement}

@@ -6,7 +6,8 @@ use borrow.Author.Needs.{needs}
 use lib.ListN.{length, getD, length-set}
 use lib.Ieee.{nan, binary64}
 use Rattle.statistics.specs.Statistics.{statsAt}
-use Rattle.standardise.specs.Steps.{tileWidth, IsLoaded}
+use Rattle.standardise.specs.Steps.{IsLoaded}
+use Rattle.standardise.proofs.TileLaws.{tileWidth}
 use Rattle.standardise.proofs.ApplyLaws.{loaded-more}
 use Rattle.standardise.proofs.load_tile.Statement.{statement}
 use Rattle.standardise.proofs.load_tile.Tie as tie

@@ -1,6 +1,5 @@
 -- `process_all_iids`: the statistics, then the values.
 use lib.Ieee.{binary64}
-use Rattle.standardise.specs.Standardised.{standardiseSays}
 use Rattle.standardise.proofs.CallLaws.{rows-values}
 use borrow.Author.Needs.{needs}
 use Rattle.standardise.proofs.process_all_iids.Statement.{statement}
