@@ -10,12 +10,13 @@ use lib.IntN.{pos}
 use lib.ListN.{length, getD}
 use lib.Ieee.{Float, nan, Format}
 use Rattle.genotype.specs.Answer.{Answer, done, refused, check, checkCount, countLimit, isDone, ifDone}
+use Rattle.genotype.specs.Value.{float, values, valueOf}
 use Rattle.genotype.specs.Matrix.{matrixPlace, matrix}
 use Rattle.genotype.proofs.MatrixLaws.{getD-matrix}
 use Rattle.statistics.specs.declared.MarkerStats.{MarkerStats}
 use Rattle.statistics.specs.declared.MarkerStats.the-variants.{NoIndividuals}
 use Rattle.statistics.specs.Statistics.{statsPerMarker, statsAt, foundFor, markerStats}
-use Rattle.statistics.specs.Calls.{IsCall, FewEnough, NamesEachOnce}
+use Rattle.statistics.specs.Calls.{IsCall, isZero, isOne, isTwo, isMissing, FewEnough, NamesEachOnce}
 use Rattle.statistics.proofs.CountLaws.{foundFor-ext}
 use Rattle.statistics.proofs.Exact.{reordered-stats, names-below, names-same}
 use Rattle.standardise.specs.Standardised.{markerAnswer, markersAnswer, bufferChecks, keptOrNew, applied, value, found, lowestRefused, standardiseAnswer, newStats, mayChange, newValues, laterStats, laterValues}
@@ -171,3 +172,17 @@ no-animals f order n val stats = go n
     go : (k : ℕ) → markersAnswer (λ m. NoIndividuals) (suc k) ≡ refused 13 (pos 0 ∷ [])
     go zero = refl
     go (suc k) = ap (λ (a : Answer). ifDone a (refused 13 (pos (suc k) ∷ [])) a) (go k)
+
+-- ---- what reading decodes are calls
+pub decoded-call : (flag : Bool) (code : ℕ) → IsCall (valueOf float flag nan code)
+unfolding valueOf values
+decoded-call true zero = isTwo
+decoded-call true (suc zero) = isMissing
+decoded-call true (suc (suc zero)) = isOne
+decoded-call true (suc (suc (suc zero))) = isZero
+decoded-call true (suc (suc (suc (suc n)))) = isMissing
+decoded-call false zero = isZero
+decoded-call false (suc zero) = isMissing
+decoded-call false (suc (suc zero)) = isOne
+decoded-call false (suc (suc (suc zero))) = isTwo
+decoded-call false (suc (suc (suc (suc n)))) = isMissing
