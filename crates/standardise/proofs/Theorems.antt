@@ -56,12 +56,12 @@ module _ (f : Format) (iids sids : ℕ) (order order′ : Bool) (val val′ : Li
       (λ c m a b. ap (λ (x : MarkerStats). keptOrNew x c (getD stats (m * statsPerMarker + c) nan)) (same m b)))
 
 -- whether a call changes values
-abbrev changes : Format → Bool → ℕ → ℕ → List Float → Bool → List Float → Bool → Bool
+abbrev pub changes : Format → Bool → ℕ → ℕ → List Float → Bool → List Float → Bool → Bool
 changes f order iids sids val useStats stats apply = isDone (bufferChecks iids sids val stats (done [])) && (apply && mayChange f order iids sids val useStats stats)
 
 -- a value afterwards
 module _ (f : Format) (order : Bool) (iids sids : ℕ) (val : List Float) (useStats : Bool) (stats : List Float) (apply : Bool) (i m : ℕ) (hi : i < iids) (hm : m < sids) where
-  later-value : value order iids sids (laterValues f order iids sids val useStats stats apply) i m
+  pub later-value : value order iids sids (laterValues f order iids sids val useStats stats apply) i m
       ≡ laterValue f (changes f order iids sids val useStats stats apply) (found f order iids sids val useStats stats m) (value order iids sids val i m)
   unfolding laterValues newValues value laterValue
   later-value = go (isDone (bufferChecks iids sids val stats (done []))) (apply && mayChange f order iids sids val useStats stats)
@@ -126,6 +126,28 @@ module _ (f : Format) (iids sids : ℕ) (rows cols : List Float) (useStats : Boo
       && (apply && (may-rows f iids sids rows useStats stats done-rows ∙ sym (may-columns f iids sids cols useStats stats)) j))
       (orders-found m hm) (cells i m hi hm)
       ∙ sym (later-value f false iids sids cols useStats stats apply i m hi hm)
+
+-- at a refusal the animal-order one changes no value
+refused-kept : (p q r t : Bool) (markers : Answer) (apply : Bool) (new old : List Float)
+    → isDone (check p 18 (check q 18 (check r 15 (check t 17 markers)))) ≡ false
+    → ifDone (check p 18 (check q 18 (check r 15 (check t 17 (done []))))) (cond (apply && isDone markers) new old) old ≡ old
+unfolding check isDone ifDone
+refused-kept false q r t markers apply new old e = refl
+refused-kept true false r t markers apply new old e = refl
+refused-kept true true false t markers apply new old e = refl
+refused-kept true true true false markers apply new old e = refl
+refused-kept true true true true markers apply new old e = ap (λ (b : Bool). cond (apply && b) new old) e ∙ neither apply
+  where
+    neither : (b : Bool) → cond (b && false) new old ≡ old
+    neither true = refl
+    neither false = refl
+
+pub rows-unchanged : (f : Format) (iids sids : ℕ) (val : List Float) (useStats : Bool) (stats : List Float) (apply : Bool)
+    → isDone (standardiseAnswer f true iids sids val useStats stats) ≡ false → laterValues f true iids sids val useStats stats apply ≡ val
+unfolding standardiseAnswer laterValues newValues mayChange bufferChecks checkCount
+rows-unchanged f iids sids val useStats stats apply e =
+    refused-kept (leb iids countLimit) (leb sids countLimit) (eqb (iids * sids) (length val)) (eqb (statsPerMarker * sids) (length stats))
+    (lowestRefused f true iids sids val useStats stats) apply (matrix true iids sids (λ i m. applied f (found f true iids sids val useStats stats m) (value true iids sids val i m))) val e
 
 -- ---- 3. animals reordered
 -- row k of the one matrix is row π k of the other, and π names each animal once
