@@ -1,0 +1,163 @@
+-- Accumulators of neighbouring markers, animal by animal.
+use mathlib.Core.Path.{_≡_, refl, sym, ap, subst, _∙_}
+use mathlib.Core.Bool.{Bool, true, false, cond}
+use mathlib.Core.List.{List}
+use Prim.Native.Nat.{ℕ, suc, _+_, _*_, _<_, _≤_}
+use native.Mathlib.Nat.{suc-mul, mul-le-mul-right, add-assoc, add-zero}
+use native.Mathlib.Omega.{arith}
+use lib.Dec.{ltb, eqb}
+use lib.ListN.{length, getD, set, length-set, replicate, getD-replicate}
+use lib.Seq.{getD-set-same, getD-set-other}
+use lib.Ieee.{Float, nan, Format}
+use borrow.Author.Tests.{eqb-true, eqb-false, lt-ltb, le-ltb}
+use Rattle.genotype.specs.Answer.{Answer, ifDone}
+use Rattle.genotype.specs.Matrix.{matrixPlace}
+use Rattle.genotype.proofs.Tests.{by-test, leb-both}
+use Rattle.statistics.specs.declared.Accumulator.{Accumulator}
+use Rattle.statistics.specs.declared.MarkerStats.{MarkerStats}
+use Rattle.statistics.specs.Statistics.{plusZero, start, counted, accumulated, foundFor, statsPerMarker}
+use Rattle.standardise.specs.Standardised.{value, found, markerAnswer}
+use Rattle.standardise.specs.Steps.{from, accumulatorAt, laterStat, written}
+use Rattle.statistics.specs.Statistics.{statsFrom}
+use Rattle.statistics.proofs.CountLaws.{accumulated-more, stats-from}
+use Rattle.standardise.proofs.PassLaws.{StatsPassed, stats-passed-more, oldStat}
+
+-- how many neighbouring markers are accumulated at a time
+abbrev pub tileWidth : ℕ
+tileWidth = 1024
+
+abbrev triple : Float → Float → Float → Accumulator
+triple x y z = record { count = x; sum = y; squares = z }
+
+-- the three lists after a store of an accumulator
+module _ (counts sums squares : List Float) (j : ℕ) (a : Accumulator) where
+  pub at-same : j < length counts → j < length sums → j < length squares → accumulatorAt (set counts j (a .count)) (set sums j (a .sum)) (set squares j (a .squares)) j ≡ a
+  at-same h k l =
+      ap (λ (x : Float). triple x (getD (set sums j (a .sum)) j nan) (getD (set squares j (a .squares)) j nan)) (getD-set-same counts j (a .count) nan h)
+      ∙ ap (λ (y : Float). triple (a .count) y (getD (set squares j (a .squares)) j nan)) (getD-set-same sums j (a .sum) nan k)
+      ∙ ap (λ (z : Float). triple (a .count) (a .sum) z) (getD-set-same squares j (a .squares) nan l)
+
+  pub at-other : (k : ℕ) → (k ≡ j → ⊥) → accumulatorAt (set counts j (a .count)) (set sums j (a .sum)) (set squares j (a .squares)) k ≡ accumulatorAt counts sums squares k
+  at-other k n =
+      ap (λ (x : Float). triple x (getD (set sums j (a .sum)) k nan) (getD (set squares j (a .squares)) k nan)) (getD-set-other counts j k (a .count) nan n)
+      ∙ ap (λ (y : Float). triple (getD counts k nan) y (getD (set squares j (a .squares)) k nan)) (getD-set-other sums j k (a .sum) nan n)
+      ∙ ap (λ (z : Float). triple (getD counts k nan) (getD sums k nan) z) (getD-set-other squares j k (a .squares) nan n)
+
+pub record AreLong (counts sums squares : List Float) : Type 0 where
+  pub counts-long : length counts ≡ tileWidth
+  pub sums-long : length sums ≡ tileWidth
+  pub squares-long : length squares ≡ tileWidth
+
+-- ---- one animal: the first j of its values are counted
+module _ (f : Format) (row : ℕ → Float) (before : ℕ → Accumulator) where
+  pub record RowCounted (j : ℕ) (counts sums squares : List Float) : Type 0 where
+    pub long : AreLong counts sums squares
+    pub each : (k : ℕ) → accumulatorAt counts sums squares k ≡ cond (ltb k j) (counted f (before k) (row k)) (before k)
+
+  pub row-more : (j : ℕ) (counts sums squares : List Float) (a : Accumulator) → j < tileWidth → RowCounted j counts sums squares
+      → a ≡ counted f (accumulatorAt counts sums squares j) (row j) → RowCounted (j + 1) (set counts j (a .count)) (set sums j (a .sum)) (set squares j (a .squares))
+  row-more j counts sums squares a h p e = record {
+    long = record {
+      counts-long = length-set counts j (a .count) ∙ p .long .counts-long;
+      sums-long = length-set sums j (a .sum) ∙ p .long .sums-long;
+      squares-long = length-set squares j (a .squares) ∙ p .long .squares-long;
+    };
+    each = λ k. by-test (eqb k j) (λ t. same k (eqb-true k j t)) (λ t. other k (eqb-false k j t));
+  }
+    where
+      same : (k : ℕ) → k ≡ j → accumulatorAt (set counts j (a .count)) (set sums j (a .sum)) (set squares j (a .squares)) k ≡ cond (ltb k (j + 1)) (counted f (before k) (row k)) (before k)
+      same k q =
+          let l1 : length counts ≡ tileWidth = p .long .counts-long in
+          let l2 : length sums ≡ tileWidth = p .long .sums-long in
+          let l3 : length squares ≡ tileWidth = p .long .squares-long in
+          let old : accumulatorAt counts sums squares j ≡ before j = (p .each j ∙ ap (λ (b : Bool). cond b (counted f (before j) (row j)) (before j)) (le-ltb j j (omega arith))) in
+          ap (accumulatorAt (set counts j (a .count)) (set sums j (a .sum)) (set squares j (a .squares))) q
+          ∙ at-same counts sums squares j a (omega arith) (omega arith) (omega arith)
+          ∙ e
+          ∙ ap (λ (x : Accumulator). counted f x (row j)) old
+          ∙ ap (λ (x : ℕ). counted f (before x) (row x)) (sym q)
+          ∙ sym (ap (λ (b : Bool). cond b (counted f (before k) (row k)) (before k)) (lt-ltb k (j + 1) (omega arith)))
+
+      other : (k : ℕ) → (k ≡ j → ⊥) → accumulatorAt (set counts j (a .count)) (set sums j (a .sum)) (set squares j (a .squares)) k ≡ cond (ltb k (j + 1)) (counted f (before k) (row k)) (before k)
+      other k n =
+          at-other counts sums squares j a k n
+          ∙ p .each k
+          ∙ ap (λ (b : Bool). cond b (counted f (before k) (row k)) (before k)) (leb-both (suc k) j (suc k) (j + 1) (λ l. omega arith) (λ l. omega arith))
+
+  pub row-all : (j width : ℕ) (counts sums squares : List Float) → RowCounted j counts sums squares → width ≤ j
+      → (k : ℕ) → k < width → accumulatorAt counts sums squares k ≡ counted f (before k) (row k)
+  row-all j width counts sums squares p h k l = p .each k ∙ ap (λ (b : Bool). cond b (counted f (before k) (row k)) (before k)) (lt-ltb k j (omega arith))
+
+pub row-none : (f : Format) (row : ℕ → Float) (counts sums squares : List Float) → AreLong counts sums squares → RowCounted f row (accumulatorAt counts sums squares) 0 counts sums squares
+row-none f row counts sums squares p = record { long = p; each = λ k. sym (ap (λ (b : Bool). cond b (counted f (accumulatorAt counts sums squares k) (row k)) (accumulatorAt counts sums squares k)) (le-ltb k 0 (omega arith))) }
+
+-- ---- a part of a row of a matrix in animal order
+module _ (iids sids base width i : ℕ) (h : i < iids) (k : base + width ≤ sids) where
+  pub row-inside : i * sids + base + width ≤ iids * sids
+  row-inside = let d : suc i * sids ≤ iids * sids = mul-le-mul-right sids h in let e : suc i * sids ≡ i * sids + sids = suc-mul i sids in omega arith
+
+-- ---- all animals below i are counted
+module _ (f : Format) (iids sids base width : ℕ) (val : List Float) where
+  pub record TileCounted (i : ℕ) (counts sums squares : List Float) : Type 0 where
+    pub within : i ≤ iids
+    pub long : AreLong counts sums squares
+    pub each : (j : ℕ) → j < width → accumulatorAt counts sums squares j ≡ accumulated f (λ a. value true iids sids val a (base + j)) i
+
+  pub tile-none : (counts sums squares : List Float) → AreLong counts sums squares → ((j : ℕ) → j < width → accumulatorAt counts sums squares j ≡ start) → TileCounted 0 counts sums squares
+  unfolding accumulated
+  tile-none counts sums squares l e = record { within = omega arith; long = l; each = e }
+
+  pub tile-more : (i : ℕ) (counts sums squares counts′ sums′ squares′ : List Float) → i < iids → TileCounted i counts sums squares → AreLong counts′ sums′ squares′
+      → ((j : ℕ) → j < width → accumulatorAt counts′ sums′ squares′ j ≡ counted f (accumulatorAt counts sums squares j) (from val (i * sids + base) j))
+      → TileCounted (i + 1) counts′ sums′ squares′
+  unfolding value matrixPlace
+  tile-more i counts sums squares counts′ sums′ squares′ h p l e = record {
+    within = omega arith;
+    long = l;
+    each = λ j k. accumulated-more f (λ a. getD val (a * sids + (base + j)) nan) i
+        (e j k ∙ ap (λ (x : ℕ). counted f (accumulatorAt counts sums squares j) (getD val x nan)) (add-assoc (i * sids) base j)) (p .each j k);
+  }
+
+  pub tile-all : (i : ℕ) (counts sums squares : List Float) → TileCounted i counts sums squares → iids ≤ i
+      → (j : ℕ) → j < width → accumulatorAt counts sums squares j ≡ accumulated f (λ a. value true iids sids val a (base + j)) iids
+  tile-all i counts sums squares p h j k = let w : i ≤ iids = p .within in let z : i ≡ iids = omega arith in p .each j k ∙ ap (accumulated f (λ a. value true iids sids val a (base + j))) z
+
+-- ---- what is found for a marker of a tile
+pub tile-found : (f : Format) (iids sids : ℕ) (val stats : List Float) (m : ℕ) (a : Accumulator) (r : MarkerStats) → r ≡ statsFrom f a
+    → a ≡ accumulated f (λ i. value true iids sids val i m) iids → r ≡ found f true iids sids val false stats m
+unfolding found foundFor
+tile-found f iids sids val stats m a r e g = e ∙ ap (statsFrom f) g ∙ stats-from f (λ i. value true iids sids val i m) iids
+
+-- ---- j markers of a tile are passed: whatever the statistics were at first, if the markers below the tile were passed then
+module _ (f : Format) (iids sids : ℕ) (val : List Float) (base : ℕ) (answer₀ : Answer) (stats₀ : List Float) where
+  pub record PassedFrom (j : ℕ) (answer : Answer) (stats : List Float) : Type 0 where
+    pub long : length stats ≡ length stats₀
+    pub passed : (first : List Float) → StatsPassed sids false (found f true iids sids val false first) first base answer₀ stats₀
+        → StatsPassed sids false (found f true iids sids val false first) first (base + j) answer stats
+
+  pub passed-from-none : PassedFrom 0 answer₀ stats₀
+  passed-from-none = record {
+    long = refl;
+    passed = λ first p. subst (λ (x : ℕ). StatsPassed sids false (found f true iids sids val false first) first x answer₀ stats₀) (sym (add-zero base)) p;
+  }
+
+  pub passed-tile : (j width : ℕ) (answer : Answer) (stats : List Float) → PassedFrom j answer stats → j ≤ width → width ≤ j
+      → (first : List Float) → StatsPassed sids false (found f true iids sids val false first) first base answer₀ stats₀
+      → StatsPassed sids false (found f true iids sids val false first) first (base + width) answer stats
+  passed-tile j width answer stats p h k first q =
+      let z : j ≡ width = omega arith in subst (λ (x : ℕ). StatsPassed sids false (found f true iids sids val false first) first (base + x) answer stats) z (p .passed first q)
+
+  pub passed-from-more : (j : ℕ) (answer : Answer) (stats : List Float) → PassedFrom j answer stats → base + j < sids → (a : Accumulator) (r : MarkerStats) → r ≡ statsFrom f a
+      → a ≡ accumulated f (λ i. value true iids sids val i (base + j)) iids → (answer′ : Answer) (stats′ : List Float) → answer′ ≡ ifDone answer (markerAnswer (base + j) r) answer
+      → length stats′ ≡ length stats
+      → stats′ ≡ written stats (λ c. (base + j) * statsPerMarker + c) (λ c. laterStat false r c (oldStat stats c (base + j))) statsPerMarker
+      → PassedFrom (j + 1) answer′ stats′
+  passed-from-more j answer stats p h a r e g answer′ stats′ u l w = record {
+    long = l ∙ p .long;
+    passed = λ first q. subst (λ (x : ℕ). StatsPassed sids false (found f true iids sids val false first) first x answer′ stats′) (add-assoc base j 1)
+        (stats-passed-more sids false (found f true iids sids val false first) first (p .passed first q) h answer′ stats′ r (tile-found f iids sids val first (base + j) a r e g) u w);
+  }
+
+-- accumulators of zeros
+pub zeros-start : (j : ℕ) → j < tileWidth → accumulatorAt (replicate tileWidth plusZero) (replicate tileWidth plusZero) (replicate tileWidth plusZero) j ≡ start
+zeros-start j h = ap (λ (x : Float). triple x x x) (getD-replicate tileWidth j plusZero nan h)

@@ -1,0 +1,68 @@
+-- `count_tile`: the animals passed are counted.
+use Prim.Native.Nat.{_+_, _*_, _-_, _≤_}
+use native.Mathlib.Omega.{arith}
+use lib.Ieee.{binary64}
+use Rattle.standardise.proofs.TileLaws.{TileCounted, tile-none, tile-more, tile-all, row-inside}
+use Rattle.standardise.proofs.count_tile.Statement.{statement}
+use Rattle.standardise.proofs.count_tile.Tie as tie
+
+abbrev Inv-loop : tie.InvT-loop
+Inv-loop val iid-count sid-count base width counts₀ sums₀ squares₀ i₀ counts sums squares i = TileCounted binary64 iid-count sid-count base width val i counts sums squares
+
+abbrev μ-loop : tie.MeasureT-loop
+μ-loop val iid-count sid-count base width counts₀ sums₀ squares₀ i₀ counts sums squares i = iid-count - i
+
+loop-holds : tie.Need-loop-holds Inv-loop μ-loop
+loop-holds c =
+    let s = c .before in
+    tile-none binary64 (s .args .iid-count) (s .args .sid-count) (s .args .base) (s .args .width) (s .args .val .now) _ _ _ (record { counts-long = s .pre .3; sums-long = s .pre .4; squares-long = s .pre .5 }) (s .pre .6)
+
+mul-at : tie.Need-mul-at Inv-loop μ-loop
+mul-at c =
+    let s = c .before .before .before in
+    let r : c .before .loop .i * s .args .sid-count + s .args .base + s .args .width ≤ s .args .iid-count * s .args .sid-count = row-inside (s .args .iid-count) (s .args .sid-count) (s .args .base) (s .args .width) _ (c .loop-test .taken) (s .pre .1) in
+    omega (arith, s .good .0 .0, s .pre .0)
+
+add-at : tie.Need-add-at Inv-loop μ-loop
+add-at c =
+    let s = c .before .before .before in
+    let r : c .before .loop .i * s .args .sid-count + s .args .base + s .args .width ≤ s .args .iid-count * s .args .sid-count = row-inside (s .args .iid-count) (s .args .sid-count) (s .args .base) (s .args .width) _ (c .loop-test .taken) (s .pre .1) in
+    omega (arith, s .good .0 .0, s .pre .0)
+
+count-row-requires : tie.Need-count-row-requires Inv-loop μ-loop
+count-row-requires c κs =
+    let s = c .before .before .before .before .before .before in
+    let l = c .before .before .before .before .loop in
+    let r : l .i * s .args .sid-count + s .args .base + s .args .width ≤ s .args .iid-count * s .args .sid-count = row-inside (s .args .iid-count) (s .args .sid-count) (s .args .base) (s .args .width) _ (c .before .before .before .loop-test .taken) (s .pre .1) in
+    (omega (arith, s .pre .0), s .pre .2, l .inv .long .counts-long, l .inv .long .sums-long, l .inv .long .squares-long)
+
+add-i : tie.Need-add-i Inv-loop μ-loop
+add-i c = omega arith
+
+loop-less : tie.Need-loop-less Inv-loop μ-loop
+loop-less c = omega arith
+
+loop-again : tie.Need-loop-again Inv-loop μ-loop
+loop-again c =
+    let s = c .before .before .before .before .before .before .before in
+    let l = c .before .before .before .before .before .loop in
+    let e = c .count-row .ensures in
+    tile-more binary64 (s .args .iid-count) (s .args .sid-count) (s .args .base) (s .args .width) (s .args .val .now) (l .i) (l .counts) (l .sums) (l .squares) _ _ _ (c .before .before .before .before .loop-test .taken) (l .inv) (record { counts-long = e .0; sums-long = e .1; squares-long = e .2 }) (e .3)
+
+returns : tie.Need-returns Inv-loop μ-loop
+returns c = let s = c .before .before .before in tile-all binary64 (s .args .iid-count) (s .args .sid-count) (s .args .base) (s .args .width) (s .args .val .now) _ _ _ _ (c .before .loop .inv) (c .loop-test .left)
+
+pub count-tile-spec : {M : Type 1} → statement M
+count-tile-spec =
+    tie.close
+    (tie.spec
+    Inv-loop
+    μ-loop
+    loop-holds
+    mul-at
+    add-at
+    count-row-requires
+    add-i
+    loop-less
+    loop-again
+    returns)

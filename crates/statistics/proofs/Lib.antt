@@ -1,0 +1,4 @@
+pub mod FloatLaws
+pub mod CountLaws
+pub mod Exact
+pub mod Names

@@ -1,0 +1,53 @@
+-- Decoded calls, whole numbers as floats, and animals reordered: what the theorems of proofs/Exact speak of.
+use mathlib.Core.Path.{_≡_}
+use mathlib.Core.Bool.{false, cond}
+use Prim.Native.Nat.{ℕ, zero, suc, _+_, _*_, _^_, _<_, _≤_}
+use lib.IntN.{pos}
+use lib.Ieee.{Float, nan, inf, fin, Format, prec, up, ofInt, isNan}
+use Rattle.statistics.specs.Statistics.{plusZero, one}
+
+-- 2
+abbrev pub two : Float
+two = fin false 1 (pos 1)
+
+-- a decoded call: +0, 1, 2 or NaN
+pub data IsCall : Float → Type 0 where
+  isZero : IsCall plusZero
+  isOne : IsCall one
+  isTwo : IsCall two
+  isMissing : IsCall nan
+
+-- the whole number n as a float
+unfoldable pub whole : Format → ℕ → Float
+unfolding ofInt
+whole f n = ofInt f (pos n)
+
+-- 1 for a call that is not missing, and how many copies a call has: 0 if it is missing
+unfoldable pub present : Float → ℕ
+present v = cond (isNan v) 0 1
+
+unfoldable pub copies : Float → ℕ
+copies nan = 0
+copies (inf s) = 0
+copies (fin s m e) = m * up e
+
+-- the sum of h over the first n places
+unfoldable pub total : (ℕ → ℕ) → ℕ → ℕ
+total h zero = 0
+total h (suc n) = total h n + h n
+
+-- n animals few enough for every sum to be exact: 10^9 at f64, 4,194,304 at f32
+abbrev pub FewEnough : Format → ℕ → Type 0
+FewEnough f n = 4 * n ≤ 2 ^ prec f
+
+-- each of the first n values is a call
+abbrev pub Calls : (ℕ → Float) → ℕ → Type 0
+Calls column n = (i : ℕ) → i < n → IsCall (column i)
+
+-- two columns of n values of which each is the other reordered: every sum of natural numbers over the two agrees
+abbrev pub SameSums : (ℕ → Float) → (ℕ → Float) → ℕ → Type 0
+SameSums xs ys n = (h : Float → ℕ) → total (λ i. h (xs i)) n ≡ total (λ i. h (ys i)) n
+
+-- a list of places that names each of the first n places once: every sum of natural numbers over the places it names is the sum over all
+abbrev pub NamesEachOnce : (ℕ → ℕ) → ℕ → Type 0
+NamesEachOnce π n = (h : ℕ → ℕ) → total (λ k. h (π k)) n ≡ total h n
