@@ -1,0 +1,239 @@
+// The worked examples of document 01 that are not marked P, PLINK's published example, and calls whose counts nothing lent backs.
+// The file `stdout` beside src/ says what each line should be.
+use bed_read::file::AcceptAnswer;
+use bed_read::reading::ReadAnswer;
+use standardise::StandardiseAnswer;
+
+fn say(text: &[u8]) {
+    io::write_all(1, text);
+}
+
+// A value read as i8 with missing −127.
+fn say_i8(v: i8) {
+    if v == 0 {
+        say(b" 0");
+    } else if v == 1 {
+        say(b" 1");
+    } else if v == 2 {
+        say(b" 2");
+    } else if v == -127 {
+        say(b" NA");
+    } else {
+        say(b" other");
+    }
+}
+
+fn say_row(values: &[i8]) {
+    let mut i = 0;
+    while i < values.len() {
+        say_i8(values[i]);
+        i += 1;
+    }
+    say(b" /");
+}
+
+fn say_f64(v: f64) {
+    if v != v {
+        say(b" NaN");
+    } else if v == 1.0 {
+        say(b" 1");
+    } else if v == -1.0 {
+        say(b" -1");
+    } else if v == 9.0 {
+        say(b" 9");
+    } else if v == 1.0 / 0.0 {
+        say(b" +infinity");
+    } else if 1.0 / v == 1.0 / 0.0 {
+        say(b" +0");
+    } else {
+        say(b" other");
+    }
+}
+
+fn say_floats(values: &[f64]) {
+    let mut i = 0;
+    while i < values.len() {
+        say_f64(values[i]);
+        i += 1;
+    }
+}
+
+fn read_number(a: ReadAnswer) -> u64 {
+    match a {
+        ReadAnswer::Done => 0,
+        ReadAnswer::CountTooLarge => 18,
+        ReadAnswer::IndexMismatch => 15,
+        ReadAnswer::ReadError => 1,
+        ReadAnswer::IllFormed => 2,
+        ReadAnswer::BadMode => 3,
+        ReadAnswer::IndexesTooBigForFiles => 4,
+        ReadAnswer::IidIndexTooBig(_) => 5,
+        ReadAnswer::SidIndexTooBig(_) => 6,
+    }
+}
+
+fn accept_number(a: AcceptAnswer) -> u64 {
+    match a {
+        AcceptAnswer::Accepted => 0,
+        AcceptAnswer::CountTooLarge => 18,
+        AcceptAnswer::ReadError => 1,
+        AcceptAnswer::IllFormed => 2,
+        AcceptAnswer::BadMode => 3,
+        AcceptAnswer::IndexesTooBigForFiles => 4,
+    }
+}
+
+// The refusal's number, then what it carries.
+fn say_standardised(a: StandardiseAnswer) {
+    match a {
+        StandardiseAnswer::Done => say(b" done"),
+        StandardiseAnswer::CountTooLarge => say(b" 18"),
+        StandardiseAnswer::IndexMismatch => say(b" 15"),
+        StandardiseAnswer::StatsMismatch => say(b" 17"),
+        StandardiseAnswer::NoIndividuals(m) => {
+            say(b" 13 for marker ");
+            io::print_decimal(1, m as u64);
+        }
+        StandardiseAnswer::IllegalSnpMean(m) => {
+            say(b" 14 for marker ");
+            io::print_decimal(1, m as u64);
+        }
+    }
+}
+
+fn say_number(n: u64) {
+    say(b" ");
+    io::print_decimal(1, n);
+}
+
+fn plink_example() {
+    let file = b"\x6C\x1B\x01\xDC\x0F\xE7\x0F\x6B\x01";
+    let iids = [0i64, 1, 2, 3, 4, 5];
+    let sids = [0i64, 1, 2];
+    let mut val = [9i8; 18];
+    let a = bed_read::reading::read_i8::read_no_alloc_i8(
+        file,
+        6,
+        3,
+        true,
+        &iids,
+        &sids,
+        -127,
+        false,
+        &mut val,
+    );
+    say(b"PLINK's example, counted, answer");
+    say_number(read_number(a));
+    say(b":");
+    say_row(&val[0..6]);
+    say_row(&val[6..12]);
+    say_row(&val[12..18]);
+    say(b"\n");
+}
+
+fn columns() {
+    let mut val = [0.0, 2.0, 0.0 / 0.0];
+    let mut stats = [9.0, 9.0];
+    let a = standardise::impute_and_zero_mean_snps_f64(
+        &mut val,
+        3,
+        1,
+        false,
+        true,
+        false,
+        &mut stats,
+    );
+    say(b"column 0, 2, NaN:");
+    say_standardised(a);
+    say(b", mean and deviation");
+    say_floats(&stats);
+    say(b", values");
+    say_floats(&val);
+    say(b"\n");
+    let mut same = [1.0, 1.0];
+    let mut same_stats = [9.0, 9.0];
+    let b = standardise::impute_and_zero_mean_snps_f64(
+        &mut same,
+        2,
+        1,
+        false,
+        true,
+        false,
+        &mut same_stats,
+    );
+    say(b"column 1, 1:");
+    say_standardised(b);
+    say(b", mean and deviation");
+    say_floats(&same_stats);
+    say(b", values");
+    say_floats(&same);
+    say(b"\n");
+    let mut none = [0.0 / 0.0, 0.0 / 0.0];
+    let mut none_stats = [9.0, 9.0];
+    let c = standardise::impute_and_zero_mean_snps_f64(
+        &mut none,
+        2,
+        1,
+        true,
+        true,
+        false,
+        &mut none_stats,
+    );
+    say(b"all-NaN column:");
+    say_standardised(c);
+    say(b", mean and deviation");
+    say_floats(&none_stats);
+    say(b", values");
+    say_floats(&none);
+    say(b"\n");
+}
+
+fn bounded() {
+    let header = b"\x6C\x1B\x01";
+    let many = 9223372036854775807;
+    say(b"0 animals, 2^63 - 1 markers: accepted");
+    say_number(accept_number(bed_read::file::accept(header, 0, many)));
+    let none = [0i64; 0];
+    let mut val = [9i8; 1];
+    let a = bed_read::reading::read_i8::read_no_alloc_i8(
+        header,
+        0,
+        many,
+        true,
+        &none,
+        &none,
+        -127,
+        false,
+        &mut val[0..0],
+    );
+    say(b", read");
+    say_number(read_number(a));
+    say(b"\n2^63 - 1 animals, 0 markers: standardised in both orders");
+    let mut values = [9.0; 1];
+    let mut stats = [9.0; 1];
+    say_standardised(standardise::impute_and_zero_mean_snps_f64(
+        &mut values[0..0],
+        many,
+        0,
+        false,
+        true,
+        false,
+        &mut stats[0..0],
+    ));
+    say_standardised(standardise::impute_and_zero_mean_snps_f64(
+        &mut values[0..0],
+        many,
+        0,
+        true,
+        true,
+        false,
+        &mut stats[0..0],
+    ));
+    say(b"\n");
+}
+
+fn main() {
+    plink_example();
+    columns();
+    bounded();
+}
