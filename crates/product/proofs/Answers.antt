@@ -12,8 +12,8 @@ use lib.Ieee.{Float}
 use borrow.Author.Tests.{ltb-true, leb-true, eqb-true, lt-ltb, le-ltb, le-leb, lt-leb, ne-eqb}
 use denote.Enum.Declared.{tagOf}
 use types.Run.{OneOf}
-use Rattle.genotype.specs.Answer.{Answer, done, check}
-use Rattle.product.specs.Piece.{goodPiece, enoughBytes, pieceAnswer, leaves, ataAnswer, aatAnswer}
+use Rattle.genotype.specs.Answer.{Answer, done, check, isDone, ifDone}
+use Rattle.product.specs.Piece.{goodPiece, enoughBytes, pieceAnswer, ataAnswer, aatAnswer}
 use Rattle.product.specs.Says.{pieceSays}
 use Rattle.product.specs.Steps.{LinesIn}
 use Rattle.product.specs.declared.PieceAnswer.{PieceAnswer}
@@ -106,19 +106,19 @@ least-none true w = le-leb 0 w (omega arith)
 least-none false w = refl
 
 -- a call that refuses leaves the old list, one that is done the new one
-pub leaves-old : (a : PieceAnswer) (s : Answer) (new old : List Float) → OneOf (1 ∷ 2 ∷ 3 ∷ 4 ∷ []) (tagOf the-type a) → pieceSays a ≡ s → (pieceSays a ≡ s) × (old ≡ leaves s new old)
-unfolding leaves
+pub leaves-old : (a : PieceAnswer) (s : Answer) (new old : List Float) → OneOf (1 ∷ 2 ∷ 3 ∷ 4 ∷ []) (tagOf the-type a) → pieceSays a ≡ s → (pieceSays a ≡ s) × (old ≡ ifDone s new old)
+unfolding ifDone isDone
 leaves-old Done s new old k e = absurd (⊎-elim (λ z. omega arith) (⊎-elim (λ z. omega arith) (⊎-elim (λ z. omega arith) (λ z. omega arith))) k)
-leaves-old CountTooLarge s new old k e = (e, ap (λ (t : Answer). leaves t new old) e)
-leaves-old CannotConvertBetaToFromF64 s new old k e = (e, ap (λ (t : Answer). leaves t new old) e)
-leaves-old IndexMismatch s new old k e = (e, ap (λ (t : Answer). leaves t new old) e)
-leaves-old ReadError s new old k e = (e, ap (λ (t : Answer). leaves t new old) e)
+leaves-old CountTooLarge s new old k e = (e, ap (λ (t : Answer). ifDone t new old) e)
+leaves-old CannotConvertBetaToFromF64 s new old k e = (e, ap (λ (t : Answer). ifDone t new old) e)
+leaves-old IndexMismatch s new old k e = (e, ap (λ (t : Answer). ifDone t new old) e)
+leaves-old ReadError s new old k e = (e, ap (λ (t : Answer). ifDone t new old) e)
 
-pub leaves-new : (a : PieceAnswer) (s : Answer) (l new old : List Float) → a ≡ Done → pieceSays a ≡ s → l ≡ new → (done [] ≡ s) × (l ≡ leaves s new old)
-unfolding leaves
+pub leaves-new : (a : PieceAnswer) (s : Answer) (l new old : List Float) → a ≡ Done → pieceSays a ≡ s → l ≡ new → (done [] ≡ s) × (l ≡ ifDone s new old)
+unfolding ifDone isDone
 leaves-new a s l new old told e q =
     let d : done [] ≡ s = sym (ap pieceSays told) ∙ e in
-    (d, q ∙ ap (λ (t : Answer). leaves t new old) d)
+    (d, q ∙ ap (λ (t : Answer). ifDone t new old) d)
 
 module _ (bytes : List ℕ) (offset rows columns start height width : ℕ) (piece : List Float) (s : Answer) where
   pub ata-says : s ≡ pieceAnswer (goodPiece columns start height width && leb 1 width) (length bytes) offset rows columns start height width (length piece) → s ≡ ataAnswer bytes offset rows columns start height width piece

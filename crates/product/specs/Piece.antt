@@ -5,7 +5,7 @@ use Prim.Native.Nat.{ℕ, _+_, _*_, _/_, _%_}
 use lib.ListN.{length}
 use lib.Dec.{leb, ltb, eqb}
 use lib.Ieee.{Float, Format, binary64}
-use Rattle.genotype.specs.Answer.{Answer, done, refused, check, checkCount}
+use Rattle.genotype.specs.Answer.{Answer, done, check, checkCount, ifDone}
 use Rattle.genotype.specs.Lists.{tabulate}
 use Rattle.product.specs.Values.{floatsOf, column, row}
 use Rattle.product.specs.Dot.{dot, plusZero}
@@ -47,11 +47,6 @@ pieceAnswer good byteCount offset rows columns start height width pieceLength =
     (checkCount width
     (check good 20 (check (eqb (height * width) pieceLength) 15 (check (enoughBytes byteCount offset rows columns) 1 (done []))))))))
 
--- the list that a call leaves: "Every refusal leaves all lent bytes and values unchanged"
-unfoldable pub leaves : Answer → List Float → List Float → List Float
-leaves (done vs) new old = new
-leaves (refused n vs) new old = old
-
 -- `file_ata_piece`: the total is the columns; 20 also for "width 0 (A'A only)"
 unfoldable pub ataAnswer : List ℕ → ℕ → ℕ → ℕ → ℕ → ℕ → ℕ → List Float → Answer
 unfolding pieceAnswer goodPiece
@@ -61,7 +56,7 @@ ataAnswer bytes offset rows columns start height width piece =
 -- the piece that `file_ata_piece` leaves
 unfoldable pub ataLeaves : List ℕ → ℕ → ℕ → ℕ → ℕ → ℕ → ℕ → List Float → List Float
 ataLeaves bytes offset rows columns start height width piece =
-    leaves (ataAnswer bytes offset rows columns start height width piece)
+    ifDone (ataAnswer bytes offset rows columns start height width piece)
     (pieceOf height width (ataEntry binary64 (floatsOf bytes offset (rows * columns)) rows start))
     piece
 
@@ -74,6 +69,6 @@ aatAnswer bytes offset rows columns start height width piece =
 -- the piece that `file_aat_piece` leaves
 unfoldable pub aatLeaves : List ℕ → ℕ → ℕ → ℕ → ℕ → ℕ → ℕ → List Float → List Float
 aatLeaves bytes offset rows columns start height width piece =
-    leaves (aatAnswer bytes offset rows columns start height width piece)
+    ifDone (aatAnswer bytes offset rows columns start height width piece)
     (pieceOf height width (aatEntry binary64 (floatsOf bytes offset (rows * columns)) rows columns start))
     piece
