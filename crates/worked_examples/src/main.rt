@@ -2,6 +2,13 @@
 // The file `stdout` beside src/ says what each line should be.
 use bed_read::file::AcceptAnswer;
 use bed_read::reading::ReadAnswer;
+use bed_write::write::WriteAnswer;
+use canonical::CanonicalAnswer;
+use index::Bound;
+use index::Index;
+use index::ListAnswer;
+use index::RangeAny;
+use product::PieceAnswer;
 use standardise::StandardiseAnswer;
 
 fn say(text: &[u8]) {
@@ -83,6 +90,65 @@ fn accept_number(a: AcceptAnswer) -> u64 {
     }
 }
 
+fn canonical_number(a: CanonicalAnswer) -> u64 {
+    match a {
+        CanonicalAnswer::Done => 0,
+        CanonicalAnswer::CountTooLarge => 18,
+        CanonicalAnswer::ReadError => 1,
+        CanonicalAnswer::IllFormed => 2,
+        CanonicalAnswer::BadMode => 3,
+        CanonicalAnswer::IndexesTooBigForFiles => 4,
+        CanonicalAnswer::EncodingLength => 16,
+    }
+}
+
+fn write_number(a: WriteAnswer) -> u64 {
+    match a {
+        WriteAnswer::Done => 0,
+        WriteAnswer::CountTooLarge => 18,
+        WriteAnswer::IndexesTooBigForFiles => 4,
+        WriteAnswer::IndexMismatch => 15,
+        WriteAnswer::EncodingLength => 16,
+        WriteAnswer::BadValue(_, _) => 7,
+    }
+}
+
+fn piece_number(a: PieceAnswer) -> u64 {
+    match a {
+        PieceAnswer::Done => 0,
+        PieceAnswer::CountTooLarge => 18,
+        PieceAnswer::CannotConvertBetaToFromF64 => 20,
+        PieceAnswer::IndexMismatch => 15,
+        PieceAnswer::ReadError => 1,
+    }
+}
+
+fn list_number(a: ListAnswer) -> u64 {
+    match a {
+        ListAnswer::Length(_) => 0,
+        ListAnswer::CountTooLarge => 18,
+        ListAnswer::BoolArrayVectorWrongLength => 8,
+        ListAnswer::StepZero => 9,
+        ListAnswer::StartGreaterThanCount => 10,
+        ListAnswer::EndGreaterThanCount => 11,
+        ListAnswer::StartGreaterThanEnd => 12,
+        ListAnswer::ListTooShort => 19,
+    }
+}
+
+fn wide(byte: u8) -> u64 {
+    byte as u64
+}
+
+fn say_bytes(bytes: &[u8]) {
+    let mut i = 0;
+    while i < bytes.len() {
+        say(b" ");
+        io::print_decimal(1, wide(bytes[i]));
+        i += 1;
+    }
+}
+
 // The refusal's number, then what it carries.
 fn say_standardised(a: StandardiseAnswer) {
     match a {
@@ -128,6 +194,13 @@ fn plink_example() {
     say_row(&val[0..6]);
     say_row(&val[6..12]);
     say_row(&val[12..18]);
+    say(b"\n");
+    let mut out = [0u8; 9];
+    let w = bed_write::write::write_i8::write_val_i8(&val, 6, 3, false, true, -127, &mut out);
+    say(b"written again, answer");
+    say_number(write_number(w));
+    say(b":");
+    say_bytes(&out);
     say(b"\n");
 }
 
@@ -232,8 +305,90 @@ fn bounded() {
     say(b"\n");
 }
 
+// Counts that nothing lent backs: each call returns at once.
+fn bounded_files() {
+    let header = b"\x6C\x1B\x01";
+    let many = 9223372036854775807;
+    let none = [0i8; 0];
+    let mut out = [9u8; 3];
+    say(b"0 animals, 2^63 - 1 markers: canonical");
+    say_number(canonical_number(canonical::canonical(header, 0, many, &mut out)));
+    say(b", written");
+    say_number(write_number(bed_write::write::write_i8::write_val_i8(
+        &none,
+        0,
+        many,
+        false,
+        true,
+        -127,
+        &mut out,
+    )));
+    say(b" in marker order and");
+    say_number(write_number(bed_write::write::write_i8::write_val_i8(
+        &none,
+        0,
+        many,
+        true,
+        true,
+        -127,
+        &mut out,
+    )));
+    say(b" in animal order\n2^63 - 1 animals, 0 markers: canonical");
+    say_number(canonical_number(canonical::canonical(header, many, 0, &mut out)));
+    say(b", written");
+    say_number(write_number(bed_write::write::write_i8::write_val_i8(
+        &none,
+        many,
+        0,
+        false,
+        true,
+        -127,
+        &mut out,
+    )));
+    say(b" in marker order and");
+    say_number(write_number(bed_write::write::write_i8::write_val_i8(
+        &none,
+        many,
+        0,
+        true,
+        true,
+        -127,
+        &mut out,
+    )));
+    say(b" in animal order\n");
+}
+
+fn bounded_others() {
+    let many = 9223372036854775807;
+    let bytes = [0u8; 0];
+    let mut piece = [9.0; 1];
+    say(b"an AA' piece of width 0 over 2^63 - 1 rows");
+    say_number(piece_number(product::file_aat_piece_f64(
+        &bytes,
+        0,
+        many,
+        0,
+        0,
+        many,
+        0,
+        &mut piece[0..0],
+    )));
+    let mut list = [9i64; 1];
+    let no_vec = [0i64; 0];
+    let no_marks = [0u8; 0];
+    let all = Index::RangeAny(RangeAny {
+        start: Bound::Absent,
+        end: Bound::At(many),
+    });
+    say(b"\na range of 2^63 - 1 entries into a buffer of 1");
+    say_number(list_number(all.to_vec(5, &no_vec, &no_marks, &mut list)));
+    say(b"\n");
+}
+
 fn main() {
     plink_example();
     columns();
     bounded();
+    bounded_files();
+    bounded_others();
 }

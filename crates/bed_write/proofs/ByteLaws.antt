@@ -1,0 +1,186 @@
+-- Laws of an i8 and of the table that has the code of each.
+use mathlib.Core.Path.{_≡_, refl, sym, ap, subst, _∙_}
+use mathlib.Core.Bool.{Bool, true, false, cond}
+use mathlib.Core.List.{List, [], _∷_}
+use mathlib.Core.Option.{Option, some, none}
+use Prim.Native.Nat.{ℕ, zero, suc, _+_, _-_, _*_, _^_, _<_, _≤_}
+use native.Mathlib.Nat.{mul-one}
+use native.Mathlib.Omega.{arith}
+use borrow.Author.Tests.{eq-eqb, ne-eqb, eqb-true, le-ltb, ltb-true}
+use lib.Dec.{T, eqb, ltb}
+use lib.IntN.{ℤ, pos, negsuc, natAbs, _-ℤ_}
+use lib.ListN.{length, getD, set, length-set, replicate, getD-replicate, length-replicate}
+use lib.Seq.{getD-set-same, getD-set-other}
+use lib.Signed.{mag, ltZ, nonNeg}
+use mir.Syntax.{w8, w64}
+use mir.Val.{Fits, SFits, ofZ, toZ}
+use mir.ValLaws.{toZ-ofZ}
+use Rattle.genotype.specs.Value.{i8, sameInt, codeOf}
+use Rattle.genotype.proofs.SignedLaws.{sameInt-refl}
+use Rattle.genotype.proofs.Tests.{by-test}
+use Rattle.genotype.proofs.ValueLaws.{zero-code, one-code, two-code, missing-code, number-bad}
+use Rattle.genotype.specs.Answer.{Answer}
+use Rattle.bed_write.specs.Packing.{placeCode, encodeAnswer, encodeBuffer}
+use Rattle.bed_write.specs.Inner.{orFour, byteIndex, CodesOfBytes, byTable}
+use Rattle.bed_write.proofs.FirstLaws.{code-found, code-lacking, getD-inside}
+
+-- ---- the place of an i8
+turn : (z : ℤ) → ltZ z (pos 0) ≡ true → (negsuc 0 -ℤ z ≡ pos (mag z)) × (128 + mag z ≡ byteIndex z)
+unfolding byteIndex
+turn (pos n) h = absurd (let b : n < 0 = ltb-true n 0 h in omega arith)
+turn (negsuc k) h = (simp (le-ltb (suc k) 1 (omega arith)) (ap pos (omega arith)), refl)
+
+front : (z : ℤ) → ltZ z (pos 0) ≡ false → (z ≡ pos (mag z)) × (mag z ≡ byteIndex z)
+unfolding byteIndex
+front (pos n) h = (refl, refl)
+front (negsuc k) h = absurd (let z : _≡_ {A = Bool} true false = h in let q : _≡_ {A = ℕ} 0 1 = cc in omega arith)
+
+-- a signed number that is known to be m ≥ 0, cast to an unsigned one
+module _ (x : ℤ) (m : ℕ) (e : x ≡ pos m) (h : m < 128) where
+  held : toZ w8 (ofZ w8 x) ≡ pos m
+  held = ap (λ (y : ℤ). toZ w8 (ofZ w8 y)) e ∙ toZ-ofZ w8 (pos m) (record { sfits = h })
+
+  pub casts : T (nonNeg (toZ w8 (ofZ w8 x))) × Fits w64 (natAbs (toZ w8 (ofZ w8 x)))
+  casts = (
+    subst (λ (y : ℤ). T (nonNeg y)) (sym held) tt,
+    subst (λ (y : ℤ). Fits w64 (natAbs y)) (sym held) (record { fits = omega arith }),
+  )
+
+  pub cast-is : natAbs (toZ w8 (ofZ w8 x)) ≡ m
+  cast-is = ap natAbs held
+
+module _ (z : ℤ) (f : SFits w8 z) where
+  back : toZ w8 (ofZ w8 z) ≡ z
+  back = toZ-ofZ w8 z f
+
+  pub small : mag z < 128
+  small = f .sfits
+
+  module _ (h : ltZ (toZ w8 (ofZ w8 z)) (pos 0) ≡ true) where
+    pub turned : negsuc 0 -ℤ toZ w8 (ofZ w8 z) ≡ pos (mag z)
+    turned = ap (λ (y : ℤ). negsuc 0 -ℤ y) back ∙ turn z (subst (λ (y : ℤ). ltZ y (pos 0) ≡ true) back h) .0
+
+    pub turned-fits : SFits w8 (negsuc 0 -ℤ toZ w8 (ofZ w8 z))
+    turned-fits = subst (λ (y : ℤ). SFits w8 y) (sym turned) (record { sfits = f .sfits })
+
+    pub index-turned : (x : ℕ) → x ≡ mag z → (128 + x ≡ byteIndex z) × (128 + x < 256)
+    index-turned x e = let b = small in let t = turn z (subst (λ (y : ℤ). ltZ y (pos 0) ≡ true) back h) .1 in (omega arith, omega arith)
+
+  module _ (h : ltZ (toZ w8 (ofZ w8 z)) (pos 0) ≡ false) where
+    pub fronted : z ≡ pos (mag z)
+    fronted = front z (subst (λ (y : ℤ). ltZ y (pos 0) ≡ false) back h) .0
+
+    pub index-fronted : (x : ℕ) → x ≡ mag z → (x ≡ byteIndex z) × (x < 256)
+    index-fronted x e = let b = small in let t = front z (subst (λ (y : ℤ). ltZ y (pos 0) ≡ false) back h) .1 in (omega arith, omega arith)
+
+-- as the machine holds it
+pub index-held : (z : ℤ) (r : ℕ) → SFits w8 z → r ≡ byteIndex (toZ w8 (ofZ w8 z)) → r ≡ byteIndex z
+index-held z r f e = e ∙ ap byteIndex (toZ-ofZ w8 z f)
+
+index-below : (z : ℤ) → mag z < 128 → byteIndex z < 256
+unfolding byteIndex
+index-below (pos n) h = omega arith
+index-below (negsuc n) h = omega arith
+
+-- two i8 are the same number exactly if their places are the same
+same-index : (v u : ℤ) → mag v < 128 → mag u < 128 → sameInt v u ≡ eqb (byteIndex v) (byteIndex u)
+unfolding sameInt byteIndex
+same-index (pos m) (pos n) h g = refl
+same-index (pos m) (negsuc n) h g = sym (ne-eqb m (128 + n) (λ e. omega arith))
+same-index (negsuc m) (pos n) h g = sym (ne-eqb (128 + m) n (λ e. omega arith))
+same-index (negsuc m) (negsuc n) h g = by-test (eqb m n)
+    (λ e. e ∙ sym (eq-eqb (128 + m) (128 + n) (ap (λ (x : ℕ). 128 + x) (eqb-true m n e))))
+    (λ e. e ∙ sym (ne-eqb (128 + m) (128 + n) (λ q. let r : m ≡ n = omega arith in let z : _≡_ {A = Bool} false true = sym e ∙ eq-eqb m n r in let y : _≡_ {A = ℕ} 0 1 = cc in omega arith)))
+
+-- ---- the table: 4 everywhere, then missing, then 2, 1 and 0
+module _ (flag : Bool) (missing : ℤ) (hm : mag missing < 128) (at two zer : ℕ) (ea : at ≡ byteIndex missing) (e2 : two ≡ cond flag 0 3) (e0 : zer ≡ cond flag 3 0) where
+  abbrev t4 : List ℕ
+  t4 = replicate 256 4
+
+  abbrev t3 : List ℕ
+  t3 = set t4 at 1
+
+  abbrev t2 : List ℕ
+  t2 = set t3 2 two
+
+  abbrev t1 : List ℕ
+  t1 = set t2 1 2
+
+  abbrev t0 : List ℕ
+  t0 = set t1 0 zer
+
+  module _ (v : ℤ) (hv : mag v < 128) where
+    p : ℕ
+    p = byteIndex v
+
+    test : (u : ℤ) → mag u < 128 → (b : Bool) → eqb (byteIndex v) (byteIndex u) ≡ b → sameInt v u ≡ b
+    test u hu b e = same-index v u hv hu ∙ e
+
+    at-place : (l : List ℕ) (i x : ℕ) → byteIndex v ≡ i → i < length l → getD (set l i x) (byteIndex v) 0 ≡ x
+    at-place l i x e h = ap (λ (k : ℕ). getD (set l i x) k 0) e ∙ getD-set-same l i x 0 h
+
+    elsewhere : (l : List ℕ) (i x : ℕ) → eqb (byteIndex v) i ≡ false → getD (set l i x) (byteIndex v) 0 ≡ getD l (byteIndex v) 0
+    elsewhere l i x e = getD-set-other l i (byteIndex v) x 0 (λ q. let z : _≡_ {A = Bool} false true = sym e ∙ eq-eqb (byteIndex v) i q in let y : _≡_ {A = ℕ} 0 1 = cc in omega arith)
+
+    l4 : length t4 ≡ 256
+    l4 = length-replicate {A = ℕ} 256 4
+
+    found : getD t0 (byteIndex v) 0 ≡ orFour (codeOf i8 flag missing v)
+    unfolding byteIndex
+    found =
+        by-test (eqb (byteIndex v) 0)
+        (λ b0. at-place t1 0 zer (eqb-true (byteIndex v) 0 b0) (simp length-set (omega (arith, l4)))
+        ∙ code-found (codeOf i8 flag missing v) zer (zero-code i8 flag missing v zer e0 (test (pos 0) (omega arith) true b0)))
+        (λ b0. elsewhere t1 0 zer b0
+        ∙ by-test (eqb (byteIndex v) 1)
+        (λ b1. at-place t2 1 2 (eqb-true (byteIndex v) 1 b1) (simp length-set (omega (arith, l4)))
+        ∙ code-found (codeOf i8 flag missing v) 2 (one-code i8 flag missing v (test (pos 0) (omega arith) false b0) (test (pos 1) (omega arith) true b1)))
+        (λ b1. elsewhere t2 1 2 b1
+        ∙ by-test (eqb (byteIndex v) 2)
+        (λ b2. at-place t3 2 two (eqb-true (byteIndex v) 2 b2) (simp length-set (omega (arith, l4)))
+        ∙ code-found (codeOf i8 flag missing v) two (two-code i8 flag missing v (test (pos 0) (omega arith) false b0) (test (pos 1) (omega arith) false b1) two e2 (test (pos 2) (omega arith) true b2)))
+        (λ b2. elsewhere t3 2 two b2
+        ∙ by-test (eqb (byteIndex v) (byteIndex missing))
+        (λ b3. at-place t4 at 1 (eqb-true (byteIndex v) (byteIndex missing) b3 ∙ sym ea) (let x = index-below missing hm in omega (arith, l4))
+        ∙ code-found (codeOf i8 flag missing v) 1 (missing-code i8 flag missing v (test (pos 0) (omega arith) false b0) (test (pos 1) (omega arith) false b1) (test (pos 2) (omega arith) false b2) (test missing hm true b3)))
+        (λ b3. elsewhere t4 at 1 (ap (eqb (byteIndex v)) ea ∙ b3)
+        ∙ getD-replicate 256 (byteIndex v) 4 0 (index-below v hv)
+        ∙ code-lacking (codeOf i8 flag missing v) (number-bad i8 flag missing v (test (pos 0) (omega arith) false b0) (test (pos 1) (omega arith) false b1) (test (pos 2) (omega arith) false b2) (test missing hm false b3) (sameInt-refl v))))))
+
+  pub table-made : (base : List ℕ) → base ≡ replicate 256 4 → CodesOfBytes flag missing (set (set (set (set base at 1) 2 two) 1 2) 0 zer)
+  table-made base e =
+      subst (λ (l : List ℕ). CodesOfBytes flag missing (set (set (set (set l at 1) 2 two) 1 2) 0 zer)) (sym e)
+      (record { code-of = λ v h. found v h })
+
+-- the number that a table has for the value at a place
+pub by-table :
+    (flag : Bool) (missing : ℤ) (table : List ℕ) (vals : List ℤ) (k : ℕ) → CodesOfBytes flag missing table → k < length vals → mag (getD vals k (pos 0)) < 128
+    → byTable table vals k ≡ orFour (placeCode i8 flag missing vals k)
+unfolding byTable placeCode
+by-table flag missing table vals k t h f =
+    t .code-of (getD vals k (pos 0)) f ∙ ap (λ (v : ℤ). orFour (codeOf i8 flag missing v)) (getD-inside vals k (pos 0) missing h)
+
+-- as the machine holds the value
+pub number-held : (table : List ℕ) (vals : List ℤ) (k r : ℕ) → mag (getD vals k (pos 0)) < 128 → r ≡ getD table (byteIndex (toZ w8 (ofZ w8 (getD vals k (pos 0))))) 0 → r ≡ byTable table vals k
+unfolding byTable
+number-held table vals k r f e = e ∙ ap (λ (v : ℤ). getD table (byteIndex v) 0) (toZ-ofZ w8 (getD vals k (pos 0)) (record { sfits = f }))
+
+-- k places after the start, as a walk of stride 1 finds it
+pub same-place :
+    (flag : Bool) (missing : ℤ) (table : List ℕ) (vals : List ℤ) (start k : ℕ) → CodesOfBytes flag missing table → start + k < length vals
+    → mag (getD vals (start + k * 1) (pos 0)) < 128 → byTable table vals (start + k * 1) ≡ orFour (placeCode i8 flag missing vals (start + k))
+same-place flag missing table vals start k t h f =
+    by-table flag missing table vals (start + k * 1) t (omega arith) f ∙ ap (λ (x : ℕ). orFour (placeCode i8 flag missing vals (start + x))) (mul-one k)
+
+-- what is said of `missing` as the machine holds it
+pub held-answer :
+    (missing : ℤ) → SFits w8 missing → (answer : Answer) (flag : Bool) (vals : List ℤ) (out old : List ℕ)
+    → (answer ≡ encodeAnswer (length vals) (placeCode i8 flag (toZ w8 (ofZ w8 missing)) vals) (length old)) × (out ≡ encodeBuffer (length vals) (placeCode i8 flag (toZ w8 (ofZ w8 missing)) vals) old)
+    → (answer ≡ encodeAnswer (length vals) (placeCode i8 flag missing vals) (length old)) × (out ≡ encodeBuffer (length vals) (placeCode i8 flag missing vals) old)
+held-answer missing f answer flag vals out old h =
+    subst
+    (λ (z : ℤ). (answer ≡ encodeAnswer (length vals) (placeCode i8 flag z vals) (length old)) × (out ≡ encodeBuffer (length vals) (placeCode i8 flag z vals) old))
+    (toZ-ofZ w8 missing f) h
+
+pub held-table : (flag : Bool) (missing : ℤ) (table : List ℕ) → SFits w8 missing → CodesOfBytes flag (toZ w8 (ofZ w8 missing)) table → CodesOfBytes flag missing table
+held-table flag missing table f t = subst (λ (z : ℤ). CodesOfBytes flag z table) (toZ-ofZ w8 missing f) t

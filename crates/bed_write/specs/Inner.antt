@@ -1,0 +1,65 @@
+-- What only the private functions of this crate speak in.
+use mathlib.Core.Path.{_≡_}
+use mathlib.Core.Bool.{Bool, cond}
+use mathlib.Core.List.{List, [], _∷_}
+use mathlib.Core.Option.{Option, some, none}
+use Prim.Native.Nat.{ℕ, _+_, _<_, _≤_}
+use lib.Dec.{ltb}
+use lib.IntN.{ℤ, pos, negsuc}
+use lib.ListN.{getD}
+use lib.Signed.{mag}
+use lib.Ieee.{Float}
+use Rattle.genotype.specs.Matrix.{matrixPlace}
+use Rattle.genotype.specs.Value.{i8, float, codeOf}
+use Rattle.bed_write.specs.Packing.{placeCode, firstOf}
+
+-- a code, and 4 where there is none
+unfoldable pub orFour : Option ℕ → ℕ
+orFour (some code) = code
+orFour none = 4
+
+-- the place of an i8 in a table of 256
+unfoldable pub byteIndex : ℤ → ℕ
+byteIndex (pos i) = i
+byteIndex (negsuc k) = 128 + k
+
+-- a table that has the code of each i8, or 4
+pub record CodesOfBytes (flag : Bool) (missing : ℤ) (table : List ℕ) : Type 0 where
+  pub code-of : (v : ℤ) → mag v < 128 → getD table (byteIndex v) 0 ≡ orFour (codeOf i8 flag missing v)
+
+-- the number of the value at a place of a list, by a table
+unfoldable pub byTable : List ℕ → List ℤ → ℕ → ℕ
+byTable table vals k = getD table (byteIndex (getD vals k (pos 0))) 0
+
+-- what place k of a group of four holds that has `left` values: past them a pad
+unfoldable pub inGroup : ℕ → (ℕ → ℕ) → ℕ → ℕ
+inGroup left number k = cond (ltb k left) (number k) 0
+
+-- four codes of a group
+pub record Four (f : ℕ → ℕ) (c0 c1 c2 c3 : ℕ) : Type 0 where
+  pub at-0 : c0 ≡ f 0
+  pub at-1 : c1 ≡ f 1
+  pub at-2 : c2 ≡ f 2
+  pub at-3 : c3 ≡ f 3
+
+-- r is the first of four that is no code, or 4
+pub record FirstOfFour (cs : List ℕ) (r : ℕ) : Type 0 where
+  pub within : r ≤ 4
+  pub before : (k : ℕ) → k < r → getD cs k 0 < 4
+  pub here : r < 4 → 3 < getD cs r 0
+
+-- a number that is no code, and this is found
+unfoldable pub ifOver : {A : Type 0} → ℕ → A → Option A
+ifOver number place = cond (ltb number 4) none (some place)
+
+-- the first marker, and in it the first animal, whose number is no code
+unfoldable pub firstOver : ℕ → ℕ → (ℕ → ℕ → ℕ) → Option (ℕ × ℕ)
+firstOver iids sids number = firstOf sids (λ m. firstOf iids (λ a. ifOver (number a m) (a, m)))
+
+-- the number of the value at a place of a list, by tests
+abbrev pub byTests : Bool → Float → List Float → ℕ → ℕ
+byTests flag missing vals k = orFour (placeCode float flag missing vals k)
+
+-- the number of animal a at marker m of a matrix, by that of each place
+unfoldable pub placed : (ℕ → ℕ) → Bool → ℕ → ℕ → ℕ → ℕ → ℕ
+placed number order iids sids a m = number (matrixPlace order iids sids a m)

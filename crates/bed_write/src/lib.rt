@@ -1,0 +1,169 @@
+// Packing values into blocks, and writing a .bed file into lent bytes.
+ghost use mathlib.Core.Path.{_≡_};
+ghost use mathlib.Core.List.{[], _∷_};
+ghost use Prim.Native.Nat.{ℕ, _+_, _*_, _<_};
+ghost use mathlib.Core.Bool.{cond};
+ghost use lib.IntN.{pos};
+ghost use lib.Signed.{mag};
+ghost use lib.ListN.{length, getD};
+ghost use Rattle.bed_write.specs.Packing.{placeCode};
+ghost use Rattle.genotype.specs.Value.{float, codeOf};
+ghost use Rattle.bed_write.specs.Inner.{orFour, byteIndex, CodesOfBytes, byTable, inGroup, Four, FirstOfFour};
+
+pub mod encode;
+pub mod write;
+
+use genotype::values::ValueCode;
+
+// "Pads are zero".
+const PAD: u8 = 0;
+
+// The codes of four values that share a byte; 4 stands for a bad value.
+struct Group {
+    c0: u8,
+    c1: u8,
+    c2: u8,
+    c3: u8,
+}
+
+// The place of an i8 in a table of 256: from 0 on its own number, and 128 + (−1 − v) for v below 0.
+fn index_of(value: i8) -> usize
+    ensures { λ r. ⌜ (r ≡ byteIndex value) × (r < 256) ⌝ }
+{
+    if value < 0 {
+        return 128 + (-1 - value) as usize;
+    }
+    value as usize
+}
+
+fn code_of_zero(is_a1_counted: bool) -> u8
+    ensures { λ r. ⌜ r ≡ cond «is_a1_counted» 3 0 ⌝ }
+{
+    if is_a1_counted { 3 } else { 0 }
+}
+
+fn code_of_two(is_a1_counted: bool) -> u8
+    ensures { λ r. ⌜ r ≡ cond «is_a1_counted» 0 3 ⌝ }
+{
+    if is_a1_counted { 0 } else { 3 }
+}
+
+// The code of each i8, or 4, made once for all values of a call: 0, 1 and 2 go before missing.
+fn code_table(is_a1_counted: bool, missing: i8) -> [u8; 256]
+    ensures { λ r. ⌜ CodesOfBytes «is_a1_counted» missing r ⌝ }
+{
+    let mut table = [4u8; 256];
+    let at = index_of(missing);
+    table[at] = 1;
+    table[2] = code_of_two(is_a1_counted);
+    table[1] = 2;
+    table[0] = code_of_zero(is_a1_counted);
+    table
+}
+
+// The code of a value, or 4.
+fn code_i8(value: i8, table: &[u8; 256]) -> u8
+    ensures { λ r. ⌜ r ≡ getD (now (table .entry)) (byteIndex value) 0 ⌝ }
+{
+    let at = index_of(value);
+    table[at]
+}
+
+fn code_f64(value: f64, is_a1_counted: bool, missing: f64) -> u8
+    ensures { λ r. ⌜ r ≡ orFour (codeOf float «is_a1_counted» missing value) ⌝ }
+{
+    match genotype::values::value_code_f64(value, is_a1_counted, missing) {
+        ValueCode::Code(code) => code,
+        ValueCode::BadValue => 4,
+    }
+}
+
+// The code of place k of the group of values that stand `stride` apart from `start` on, of which `left` are there.
+fn held_i8(val: &[i8], start: usize, stride: usize, left: usize, k: usize, table: &[u8; 256]) -> u8
+    requires { ⌜ (k < left → start + k * stride < length (now val)) ⌝ }
+    ensures { λ r. ⌜ (r ≡ inGroup left (λ j. byTable (now (table .entry)) (now (val .entry)) (start + j * stride)) k) × (k < left → mag (getD (now (val .entry)) (start + k * stride) (pos 0)) < 128) ⌝ }
+{
+    if k < left {
+        let at = start + k * stride;
+        return code_i8(val[at], table);
+    }
+    PAD
+}
+
+// The codes of a whole group.
+fn group_i8(val: &[i8], start: usize, stride: usize, left: usize, table: &[u8; 256]) -> Group
+    requires { ⌜ ((k : ℕ) → k < left → k < 4 → start + k * stride < length (now val)) ⌝ }
+    ensures { λ r. ⌜ Four (inGroup left (λ j. byTable (now (table .entry)) (now (val .entry)) (start + j * stride))) (r .c0) (r .c1) (r .c2) (r .c3) × ((k : ℕ) → k < left → k < 4 → mag (getD (now (val .entry)) (start + k * stride) (pos 0)) < 128) ⌝ }
+{
+    let c0 = held_i8(val, start, stride, left, 0, table);
+    let c1 = held_i8(val, start, stride, left, 1, table);
+    let c2 = held_i8(val, start, stride, left, 2, table);
+    let c3 = held_i8(val, start, stride, left, 3, table);
+    Group { c0, c1, c2, c3 }
+}
+
+// The code of place k of the group of values that stand `stride` apart from `start` on, of which `left` are there.
+fn held_f64(
+    val: &[f64],
+    start: usize,
+    stride: usize,
+    left: usize,
+    k: usize,
+    is_a1_counted: bool,
+    missing: f64,
+) -> u8
+    requires { ⌜ (k < left → start + k * stride < length (now val)) ⌝ }
+    ensures { λ r. ⌜ r ≡ inGroup left (λ j. orFour (placeCode float «is_a1_counted» missing (now (val .entry)) (start + j * stride))) k ⌝ }
+{
+    if k < left {
+        let at = start + k * stride;
+        return code_f64(val[at], is_a1_counted, missing);
+    }
+    PAD
+}
+
+// The codes of a whole group.
+fn group_f64(
+    val: &[f64],
+    start: usize,
+    stride: usize,
+    left: usize,
+    is_a1_counted: bool,
+    missing: f64,
+) -> Group
+    requires { ⌜ ((k : ℕ) → k < left → k < 4 → start + k * stride < length (now val)) ⌝ }
+    ensures { λ r. ⌜ Four (inGroup left (λ j. orFour (placeCode float «is_a1_counted» missing (now (val .entry)) (start + j * stride)))) (r .c0) (r .c1) (r .c2) (r .c3) ⌝ }
+{
+    let c0 = held_f64(val, start, stride, left, 0, is_a1_counted, missing);
+    let c1 = held_f64(val, start, stride, left, 1, is_a1_counted, missing);
+    let c2 = held_f64(val, start, stride, left, 2, is_a1_counted, missing);
+    let c3 = held_f64(val, start, stride, left, 3, is_a1_counted, missing);
+    Group { c0, c1, c2, c3 }
+}
+
+// The first of the four that is bad, or 4.
+fn first_bad_of(g: Group) -> usize
+    ensures { λ r. ⌜ FirstOfFour (g .c0 ∷ g .c1 ∷ g .c2 ∷ g .c3 ∷ []) r ⌝ }
+{
+    if g.c0 > 3 {
+        return 0;
+    }
+    if g.c1 > 3 {
+        return 1;
+    }
+    if g.c2 > 3 {
+        return 2;
+    }
+    if g.c3 > 3 {
+        return 3;
+    }
+    4
+}
+
+// The byte of four codes, the first in the low bits.
+fn byte_of(g: Group) -> u8
+    requires { ⌜ (g .c0 < 4) × (g .c1 < 4) × (g .c2 < 4) × (g .c3 < 4) ⌝ }
+    ensures { λ r. ⌜ r ≡ g .c0 + 4 * g .c1 + 16 * g .c2 + 64 * g .c3 ⌝ }
+{
+    g.c0 + 4 * g.c1 + 16 * g.c2 + 64 * g.c3
+}

@@ -1,0 +1,172 @@
+// Writing values of type i8.
+ghost use mathlib.Core.Path.{_≡_};
+ghost use mathlib.Core.Bool.{cond};
+ghost use mathlib.Core.Option.{none};
+ghost use Prim.Native.Nat.{ℕ, _+_, _*_, _<_, _≤_};
+ghost use lib.IntN.{pos};
+ghost use lib.ListN.{length, getD};
+ghost use lib.Signed.{mag};
+ghost use Rattle.genotype.specs.Block.{blockWidth};
+ghost use Rattle.genotype.specs.Code.{packedByte};
+ghost use Rattle.genotype.specs.Lists.{tabulate};
+ghost use Rattle.genotype.specs.Value.{i8};
+ghost use Rattle.bed_write.specs.Writing.{valueCode, writeAnswer, bedFile, writeBuffer};
+ghost use Rattle.bed_write.specs.Inner.{byTable, firstOver, placed};
+ghost use Rattle.bed_write.specs.Says.{writeSays, badSays};
+use super::BadCall;
+use super::WriteAnswer;
+use genotype::entries::IidIndex;
+use genotype::entries::SidIndex;
+
+// The largest number of all values, along the grain: below 4 if none is bad.
+fn worst_i8(val: &[i8], table: &[u8; 256]) -> u8
+    ensures { λ r. ⌜ ((k : ℕ) → k < length (now (val .entry)) → ((byTable (now (table .entry)) (now (val .entry)) k ≤ r) × (mag (getD (now (val .entry)) k (pos 0)) < 128))) ⌝ }
+{
+    let mut worst = 0;
+    let mut i = 0;
+    while i < val.len() {
+        worst = super::worse(worst, crate::code_i8(val[i], table));
+        i += 1;
+    }
+    worst
+}
+
+fn first_bad_i8(
+    val: &[i8],
+    iid_count: usize,
+    sid_count: usize,
+    animal_order: bool,
+    table: &[u8; 256],
+) -> BadCall
+    requires { ⌜ «iid_count» * «sid_count» ≡ length (now val) ⌝ }
+    ensures { λ r. ⌜ badSays r ≡ firstOver «iid_count» «sid_count» (placed (byTable (now (table .entry)) (now (val .entry))) «animal_order» «iid_count» «sid_count») ⌝ }
+{
+    let mut marker = 0;
+    let found = 'markers: loop {
+        if marker >= sid_count {
+            break 'markers BadCall::Nothing;
+        }
+        let mut animal = 0;
+        while animal < iid_count {
+            let at = super::matrix_place(
+                animal_order,
+                iid_count,
+                sid_count,
+                IidIndex(animal),
+                SidIndex(marker),
+            );
+            if crate::code_i8(val[at], table) > 3 {
+                break 'markers BadCall::At(IidIndex(animal), SidIndex(marker));
+            }
+            animal += 1;
+        }
+        marker += 1;
+    };
+    found
+}
+
+// The same, found at once where no value is bad.
+fn search_i8(
+    val: &[i8],
+    iid_count: usize,
+    sid_count: usize,
+    animal_order: bool,
+    table: &[u8; 256],
+) -> BadCall
+    requires { ⌜ «iid_count» * «sid_count» ≡ length (now val) ⌝ }
+    ensures { λ r. ⌜ (badSays r ≡ firstOver «iid_count» «sid_count» (placed (byTable (now (table .entry)) (now (val .entry))) «animal_order» «iid_count» «sid_count»)) × ((k : ℕ) → k < length (now (val .entry)) → mag (getD (now (val .entry)) k (pos 0)) < 128) ⌝ }
+{
+    if worst_i8(val, table) < 4 {
+        return BadCall::Nothing;
+    }
+    first_bad_i8(val, iid_count, sid_count, animal_order, table)
+}
+
+// Byte b of the packed block of marker m, of a matrix without bad values.
+fn byte_at_i8(
+    val: &[i8],
+    iid_count: usize,
+    sid_count: usize,
+    animal_order: bool,
+    stride: usize,
+    m: usize,
+    b: usize,
+    table: &[u8; 256],
+) -> u8
+    requires { ⌜ («iid_count» * «sid_count» ≡ length (now val)) × (stride ≡ cond «animal_order» «sid_count» 1) × (m < «sid_count») × (4 * b < «iid_count») × (firstOver «iid_count» «sid_count» (placed (byTable (now table) (now val)) «animal_order» «iid_count» «sid_count») ≡ none) ⌝ }
+    ensures { λ r. ⌜ r ≡ packedByte (tabulate «iid_count» (λ a. placed (byTable (now (table .entry)) (now (val .entry))) «animal_order» «iid_count» «sid_count» a m)) b ⌝ }
+{
+    let first = 4 * b;
+    let left = iid_count - first;
+    let start = super::matrix_place(
+        animal_order,
+        iid_count,
+        sid_count,
+        IidIndex(first),
+        SidIndex(m),
+    );
+    let g = crate::group_i8(val, start, stride, left, table);
+    crate::byte_of(g)
+}
+
+// The file of a matrix without bad values.
+fn write_file_i8(
+    val: &[i8],
+    iid_count: usize,
+    sid_count: usize,
+    animal_order: bool,
+    width: usize,
+    table: &[u8; 256],
+    out: &mut [u8],
+)
+    requires { ⌜ («iid_count» * «sid_count» ≡ length (now val)) × (width ≡ blockWidth «iid_count») × (length (now out) ≡ 3 + width * «sid_count») × (firstOver «iid_count» «sid_count» (placed (byTable (now table) (now val)) «animal_order» «iid_count» «sid_count») ≡ none) ⌝ }
+    ensures { λ _. ⌜ now (out .exit) ≡ bedFile «iid_count» «sid_count» (placed (byTable (now (table .entry)) (now (val .entry))) «animal_order» «iid_count» «sid_count») ⌝ }
+{
+    out[0] = 0x6C;
+    out[1] = 0x1B;
+    out[2] = 1;
+    if width == 0 {
+        return;
+    }
+    let stride = super::animal_stride(animal_order, sid_count);
+    let mut from = 0;
+    while from < sid_count {
+        let until = super::tile_end(animal_order, from, sid_count);
+        let mut b = 0;
+        while b < width {
+            let mut m = from;
+            while m < until {
+                let at = 3 + m * width + b;
+                out[at] = byte_at_i8(val, iid_count, sid_count, animal_order, stride, m, b, table);
+                m += 1;
+            }
+            b += 1;
+        }
+        from = until;
+    }
+}
+
+// Writes the values of a matrix as a file of mode 1.
+pub fn write_val_i8(
+    val: &[i8],
+    iid_count: usize,
+    sid_count: usize,
+    animal_order: bool,
+    is_a1_counted: bool,
+    missing: i8,
+    out: &mut [u8],
+) -> WriteAnswer
+    ensures { λ r. ⌜ (writeSays r ≡ writeAnswer «iid_count» «sid_count» (valueCode i8 «is_a1_counted» missing «animal_order» «iid_count» «sid_count» (now (val .entry))) (length (now (val .entry))) (length (now (out .entry)))) × (now (out .exit) ≡ writeBuffer «iid_count» «sid_count» (valueCode i8 «is_a1_counted» missing «animal_order» «iid_count» «sid_count» (now (val .entry))) (length (now (val .entry))) (now (out .entry))) ⌝ }
+{
+    let checked = super::check_write(iid_count, sid_count, val.len(), out.len());
+    if super::is_done(checked) {
+        let table = crate::code_table(is_a1_counted, missing);
+        let bad = search_i8(val, iid_count, sid_count, animal_order, &table);
+        if let BadCall::At(animal, marker) = bad {
+            return WriteAnswer::BadValue(animal, marker);
+        }
+        let width = genotype::blocks::block_width(iid_count);
+        write_file_i8(val, iid_count, sid_count, animal_order, width, &table, out);
+    }
+    checked
+}

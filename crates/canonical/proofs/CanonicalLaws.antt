@@ -1,0 +1,135 @@
+-- Laws of the canonical call's checks and of its bytes.
+use mathlib.Core.Path.{_≡_, refl, sym, ap, subst, _∙_}
+use mathlib.Core.Bool.{Bool, true, false, cond}
+use mathlib.Core.List.{List, [], _∷_}
+use mathlib.Core.Option.{Option, some, none}
+use Prim.Native.Nat.{ℕ, _+_, _-_, _*_, _^_, _<_, _≤_}
+use native.Mathlib.Omega.{arith}
+use borrow.Author.Tests.{eqb-true, eq-eqb, ne-eqb, leb-true}
+use lib.Dec.{eqb, leb}
+use lib.IntN.{pos}
+use lib.ListN.{length, getD}
+use Rattle.genotype.specs.Answer.{Answer, done, refused, check, checkCount, countLimit, isDone}
+use Rattle.genotype.specs.Block.{blockWidth, fileLength, checkSize, divAnswer}
+use Rattle.genotype.specs.Code.{packedByte}
+use Rattle.genotype.specs.Lists.{tabulate}
+use Rattle.genotype.proofs.AnswerLaws.{Stage, check-stage, count-stage, then-stage, heard, stays, check-passes, check-refuses, check-done, count-done, count-passes, new-if-done, old-if-not, before-later}
+use Rattle.genotype.proofs.Widths.{Sized, width-given}
+use Rattle.bed_read.specs.File.{isMode1, items, blocks, checkFile, acceptAnswer}
+use Rattle.bed_read.specs.Calls.{callCode}
+use Rattle.bed_read.specs.Inner.{Shaped}
+use Rattle.bed_read.proofs.FileLaws.{Accepted, accepted, file-stage}
+use Rattle.bed_read.proofs.CallLaws.{call-below}
+use Rattle.bed_write.specs.Packing.{orZero}
+use Rattle.bed_write.specs.Writing.{bedFile}
+use Rattle.canonical.specs.Canonical.{canonicalAnswer, canonicalFile, canonicalBuffer}
+use Rattle.bed_write.specs.Inner.{orFour, inGroup, Four}
+use Rattle.canonical.specs.Inner.{writtenAnswer}
+use Rattle.bed_write.proofs.GroupLaws.{good-four, group-byte}
+
+-- ---- the length to be written: 18, 4, 16
+size-stage : (iids sids : ℕ) → Stage (λ later. checkCount iids (checkCount sids (checkSize iids sids later)))
+unfolding checkSize
+size-stage iids sids = then-stage (count-stage iids) (then-stage (count-stage sids) (check-stage (leb (fileLength iids sids) (2 ^ 64 - 1)) 4))
+
+module _ (iids sids outLength : ℕ) where
+  pub written-refused : (k : ℕ) → refused k [] ≡ divAnswer iids sids → refused k [] ≡ writtenAnswer iids sids outLength
+  unfolding writtenAnswer divAnswer
+  written-refused k e = sym (stays (size-stage iids sids) _ k [] (sym e) _)
+
+  module _ (w : ℕ) (e : done (pos w ∷ []) ≡ divAnswer iids sids) where
+    size : Sized iids sids w
+    size = width-given iids sids w e
+
+    whole : w * sids + 3 ≡ fileLength iids sids
+    whole = let k : w * sids ≡ blockWidth iids * sids = ap (λ (x : ℕ). x * sids) (size .width-is) in omega arith
+
+    pub written-fits : w * sids + 3 < 2 ^ 64
+    written-fits = let k = size .length-fits in let h = whole in omega arith
+
+    after-size : writtenAnswer iids sids outLength ≡ check (eqb outLength (fileLength iids sids)) 16 (done [])
+    unfolding writtenAnswer divAnswer isDone
+    after-size = heard (size-stage iids sids) _ (sym (ap isDone e)) _
+
+    pub written-done : outLength ≡ w * sids + 3 → done [] ≡ writtenAnswer iids sids outLength
+    written-done h = sym (after-size ∙ check-passes (eqb outLength (fileLength iids sids)) 16 (done []) (eq-eqb outLength (fileLength iids sids) (h ∙ whole)))
+
+    pub written-length : (outLength ≡ w * sids + 3 → ⊥) → refused 16 [] ≡ writtenAnswer iids sids outLength
+    written-length h = sym (after-size ∙ check-refuses (eqb outLength (fileLength iids sids)) 16 (done []) (ne-eqb outLength (fileLength iids sids) (λ q. h (q ∙ sym whole))))
+
+-- ---- all checks, by what `accept` says
+module _ (file : List ℕ) (iids sids outLength : ℕ) where
+  read-stage : Stage (λ later. checkCount iids (checkCount sids (checkFile file iids sids later)))
+  read-stage = then-stage (count-stage iids) (then-stage (count-stage sids) (file-stage file iids sids))
+
+  pub canonical-refused : (k : ℕ) → refused k [] ≡ acceptAnswer file iids sids → refused k [] ≡ canonicalAnswer file iids sids outLength
+  unfolding canonicalAnswer acceptAnswer
+  canonical-refused k e = sym (stays read-stage [] k [] (sym e) _)
+
+  pub canonical-accepted : (a : Answer) → done [] ≡ acceptAnswer file iids sids → a ≡ writtenAnswer iids sids outLength → a ≡ canonicalAnswer file iids sids outLength
+  unfolding canonicalAnswer acceptAnswer writtenAnswer isDone
+  canonical-accepted a d e =
+      let acc = accepted file iids sids (sym (ap isDone d)) in
+      let later = checkSize iids sids (check (eqb outLength (fileLength iids sids)) 16 (done [])) in
+      e ∙ count-passes iids _ (acc .iids-fit) ∙ count-passes sids _ (acc .sids-fit)
+      ∙ sym (heard read-stage [] (sym (ap isDone d)) later)
+
+-- ---- what is known where the canonical call is done
+pub record Writable (file : List ℕ) (iids sids outLength : ℕ) : Type 0 where
+  pub accepts : Accepted file iids sids
+  pub fits : fileLength iids sids ≤ 2 ^ 64 - 1
+  pub out-long : outLength ≡ fileLength iids sids
+
+accept-done : (file : List ℕ) (iids sids : ℕ) (later : Answer) → isDone (checkCount iids (checkCount sids (checkFile file iids sids later))) ≡ true → isDone (acceptAnswer file iids sids) ≡ true
+unfolding acceptAnswer
+accept-done file iids sids later d = before-later (read-stage file iids sids 0) later d
+
+pub writable : (file : List ℕ) (iids sids outLength : ℕ) → isDone (canonicalAnswer file iids sids outLength) ≡ true → Writable file iids sids outLength
+unfolding canonicalAnswer checkSize
+writable file iids sids outLength d =
+    let later = checkSize iids sids (check (eqb outLength (fileLength iids sids)) 16 (done [])) in
+    let acc = accepted file iids sids (accept-done file iids sids later d) in
+    let d0 = count-done iids _ d in
+    let d1 = count-done sids _ (d0 .1) in
+    let d2 : isDone later ≡ true = subst (λ (x : Answer). isDone x ≡ true) (acc .heard-later later) (d1 .1) in
+    let d3 = check-done (leb (fileLength iids sids) (2 ^ 64 - 1)) 4 _ d2 in
+    let d4 = check-done (eqb outLength (fileLength iids sids)) 16 _ (d3 .1) in
+    record { accepts = acc; fits = leb-true (fileLength iids sids) (2 ^ 64 - 1) (d3 .0); out-long = eqb-true outLength (fileLength iids sids) (d4 .0) }
+
+-- the shape of the file that is read
+pub shaped : (file : List ℕ) (iids sids : ℕ) (mode1 : Bool) (w : ℕ) → Accepted file iids sids → mode1 ≡ isMode1 file → w ≡ blockWidth (items mode1 iids sids) → Shaped file mode1 w iids sids
+shaped file iids sids mode1 w a em ew =
+    record { mode-is = em; width-is = ew; length-is = a .length-is ∙ ap (λ (m : Bool). fileLength (items m iids sids) (blocks m iids sids)) (sym em) }
+
+pub mode-test : (file : List ℕ) (t : Bool) → t ≡ eqb (getD file 2 0) 1 → t ≡ isMode1 file
+unfolding isMode1
+mode-test file t e = e
+
+pub mode-width : (iids sids : ℕ) (mode1 b : Bool) (w : ℕ) → mode1 ≡ b → w ≡ blockWidth (items b iids sids) → w ≡ blockWidth (items mode1 iids sids)
+mode-width iids sids mode1 b w e f = f ∙ ap (λ (m : Bool). blockWidth (items m iids sids)) (sym e)
+
+-- ---- the later buffer
+pub canonical-wrote : (file : List ℕ) (iids sids : ℕ) (old out : List ℕ) (a : Answer) → a ≡ canonicalAnswer file iids sids (length old) → isDone a ≡ true → out ≡ canonicalFile file iids sids → out ≡ canonicalBuffer file iids sids old
+unfolding canonicalBuffer
+canonical-wrote file iids sids old out a e d o = o ∙ sym (new-if-done _ _ old (sym (ap isDone e) ∙ d))
+
+pub canonical-kept : (file : List ℕ) (iids sids : ℕ) (old : List ℕ) (a : Answer) → a ≡ canonicalAnswer file iids sids (length old) → isDone a ≡ false → old ≡ canonicalBuffer file iids sids old
+unfolding canonicalBuffer
+canonical-kept file iids sids old a e d = sym (old-if-not _ _ old (sym (ap isDone e) ∙ d))
+
+-- ---- a group of calls
+module _ (file : List ℕ) (iids sids m b : ℕ) (c0 c1 c2 c3 : ℕ) (q : Four (inGroup (iids - 4 * b) (λ j. callCode file iids sids (4 * b + j) m)) c0 c1 c2 c3) where
+  abbrev code : ℕ → Option ℕ
+  code a = some (callCode file iids sids a m)
+
+  same : (k : ℕ) → k < 4 → k < iids - 4 * b → callCode file iids sids (4 * b + k) m ≡ orFour (code (4 * b + k))
+  unfolding orFour
+  same k h g = refl
+
+  pub calls-codes : (c0 < 4) × (c1 < 4) × (c2 < 4) × (c3 < 4)
+  unfolding orFour
+  calls-codes = good-four iids code b (λ j. callCode file iids sids (4 * b + j) m) same c0 c1 c2 c3 q (λ k h. call-below file iids sids (4 * b + k) m)
+
+  pub calls-byte : (v : ℕ) → v ≡ c0 + 4 * c1 + 16 * c2 + 64 * c3 → v ≡ packedByte (tabulate iids (λ a. callCode file iids sids a m)) b
+  unfolding orZero
+  calls-byte v e = group-byte iids code b (λ j. callCode file iids sids (4 * b + j) m) same c0 c1 c2 c3 q v e calls-codes

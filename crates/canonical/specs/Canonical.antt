@@ -1,0 +1,34 @@
+-- The canonical file, on codes.
+use mathlib.Core.List.{List, []}
+use Prim.Native.Nat.{ℕ}
+use lib.Dec.{eqb}
+use lib.IntN.{ℤ, pos}
+use lib.ListN.{length}
+use Rattle.genotype.specs.Answer.{Answer, done, check, checkCount, ifDone}
+use Rattle.genotype.specs.Block.{fileLength, checkSize}
+use Rattle.genotype.specs.Lists.{tabulate}
+use Rattle.bed_read.specs.File.{checkFile}
+use Rattle.bed_read.specs.Calls.{callCode}
+use Rattle.bed_write.specs.Writing.{bedFile}
+
+-- "It makes the reading's checks without 15, 5 and 6, then 4 for the length to be written, then 16."
+unfoldable pub canonicalAnswer : List ℕ → ℕ → ℕ → ℕ → Answer
+unfolding checkCount checkSize check
+canonicalAnswer file iids sids outLength =
+    checkCount iids
+    (checkCount sids
+    (checkFile file iids sids
+    (checkSize iids sids
+    (check (eqb outLength (fileLength iids sids)) 16 (done [])))))
+
+-- the file of mode 1 that has the call of every animal at every marker
+unfoldable pub canonicalFile : List ℕ → ℕ → ℕ → List ℕ
+canonicalFile file iids sids = bedFile iids sids (callCode file iids sids)
+
+-- the later packed buffer of the canonical call
+unfoldable pub canonicalBuffer : List ℕ → ℕ → ℕ → List ℕ → List ℕ
+canonicalBuffer file iids sids old = ifDone (canonicalAnswer file iids sids (length old)) (canonicalFile file iids sids) old
+
+-- "file order is the list 0, 1, 2 and so on": with it, reading reads everything
+unfoldable pub fileOrder : ℕ → List ℤ
+fileOrder count = tabulate count pos

@@ -1,0 +1,158 @@
+-- Demand 3 at small files: each theorem once, its hypotheses closed by computation.
+use mathlib.Core.Path.{_≡_, refl, sym, ap, _∙_}
+use mathlib.Core.Bool.{Bool, true, false}
+use mathlib.Core.List.{List, [], _∷_}
+use mathlib.Core.Option.{none}
+use Prim.Native.Nat.{ℕ, _-_, _^_, _≤_}
+use lib.Dec.{lit≤}
+use lib.IntN.{ℤ, pos, negsuc}
+use lib.ListN.{length}
+use lib.Ieee.{Float, nan, binary64, isNan}
+use Rattle.genotype.specs.Answer.{Answer, done, refused, isDone, ifDone}
+use Rattle.genotype.specs.Block.{blockWidth, fileLength}
+use Rattle.genotype.specs.Entry.{isGood, means, firstBad}
+use Rattle.genotype.specs.Lists.{tabulate}
+use Rattle.genotype.specs.Code.{codeAt, itemCode, packedByte, packed}
+use Rattle.genotype.specs.Matrix.{matrixPlace, matrix}
+use Rattle.genotype.specs.Value.{values, valueOf}
+use Rattle.statistics.specs.Statistics.{noValue, markerStats, foundFor}
+use Rattle.standardise.specs.Standardised.{value, markerAnswer, markersAnswer, found, lowestRefused}
+use Rattle.bed_read.specs.Calls.{block, codeIn, callCode}
+use Rattle.bed_read.specs.Reading.{checkLists, readCode, codesRead, valuesRead}
+use Rattle.bed_read.specs.File.{isMode1, items, blocks, checkFile, acceptAnswer}
+use Rattle.read_standardised.specs.Demand.{IsAccepted, CallsAgree, GoodList, meant, NamesEachOnce, RightLengths, Way, inTurn, joinedCall, answersOf, valuesOf, statsOf}
+use Rattle.read_standardised.specs.Joined.{joinedChecks, readNan, joinedAnswer}
+use Rattle.read_standardised.specs.SmallHerds.{F, lastByteF2, inMode0}
+use Rattle.canonical.specs.Canonical.{fileOrder, canonicalFile, canonicalAnswer, canonicalBuffer}
+use Rattle.bed_write.specs.Writing.{joined, bedFile}
+use Rattle.read_standardised.proofs.Computed.{namesTest, names-by-test}
+use Rattle.read_standardised.proofs.Demand3.{canonical-is-accepted, canonical-is-itself, calls-to-canonical, canonical-to-calls, files-same-stats, files-same-answers, files-same-values, lists-same-stats, lists-same-answers, lists-moved-values}
+
+-- marker 1 all missing, and the same with other pads
+abbrev pub M : List ℕ
+M = 0x6C ∷ 0x1B ∷ 1 ∷ 0xE4 ∷ 0 ∷ 0x55 ∷ 1 ∷ []
+
+abbrev pub M2 : List ℕ
+M2 = 0x6C ∷ 0x1B ∷ 1 ∷ 0xE4 ∷ 0 ∷ 0x55 ∷ 0xF1 ∷ []
+
+F-accepted : IsAccepted F 5 2
+unfolding acceptAnswer isMode1 items blocks blockWidth
+F-accepted = refl
+
+F2-accepted : IsAccepted lastByteF2 5 2
+unfolding acceptAnswer isMode1 items blocks blockWidth
+F2-accepted = refl
+
+F0-accepted : IsAccepted inMode0 5 2
+unfolding acceptAnswer isMode1 items blocks blockWidth
+F0-accepted = refl
+
+M-accepted : IsAccepted M 5 2
+unfolding acceptAnswer isMode1 items blocks blockWidth
+M-accepted = refl
+
+M2-accepted : IsAccepted M2 5 2
+unfolding acceptAnswer isMode1 items blocks blockWidth
+M2-accepted = refl
+
+-- −1, 0, 3, −3, 1
+abbrev pub moved : List ℤ
+moved = negsuc 0 ∷ pos 0 ∷ pos 3 ∷ negsuc 2 ∷ pos 1 ∷ []
+
+moved-names : NamesEachOnce 5 moved
+unfolding namesTest firstBad isGood means
+moved-names = names-by-test 5 moved (1 ∷ 4 ∷ 3 ∷ 2 ∷ 0 ∷ []) refl refl
+
+-- the markers in the order 1, 0
+abbrev pub markers : List ℤ
+markers = pos 1 ∷ negsuc 1 ∷ []
+
+markers-good : GoodList 2 markers
+unfolding firstBad isGood
+markers-good = refl
+
+abbrev pub val : List Float
+val = nan ∷ nan ∷ nan ∷ nan ∷ nan ∷ nan ∷ nan ∷ nan ∷ nan ∷ nan ∷ []
+
+abbrev pub stats : List Float
+stats = nan ∷ nan ∷ nan ∷ nan ∷ []
+
+lengths : RightLengths moved markers val stats
+lengths = record { for-15 = refl; for-17 = refl }
+
+-- ---- the all-missing marker is refused: it stands at place 0 of the list
+pub missing-refused : (order : Bool) → joinedAnswer binary64 M 5 2 true moved markers order val stats ≡ refused 13 (pos 0 ∷ [])
+unfolding joinedAnswer joinedChecks readNan isMode1 items blocks blockWidth checkLists firstBad isGood means
+    valuesRead codesRead matrix matrixPlace tabulate readCode callCode codeIn block itemCode codeAt valueOf values
+    lowestRefused markersAnswer markerAnswer found foundFor markerStats value noValue isNan ifDone isDone
+missing-refused true = refl
+missing-refused false = refl
+
+-- ---- 1. canonical files
+abbrev pub out : List ℕ
+out = 0 ∷ 0 ∷ 0 ∷ 0 ∷ 0 ∷ 0 ∷ 0 ∷ []
+
+out-long : length out ≡ fileLength 5 2
+unfolding blockWidth
+out-long = refl
+
+short : fileLength 5 2 ≤ 2 ^ 64 - 1
+unfolding blockWidth
+short = lit≤ tt
+
+pads-same : canonicalBuffer F 5 2 out ≡ canonicalBuffer lastByteF2 5 2 out
+unfolding canonicalBuffer canonicalAnswer checkFile canonicalFile bedFile joined isMode1 items blocks blockWidth callCode codeIn block itemCode codeAt packed packedByte tabulate ifDone isDone
+pads-same = refl
+
+modes-same : canonicalBuffer F 5 2 out ≡ canonicalBuffer inMode0 5 2 out
+unfolding canonicalBuffer canonicalAnswer checkFile canonicalFile bedFile joined isMode1 items blocks blockWidth callCode codeIn block itemCode codeAt packed packedByte tabulate ifDone isDone
+modes-same = refl
+
+missing-same : canonicalBuffer M 5 2 out ≡ canonicalBuffer M2 5 2 out
+unfolding canonicalBuffer canonicalAnswer checkFile canonicalFile bedFile joined isMode1 items blocks blockWidth callCode codeIn block itemCode codeAt packed packedByte tabulate ifDone isDone
+missing-same = refl
+
+pub modes-calls : CallsAgree F inMode0 5 2
+modes-calls = canonical-to-calls F 5 2 F-accepted short out out-long out out-long inMode0 F0-accepted modes-same
+
+pub modes-back : canonicalBuffer F 5 2 out ≡ canonicalBuffer inMode0 5 2 out
+modes-back = calls-to-canonical F 5 2 F-accepted short out out-long out out-long inMode0 F0-accepted modes-calls
+
+pub again : canonicalBuffer (canonicalBuffer inMode0 5 2 out) 5 2 out ≡ canonicalBuffer inMode0 5 2 out
+again = canonical-is-itself inMode0 5 2 F0-accepted short out out-long out out-long
+
+pub again-accepted : IsAccepted (canonicalBuffer inMode0 5 2 out) 5 2
+again-accepted = canonical-is-accepted inMode0 5 2 F0-accepted short out out-long out out-long
+
+-- ---- 2 and 3, in both orders, under both flags and in every way
+module _ (flag order : Bool) (way : Way) where
+  pub pads-stats : statsOf binary64 F 5 2 flag moved markers order val stats way ≡ statsOf binary64 lastByteF2 5 2 flag moved markers order val stats way
+  pads-stats = files-same-stats F lastByteF2 5 2 F-accepted F2-accepted short out out out-long out-long pads-same flag moved markers (moved-names .good-list) markers-good order val stats lengths way
+
+  pub pads-values : valuesOf binary64 F 5 2 flag moved markers order val stats way ≡ valuesOf binary64 lastByteF2 5 2 flag moved markers order val stats way
+  pads-values = files-same-values F lastByteF2 5 2 F-accepted F2-accepted short out out out-long out-long pads-same flag moved markers (moved-names .good-list) markers-good order val stats lengths way
+
+  pub modes-answers : answersOf binary64 F 5 2 flag moved markers order val stats way ≡ answersOf binary64 inMode0 5 2 flag moved markers order val stats way
+  modes-answers = files-same-answers F inMode0 5 2 F-accepted F0-accepted short out out out-long out-long modes-same flag moved markers (moved-names .good-list) markers-good order val stats lengths way
+
+  pub modes-values : valuesOf binary64 F 5 2 flag moved markers order val stats way ≡ valuesOf binary64 inMode0 5 2 flag moved markers order val stats way
+  modes-values = files-same-values F inMode0 5 2 F-accepted F0-accepted short out out out-long out-long modes-same flag moved markers (moved-names .good-list) markers-good order val stats lengths way
+
+  pub missing-answers : answersOf binary64 M 5 2 flag moved markers order val stats way ≡ answersOf binary64 M2 5 2 flag moved markers order val stats way
+  missing-answers = files-same-answers M M2 5 2 M-accepted M2-accepted short out out out-long out-long missing-same flag moved markers (moved-names .good-list) markers-good order val stats lengths way
+
+  pub moved-stats : statsOf binary64 F 5 2 flag moved markers order val stats way ≡ statsOf binary64 F 5 2 flag (fileOrder 5) markers order val stats way
+  moved-stats = lists-same-stats F 5 2 F-accepted (lit≤ tt) flag moved markers moved-names markers-good order val stats lengths way
+
+  pub moved-answers : answersOf binary64 M 5 2 flag moved markers order val stats way ≡ answersOf binary64 M 5 2 flag (fileOrder 5) markers order val stats way
+  moved-answers = lists-same-answers M 5 2 M-accepted (lit≤ tt) flag moved markers moved-names markers-good order val stats lengths way
+
+  -- entry 0 is −1 and means animal 4
+  pub moved-value : value order 5 2 (valuesOf binary64 F 5 2 flag moved markers order val stats way) 0 1
+      ≡ value order (length (fileOrder 5)) 2 (valuesOf binary64 F 5 2 flag (fileOrder 5) markers order val stats way) (meant 5 moved 0) 1
+  moved-value = lists-moved-values F 5 2 F-accepted (lit≤ tt) flag moved markers moved-names markers-good order val stats lengths way 0 1 (lit≤ tt) (lit≤ tt)
+
+  -- at 13 too
+  pub moved-value-13 : value order 5 2 (valuesOf binary64 M 5 2 flag moved markers order val stats way) 0 1
+      ≡ value order (length (fileOrder 5)) 2 (valuesOf binary64 M 5 2 flag (fileOrder 5) markers order val stats way) (meant 5 moved 0) 1
+  moved-value-13 = lists-moved-values M 5 2 M-accepted (lit≤ tt) flag moved markers moved-names markers-good order val stats lengths way 0 1 (lit≤ tt) (lit≤ tt)

@@ -1,0 +1,9 @@
+pub mod JoinLaws
+pub mod SumLaws
+pub mod ReadLaws
+pub mod SideLaws
+pub mod LengthLaws
+pub mod Demand3
+pub mod Computed
+pub mod Examples
+pub mod Worked

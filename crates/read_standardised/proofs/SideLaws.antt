@@ -1,0 +1,287 @@
+-- Two sides that differ only in the file, and two that differ only in the animal list. Over the format.
+use mathlib.Core.Path.{_≡_, refl, sym, ap, subst, _∙_}
+use mathlib.Core.Bool.{Bool, true, false, cond}
+use mathlib.Core.List.{List, [], _∷_}
+use mathlib.Core.Logic.{inr}
+use Prim.Native.Nat.{ℕ, zero, suc, _+_, _*_, _<_, _≤_}
+use native.Mathlib.Omega.{arith}
+use borrow.Author.Tests.{eq-eqb}
+use lib.Dec.{eqb}
+use lib.IntN.{ℤ, pos}
+use lib.ListN.{length, getD}
+use lib.Ieee.{Float, nan, Format}
+use Rattle.genotype.specs.Answer.{Answer, done, isDone, ifDone}
+use Rattle.genotype.specs.Entry.{means}
+use Rattle.genotype.specs.Value.{float, valueOf}
+use Rattle.genotype.specs.Matrix.{matrixPlace, matrix}
+use Rattle.genotype.proofs.MatrixLaws.{getD-matrix}
+use Rattle.bed_read.specs.Reading.{readAnswer, readCode, valuesRead, readBuffer}
+use Rattle.bed_read.specs.Calls.{callCode}
+use Rattle.statistics.specs.declared.MarkerStats.{MarkerStats}
+use Rattle.statistics.specs.Statistics.{statsPerMarker, statsAt, foundFor}
+use Rattle.statistics.specs.Calls.{IsCall, total, FewEnough}
+use Rattle.statistics.specs.Calls.{NamesEachOnce as SumsAgree}
+use Rattle.statistics.proofs.CountLaws.{foundFor-ext}
+use Rattle.statistics.proofs.Exact.{reordered-stats, names-same}
+use Rattle.standardise.specs.Standardised.{markerAnswer, markersAnswer, keptOrNew, applied, value, found, mayChange, lowestRefused, newStats, newValues, standardiseAnswer, laterStats, laterValues}
+use Rattle.standardise.proofs.Theorems.{reordered-same-answer, reordered-same-stats, reordered-moved-values}
+use Rattle.read_standardised.specs.Joined.{readNan, joinedAnswer, joinedStats, joinedValues}
+use Rattle.canonical.specs.Canonical.{fileOrder}
+use Rattle.read_standardised.specs.Demand.{IsAccepted, CallsAgree, GoodList, meant, NamesEachOnce, RightLengths, Way, inTurn, joinedCall, asRead, answersOf, valuesOf, statsOf}
+use Rattle.read_standardised.proofs.JoinLaws.{as-read-is, answer-is, values-are, stats-are}
+use Rattle.read_standardised.proofs.SumLaws.{same-sum, names-length, meant-below}
+use Rattle.read_standardised.proofs.ReadLaws.{matrix-same, read-done, values-same, length-read, cell-read, call-read, length-order, order-means, order-good}
+
+-- the lowest refused marker's answer, by what is found for each
+markers-same : (g h : ℕ → MarkerStats) (n : ℕ) → ((m : ℕ) → m < n → g m ≡ h m) → markersAnswer g n ≡ markersAnswer h n
+unfolding markersAnswer
+markers-same g h zero e = refl
+markers-same g h (suc n) e =
+    ap (λ (a : Answer). ifDone a (markerAnswer n (g n)) a) (markers-same g h n (λ m l. e m (omega arith)))
+    ∙ ap (λ (x : MarkerStats). ifDone (markersAnswer h n) (markerAnswer n x) (markersAnswer h n)) (e n (omega arith))
+
+-- ---- a side whose file is accepted, whose lists are good, and whose buffers have the right lengths
+module _ (f : Format) (file : List ℕ) (iids sids : ℕ) (flag : Bool) (il sl : List ℤ) (order : Bool) (val stats : List Float)
+    (acc : IsAccepted file iids sids) (gi : GoodList iids il) (gs : GoodList sids sl) (len : RightLengths il sl val stats) where
+  pub reads : readAnswer file iids sids il sl (length val) ≡ done []
+  reads = read-done file iids sids il sl acc gi gs (length val) (len .for-15)
+
+  pub is-read : isDone (readAnswer file iids sids il sl (length val)) ≡ true
+  unfolding isDone
+  is-read = ap isDone reads
+
+  pub right-17 : eqb (statsPerMarker * length sl) (length stats) ≡ true
+  right-17 = eq-eqb (statsPerMarker * length sl) (length stats) (len .for-17)
+
+  pub left-by-reading : asRead f file iids sids flag il sl order val stats ≡ valuesRead float flag nan order file iids sids il sl
+  unfolding readNan
+  left-by-reading = as-read-is f file iids sids flag il sl order val stats is-read
+
+-- ---- the files differ
+module _ (f : Format) (file other : List ℕ) (iids sids : ℕ) (flag : Bool) (il sl : List ℤ) (order : Bool) (val stats : List Float)
+    (acc : IsAccepted file iids sids) (acc′ : IsAccepted other iids sids) (gi : GoodList iids il) (gs : GoodList sids sl)
+    (len : RightLengths il sl val stats) (agree : CallsAgree file other iids sids) where
+  values-read : valuesRead float flag nan order file iids sids il sl ≡ valuesRead float flag nan order other iids sids il sl
+  values-read = values-same file other iids sids il sl gi gs agree float flag nan order
+
+  as-read-same : asRead f file iids sids flag il sl order val stats ≡ asRead f other iids sids flag il sl order val stats
+  as-read-same =
+      left-by-reading f file iids sids flag il sl order val stats acc gi gs len ∙ values-read
+      ∙ sym (left-by-reading f other iids sids flag il sl order val stats acc′ gi gs len)
+
+  pub files-answers : (way : Way) → answersOf f file iids sids flag il sl order val stats way ≡ answersOf f other iids sids flag il sl order val stats way
+  unfolding answersOf readNan
+  files-answers (inTurn useStats apply) =
+      ap (λ (x : Answer). x ∷ standardiseAnswer f order (length il) (length sl) (asRead f file iids sids flag il sl order val stats) useStats stats ∷ [])
+      (reads f file iids sids flag il sl order val stats acc gi gs len ∙ sym (reads f other iids sids flag il sl order val stats acc′ gi gs len))
+      ∙ ap (λ (x : List Float). readAnswer other iids sids il sl (length val) ∷ standardiseAnswer f order (length il) (length sl) x useStats stats ∷ []) as-read-same
+  files-answers joinedCall =
+      ap (λ (x : Answer). x ∷ [])
+      (answer-is f file iids sids flag il sl order val stats (right-17 f file iids sids flag il sl order val stats acc gi gs len) (is-read f file iids sids flag il sl order val stats acc gi gs len)
+      ∙ ap (λ (x : List Float). lowestRefused f order (length il) (length sl) x false stats) values-read
+      ∙ sym (answer-is f other iids sids flag il sl order val stats (right-17 f file iids sids flag il sl order val stats acc gi gs len) (is-read f other iids sids flag il sl order val stats acc′ gi gs len)))
+
+  pub files-values : (way : Way) → valuesOf f file iids sids flag il sl order val stats way ≡ valuesOf f other iids sids flag il sl order val stats way
+  unfolding valuesOf readNan
+  files-values (inTurn useStats apply) = ap (λ (x : List Float). laterValues f order (length il) (length sl) x useStats stats apply) as-read-same
+  files-values joinedCall =
+      values-are f file iids sids flag il sl order val stats (right-17 f file iids sids flag il sl order val stats acc gi gs len) (is-read f file iids sids flag il sl order val stats acc gi gs len)
+      ∙ ap (λ (x : List Float). newValues f order (length il) (length sl) x false stats true) values-read
+      ∙ sym (values-are f other iids sids flag il sl order val stats (right-17 f file iids sids flag il sl order val stats acc gi gs len) (is-read f other iids sids flag il sl order val stats acc′ gi gs len))
+
+  pub files-stats : (way : Way) → statsOf f file iids sids flag il sl order val stats way ≡ statsOf f other iids sids flag il sl order val stats way
+  unfolding statsOf readNan
+  files-stats (inTurn useStats apply) = ap (λ (x : List Float). laterStats f order (length il) (length sl) x useStats stats) as-read-same
+  files-stats joinedCall =
+      stats-are f file iids sids flag il sl order val stats (right-17 f file iids sids flag il sl order val stats acc gi gs len) (is-read f file iids sids flag il sl order val stats acc gi gs len)
+      ∙ ap (λ (x : List Float). newStats f order (length il) (length sl) x false stats) values-read
+      ∙ sym (stats-are f other iids sids flag il sl order val stats (right-17 f file iids sids flag il sl order val stats acc gi gs len) (is-read f other iids sids flag il sl order val stats acc′ gi gs len))
+
+-- ---- the animal lists differ: one names each animal once, the other is file order
+module _ (f : Format) (file : List ℕ) (iids sids : ℕ) (flag : Bool) (il sl : List ℤ) (order : Bool) (val stats : List Float)
+    (acc : IsAccepted file iids sids) (names : NamesEachOnce iids il) (gs : GoodList sids sl) (len : RightLengths il sl val stats)
+    (few : FewEnough f iids) where
+  il-long : length il ≡ iids
+  il-long = names-length iids il names
+
+  fo : List ℤ
+  fo = fileOrder iids
+
+  fo-long : length fo ≡ iids
+  unfolding fo
+  fo-long = length-order iids
+
+  fo-good : GoodList iids fo
+  unfolding fo
+  fo-good = order-good iids
+
+  fo-len : RightLengths fo sl val stats
+  fo-len = record { for-15 = ap (λ (n : ℕ). n * length sl) (fo-long ∙ sym il-long) ∙ len .for-15; for-17 = len .for-17 }
+
+  -- what each side reads
+  here : List Float
+  here = valuesRead float flag nan order file iids sids il sl
+
+  there : List Float
+  there = valuesRead float flag nan order file iids sids fo sl
+
+  here-is : asRead f file iids sids flag il sl order val stats ≡ here
+  unfolding here
+  here-is = left-by-reading f file iids sids flag il sl order val stats acc (names .good-list) gs len
+
+  there-is : asRead f file iids sids flag fo sl order val stats ≡ there
+  unfolding there
+  there-is = left-by-reading f file iids sids flag fo sl order val stats acc fo-good gs fo-len
+
+  here-cell : (k m : ℕ) → k < iids → m < length sl
+      → value order iids (length sl) here k m ≡ valueOf float flag nan (callCode file iids sids (meant iids il k) (means sids (getD sl m (pos 0))))
+  unfolding here readCode meant
+  here-cell k m hk hm =
+      ap (λ (n : ℕ). value order n (length sl) here k m) (sym il-long)
+      ∙ cell-read flag order file iids sids il sl k m (subst (λ (n : ℕ). k < n) (sym il-long) hk) hm
+
+  there-cell : (i m : ℕ) → i < iids → m < length sl
+      → value order iids (length sl) there i m ≡ valueOf float flag nan (callCode file iids sids i (means sids (getD sl m (pos 0))))
+  unfolding there readCode meant fo
+  there-cell i m hi hm =
+      ap (λ (n : ℕ). value order n (length sl) there i m) (sym fo-long)
+      ∙ cell-read flag order file iids sids fo sl i m (subst (λ (n : ℕ). i < n) (sym fo-long) hi) hm
+      ∙ ap (λ (a : ℕ). valueOf float flag nan (callCode file iids sids a (means sids (getD sl m (pos 0))))) (order-means iids i hi)
+
+  there-call : (i m : ℕ) → i < iids → m < length sl → IsCall (value order iids (length sl) there i m)
+  unfolding there
+  there-call i m hi hm =
+      subst (λ (n : ℕ). IsCall (value order n (length sl) there i m)) fo-long
+      (call-read flag order file iids sids fo sl i m (subst (λ (n : ℕ). i < n) (sym fo-long) hi) hm)
+
+  sums : SumsAgree (meant iids il) iids
+  sums h = ap (total (λ k. h (meant iids il k))) (sym il-long) ∙ same-sum iids il names h
+
+  below : (k : ℕ) → k < iids → meant iids il k < iids
+  below k h = meant-below iids il names k (subst (λ (n : ℕ). k < n) (sym il-long) h)
+
+  moved : (k m : ℕ) → k < iids → m < length sl → value order iids (length sl) here k m ≡ value order iids (length sl) there (meant iids il k) m
+  moved k m hk hm = here-cell k m hk hm ∙ sym (there-cell (meant iids il k) m (below k hk) hm)
+
+  same-length : length here ≡ length there
+  unfolding here there
+  same-length =
+      length-read flag order file iids sids il sl ∙ ap (λ (n : ℕ). n * length sl) (il-long ∙ sym fo-long) ∙ sym (length-read flag order file iids sids fo sl)
+
+  -- ---- reading and then standardising
+  module _ (useStats : Bool) where
+    answer-moved : standardiseAnswer f order (length il) (length sl) (asRead f file iids sids flag il sl order val stats) useStats stats
+        ≡ standardiseAnswer f order (length fo) (length sl) (asRead f file iids sids flag fo sl order val stats) useStats stats
+    answer-moved =
+        ap (λ (n : ℕ). standardiseAnswer f order n (length sl) (asRead f file iids sids flag il sl order val stats) useStats stats) il-long
+        ∙ ap (λ (x : List Float). standardiseAnswer f order iids (length sl) x useStats stats) here-is
+        ∙ reordered-same-answer f order iids (length sl) there here useStats stats (meant iids il) sums same-length moved (inr (few, there-call))
+        ∙ ap (λ (x : List Float). standardiseAnswer f order iids (length sl) x useStats stats) (sym there-is)
+        ∙ ap (λ (n : ℕ). standardiseAnswer f order n (length sl) (asRead f file iids sids flag fo sl order val stats) useStats stats) (sym fo-long)
+
+    stats-moved : laterStats f order (length il) (length sl) (asRead f file iids sids flag il sl order val stats) useStats stats
+        ≡ laterStats f order (length fo) (length sl) (asRead f file iids sids flag fo sl order val stats) useStats stats
+    stats-moved =
+        ap (λ (n : ℕ). laterStats f order n (length sl) (asRead f file iids sids flag il sl order val stats) useStats stats) il-long
+        ∙ ap (λ (x : List Float). laterStats f order iids (length sl) x useStats stats) here-is
+        ∙ reordered-same-stats f order iids (length sl) there here useStats stats (meant iids il) sums same-length moved (inr (few, there-call))
+        ∙ ap (λ (x : List Float). laterStats f order iids (length sl) x useStats stats) (sym there-is)
+        ∙ ap (λ (n : ℕ). laterStats f order n (length sl) (asRead f file iids sids flag fo sl order val stats) useStats stats) (sym fo-long)
+
+    value-moved : (apply : Bool) (k m : ℕ) → k < length il → m < length sl
+        → value order (length il) (length sl) (laterValues f order (length il) (length sl) (asRead f file iids sids flag il sl order val stats) useStats stats apply) k m
+        ≡ value order (length fo) (length sl) (laterValues f order (length fo) (length sl) (asRead f file iids sids flag fo sl order val stats) useStats stats apply) (meant iids il k) m
+    value-moved apply k m hk hm =
+        ap (λ (n : ℕ). value order n (length sl) (laterValues f order n (length sl) (asRead f file iids sids flag il sl order val stats) useStats stats apply) k m) il-long
+        ∙ ap (λ (x : List Float). value order iids (length sl) (laterValues f order iids (length sl) x useStats stats apply) k m) here-is
+        ∙ reordered-moved-values f order iids (length sl) there here useStats stats (meant iids il) sums same-length moved (inr (few, there-call)) apply k m (subst (λ (n : ℕ). k < n) il-long hk) hm
+        ∙ ap (λ (x : List Float). value order iids (length sl) (laterValues f order iids (length sl) x useStats stats apply) (meant iids il k) m) (sym there-is)
+        ∙ ap (λ (n : ℕ). value order n (length sl) (laterValues f order n (length sl) (asRead f file iids sids flag fo sl order val stats) useStats stats apply) (meant iids il k) m) (sym fo-long)
+
+  -- ---- the joined call, which checks no list's length for 18
+  found-moved : (m : ℕ) → m < length sl → found f order iids (length sl) here false stats m ≡ found f order iids (length sl) there false stats m
+  unfolding found foundFor
+  found-moved m h =
+      foundFor-ext f (λ k. value order iids (length sl) here k m) (λ k. value order iids (length sl) there (meant iids il k) m) false (statsAt stats m) iids (λ k b. moved k m b h)
+      ∙ reordered-stats f (λ k. value order iids (length sl) there (meant iids il k) m) (λ i. value order iids (length sl) there i m) iids
+      (λ k b. there-call (meant iids il k) m (below k b) h) (λ i b. there-call i m b h) few (names-same (meant iids il) iids (λ i. value order iids (length sl) there i m) sums)
+
+  lowest-moved : lowestRefused f order iids (length sl) here false stats ≡ lowestRefused f order iids (length sl) there false stats
+  unfolding lowestRefused
+  lowest-moved = markers-same (found f order iids (length sl) here false stats) (found f order iids (length sl) there false stats) (length sl) found-moved
+
+  new-stats-moved : newStats f order iids (length sl) here false stats ≡ newStats f order iids (length sl) there false stats
+  unfolding newStats
+  new-stats-moved =
+      matrix-same false statsPerMarker (length sl) (λ c m. keptOrNew (found f order iids (length sl) here false stats m) c (getD stats (m * statsPerMarker + c) nan))
+      (λ c m. keptOrNew (found f order iids (length sl) there false stats m) c (getD stats (m * statsPerMarker + c) nan))
+      (λ c m a b. ap (λ (x : MarkerStats). keptOrNew x c (getD stats (m * statsPerMarker + c) nan)) (found-moved m b))
+
+  new-value : (xs : List Float) (i m : ℕ) → i < iids → m < length sl
+      → value order iids (length sl) (newValues f order iids (length sl) xs false stats true) i m
+      ≡ cond (cond order (isDone (lowestRefused f order iids (length sl) xs false stats)) true)
+      (applied f (found f order iids (length sl) xs false stats m) (value order iids (length sl) xs i m)) (value order iids (length sl) xs i m)
+  unfolding newValues mayChange value
+  new-value xs i m hi hm = go (cond order (isDone (lowestRefused f order iids (length sl) xs false stats)) true)
+    where
+      new : ℕ → ℕ → Float
+      new i m = applied f (found f order iids (length sl) xs false stats m) (getD xs (matrixPlace order iids (length sl) i m) nan)
+
+      go : (b : Bool) → getD (cond b (matrix order iids (length sl) new) xs) (matrixPlace order iids (length sl) i m) nan ≡ cond b (new i m) (getD xs (matrixPlace order iids (length sl) i m) nan)
+      go true = getD-matrix iids (length sl) i m hi hm order new nan
+      go false = refl
+
+  new-value-moved : (k m : ℕ) → k < iids → m < length sl
+      → value order iids (length sl) (newValues f order iids (length sl) here false stats true) k m
+      ≡ value order iids (length sl) (newValues f order iids (length sl) there false stats true) (meant iids il k) m
+  new-value-moved k m hk hm =
+      new-value here k m hk hm
+      ∙ (λ j. cond (cond order (isDone (lowest-moved j)) true) (applied f (found-moved m hm j) (moved k m hk hm j)) (moved k m hk hm j))
+      ∙ sym (new-value there (meant iids il k) m (below k hk) hm)
+
+  -- the joined call of each side
+  here-17 : eqb (statsPerMarker * length sl) (length stats) ≡ true
+  here-17 = right-17 f file iids sids flag il sl order val stats acc (names .good-list) gs len
+
+  here-read : isDone (readAnswer file iids sids il sl (length val)) ≡ true
+  here-read = is-read f file iids sids flag il sl order val stats acc (names .good-list) gs len
+
+  there-read : isDone (readAnswer file iids sids fo sl (length val)) ≡ true
+  there-read = is-read f file iids sids flag fo sl order val stats acc fo-good gs fo-len
+
+  -- ---- both ways
+  pub lists-answers : (way : Way) → answersOf f file iids sids flag il sl order val stats way ≡ answersOf f file iids sids flag (fileOrder iids) sl order val stats way
+  unfolding answersOf fo here there readNan
+  lists-answers (inTurn useStats apply) =
+      ap (λ (x : Answer). x ∷ standardiseAnswer f order (length il) (length sl) (asRead f file iids sids flag il sl order val stats) useStats stats ∷ [])
+      (reads f file iids sids flag il sl order val stats acc (names .good-list) gs len ∙ sym (reads f file iids sids flag fo sl order val stats acc fo-good gs fo-len))
+      ∙ ap (λ (x : Answer). readAnswer file iids sids fo sl (length val) ∷ x ∷ []) (answer-moved useStats)
+  lists-answers joinedCall =
+      ap (λ (x : Answer). x ∷ [])
+      (answer-is f file iids sids flag il sl order val stats here-17 here-read
+      ∙ ap (λ (n : ℕ). lowestRefused f order n (length sl) here false stats) il-long
+      ∙ lowest-moved
+      ∙ ap (λ (n : ℕ). lowestRefused f order n (length sl) there false stats) (sym fo-long)
+      ∙ sym (answer-is f file iids sids flag fo sl order val stats here-17 there-read))
+
+  pub lists-stats : (way : Way) → statsOf f file iids sids flag il sl order val stats way ≡ statsOf f file iids sids flag (fileOrder iids) sl order val stats way
+  unfolding statsOf fo here there readNan
+  lists-stats (inTurn useStats apply) = stats-moved useStats
+  lists-stats joinedCall =
+      stats-are f file iids sids flag il sl order val stats here-17 here-read
+      ∙ ap (λ (n : ℕ). newStats f order n (length sl) here false stats) il-long
+      ∙ new-stats-moved
+      ∙ ap (λ (n : ℕ). newStats f order n (length sl) there false stats) (sym fo-long)
+      ∙ sym (stats-are f file iids sids flag fo sl order val stats here-17 there-read)
+
+  pub lists-values : (way : Way) (k m : ℕ) → k < length il → m < length sl
+      → value order (length il) (length sl) (valuesOf f file iids sids flag il sl order val stats way) k m
+      ≡ value order (length (fileOrder iids)) (length sl) (valuesOf f file iids sids flag (fileOrder iids) sl order val stats way) (meant iids il k) m
+  unfolding valuesOf fo here there readNan
+  lists-values (inTurn useStats apply) k m hk hm = value-moved useStats apply k m hk hm
+  lists-values joinedCall k m hk hm =
+      ap (λ (x : List Float). value order (length il) (length sl) x k m) (values-are f file iids sids flag il sl order val stats here-17 here-read)
+      ∙ ap (λ (n : ℕ). value order n (length sl) (newValues f order n (length sl) here false stats true) k m) il-long
+      ∙ new-value-moved k m (subst (λ (n : ℕ). k < n) il-long hk) hm
+      ∙ ap (λ (n : ℕ). value order n (length sl) (newValues f order n (length sl) there false stats true) (meant iids il k) m) (sym fo-long)
+      ∙ ap (λ (x : List Float). value order (length fo) (length sl) x (meant iids il k) m) (sym (values-are f file iids sids flag fo sl order val stats here-17 there-read))

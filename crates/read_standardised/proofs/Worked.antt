@@ -1,0 +1,50 @@
+-- The worked examples that document 01 marks P, by computation.
+use mathlib.Core.Path.{_≡_, refl, ap}
+use mathlib.Core.Bool.{true, false}
+use mathlib.Core.List.{List, []}
+use Prim.Native.Nat.{ℕ, _-_, _^_}
+use Rattle.genotype.specs.Answer.{refused, check, checkCount, checkEntry, isDone, ifDone}
+use Rattle.genotype.specs.Block.{blockWidth, checkSize, divAnswer}
+use Rattle.genotype.specs.Code.{codeAt, itemCode, packedByte, packed}
+use Rattle.genotype.specs.Entry.{isGood, means, meaning, firstBad}
+use Rattle.genotype.specs.Lists.{tabulate}
+use Rattle.genotype.specs.Matrix.{matrix}
+use Rattle.genotype.specs.Value.{Width, values, valueOf, sameInt, sameOrNan, codeOf}
+use Rattle.index.specs.Numbers.{numbersBelow, fromCount, sliceEnd, distances, backward, stepped, sliceList, indexList}
+use Rattle.index.specs.Checks.{checkEnd, checkSlice, checkIndex, listAnswer, listBuffer, indexAnswer, indexBuffer}
+use Rattle.bed_read.specs.File.{isMode1, items, blocks, acceptAnswer}
+use Rattle.bed_read.specs.Calls.{block, codeIn, callCode}
+use Rattle.bed_read.specs.Reading.{checkLists, readAnswer, readCode, codesRead, valuesRead, readBuffer}
+use Rattle.bed_read.proofs.FileLaws.{accepted}
+use Rattle.canonical.specs.Canonical.{fileOrder, canonicalFile, canonicalAnswer, canonicalBuffer}
+use Rattle.bed_write.specs.Writing.{joined, bedFile}
+use Rattle.bed_write.specs.Packing.{placeCode, orZero, packedCodes, orElse, firstOf, ifBad, firstBadAnimal, newBefore, encodeBuffer}
+use Rattle.read_standardised.specs.Demand.{IsAccepted}
+use Rattle.read_standardised.specs.SmallHerds.{F, lastByteF2, ten, counted, SmallHerds}
+
+last : (file : List ℕ) (outLength : ℕ) → IsAccepted file 5 (2 ^ 63 - 1) → canonicalAnswer file 5 (2 ^ 63 - 1) outLength ≡ refused 4 []
+unfolding canonicalAnswer checkSize check checkCount blockWidth isDone
+last file n acc = accepted file 5 (2 ^ 63 - 1) (ap isDone acc) .heard-later (refused 4 [])
+
+pub small-herds : SmallHerds
+unfolding canonicalBuffer canonicalAnswer canonicalFile bedFile joined readBuffer readAnswer ifDone isDone acceptAnswer isMode1 items blocks blockWidth checkLists firstBad isGood means
+    valuesRead codesRead matrix tabulate readCode callCode codeIn block itemCode codeAt valueOf values fileOrder
+    meaning divAnswer indexBuffer indexAnswer checkIndex checkSlice checkEnd checkCount check listAnswer listBuffer indexList sliceList stepped backward distances numbersBelow sliceEnd fromCount
+    encodeBuffer placeCode codeOf sameInt sameOrNan orZero packedCodes packed packedByte orElse firstOf ifBad firstBadAnimal newBefore
+small-herds = record {
+  read-F = λ w missing. refl;
+  read-F2 = λ w missing. refl;
+  mode-0-canonical = refl;
+  mode-0-passes = refl;
+  last-4 = last;
+  nothing-in-a-block = refl;
+  one-byte-more = refl;
+  minus-5 = refl;
+  plus-4 = refl;
+  minus-6 = refl;
+  plus-5 = refl;
+  eight-markers = refl;
+  seven-markers = refl;
+  slice-down = refl;
+  column-packed = refl;
+}

@@ -1,0 +1,81 @@
+-- The words of demand 3: a list that names each animal once, file order, and the two ways to go. Definitions only.
+use mathlib.Core.Path.{_≡_}
+use mathlib.Core.Bool.{Bool}
+use mathlib.Core.List.{List, [], _∷_}
+use mathlib.Core.Option.{none}
+use Prim.Native.Nat.{ℕ, _*_, _<_}
+use lib.IntN.{ℤ, pos}
+use lib.ListN.{length, getD}
+use lib.Ieee.{Float, nan, Format}
+use Rattle.genotype.specs.Answer.{Answer, done}
+use Rattle.genotype.specs.Entry.{means, firstBad}
+use Rattle.genotype.specs.Value.{float}
+use Rattle.bed_read.specs.File.{acceptAnswer}
+use Rattle.bed_read.specs.Calls.{callCode}
+use Rattle.bed_read.specs.Reading.{readAnswer, readBuffer}
+use Rattle.statistics.specs.Statistics.{statsPerMarker}
+use Rattle.standardise.specs.Standardised.{standardiseAnswer, laterStats, laterValues}
+use Rattle.read_standardised.specs.Joined.{joinedAnswer, joinedStats, joinedValues}
+
+-- "A file is accepted for two counts if the reading's checks without 15, 5 and 6 find nothing."
+abbrev pub IsAccepted : List ℕ → ℕ → ℕ → Type 0
+IsAccepted file iids sids = acceptAnswer file iids sids ≡ done []
+
+-- "two files' calls agree if these codes are equal", of every animal and marker below the counts
+abbrev pub CallsAgree : List ℕ → List ℕ → ℕ → ℕ → Type 0
+CallsAgree file other iids sids = (a m : ℕ) → a < iids → m < sids → callCode file iids sids a m ≡ callCode other iids sids a m
+
+-- "A list is good if no entry is bad."
+abbrev pub GoodList : ℕ → List ℤ → Type 0
+GoodList count list = firstBad count list ≡ none
+
+-- the number that the entry at place k means
+unfoldable pub meant : ℕ → List ℤ → ℕ → ℕ
+meant count list k = means count (getD list k (pos 0))
+
+-- a number "is meant by exactly one entry": the entry at `place`, and at no other place
+pub record MeantOnce (count : ℕ) (list : List ℤ) (a : ℕ) : Type 0 where
+  pub place : ℕ
+  pub in-list : place < length list
+  pub means-it : meant count list place ≡ a
+  pub no-other : (k : ℕ) → k < length list → meant count list k ≡ a → k ≡ place
+
+-- "A good list names each animal once if every number from 0 to the animal count − 1 is meant by exactly one entry"
+pub record NamesEachOnce (count : ℕ) (list : List ℤ) : Type 0 where
+  pub good-list : GoodList count list
+  pub meant-once : (a : ℕ) → a < count → MeantOnce count list a
+
+-- "They start from lent buffers .. of the lengths that 15 and 17 want": 15 wants "the product of the two list lengths", 17 "2 times the
+-- matrix's markers"
+pub record RightLengths (iidList sidList : List ℤ) (val stats : List Float) : Type 0 where
+  pub for-15 : length iidList * length sidList ≡ length val
+  pub for-17 : statsPerMarker * length sidList ≡ length stats
+
+-- "Each side either reads and then standardises .. or makes the joined call"; "outside the joined call, the same two choices"
+pub data Way : Type 0 where
+  inTurn : (useStats apply : Bool) → Way
+  joinedCall : Way
+
+-- a side
+module _ (f : Format) (file : List ℕ) (iids sids : ℕ) (flag : Bool) (iidList sidList : List ℤ) (order : Bool) (val stats : List Float) where
+  -- the values as the reading left them
+  unfoldable pub asRead : List Float
+  asRead = readBuffer float file iids sids flag iidList sidList nan order val
+
+  -- "standardises the values as the reading left them, in the order they were read in and with the lengths of the animal and marker lists
+  -- as its two counts": the answers of its calls
+  unfoldable pub answersOf : Way → List Answer
+  answersOf (inTurn useStats apply) =
+      readAnswer file iids sids iidList sidList (length val)
+      ∷ standardiseAnswer f order (length iidList) (length sidList) asRead useStats stats ∷ []
+  answersOf joinedCall = joinedAnswer f file iids sids flag iidList sidList order val stats ∷ []
+
+  -- "Afterwards": the value buffer
+  unfoldable pub valuesOf : Way → List Float
+  valuesOf (inTurn useStats apply) = laterValues f order (length iidList) (length sidList) asRead useStats stats apply
+  valuesOf joinedCall = joinedValues f file iids sids flag iidList sidList order val stats
+
+  -- and the statistics buffer
+  unfoldable pub statsOf : Way → List Float
+  statsOf (inTurn useStats apply) = laterStats f order (length iidList) (length sidList) asRead useStats stats
+  statsOf joinedCall = joinedStats f file iids sids flag iidList sidList order val stats

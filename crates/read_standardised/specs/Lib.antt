@@ -1,0 +1,5 @@
+-- The joined call, and the words of demand 3.
+pub mod Says
+pub mod Joined
+pub mod Demand
+pub mod SmallHerds

@@ -1,0 +1,20 @@
+-- What the joined call's answer enum says: document 01's number and the values for each of its cases.
+use mathlib.Core.List.{[], _∷_}
+use lib.IntN.{pos}
+use Rattle.genotype.specs.Answer.{Answer, done, refused}
+use Rattle.read_standardised.specs.declared.JoinedAnswer.{JoinedAnswer}
+use Rattle.read_standardised.specs.declared.JoinedAnswer.the-variants as answers
+
+unfoldable pub joinedSays : JoinedAnswer → Answer
+joinedSays answers.Done = done []
+joinedSays answers.CountTooLarge = refused 18 []
+joinedSays answers.IndexMismatch = refused 15 []
+joinedSays answers.StatsMismatch = refused 17 []
+joinedSays answers.ReadError = refused 1 []
+joinedSays answers.IllFormed = refused 2 []
+joinedSays answers.BadMode = refused 3 []
+joinedSays answers.IndexesTooBigForFiles = refused 4 []
+joinedSays (answers.IidIndexTooBig e) = refused 5 (e ∷ [])
+joinedSays (answers.SidIndexTooBig e) = refused 6 (e ∷ [])
+joinedSays (answers.NoIndividuals m) = refused 13 (pos m ∷ [])
+joinedSays (answers.IllegalSnpMean m) = refused 14 (pos m ∷ [])
