@@ -1,3 +1,4 @@
+pub mod ChooseLaws
 pub mod FirstLaws
 pub mod ByteLaws
 pub mod GroupLaws

@@ -13,8 +13,6 @@ ghost use Rattle.bed_write.specs.Inner.{orFour, byteIndex, CodesOfBytes,
 pub mod encode;
 pub mod write;
 
-use genotype::values::ValueCode;
-
 // "Pads are zero".
 const PAD: u8 = 0;
 
@@ -69,13 +67,25 @@ fn code_i8(value: i8, table: &[u8; 256]) -> u8
     table[at]
 }
 
+// One of two numbers by a test, without a branch.
+fn choose(test: bool, yes: u8, no: u8) -> u8
+    requires { ⌜ (yes < 5) × (no < 5) ⌝ }
+    ensures { λ r. ⌜ (r ≡ cond test yes no) × (r < 5) ⌝ }
+{
+    let k = test as u8;
+    k * yes + (1 - k) * no
+}
+
+// Only a NaN is not equal to itself.
 fn code_f64(value: f64, is_a1_counted: bool, missing: f64) -> u8
     ensures { λ r. ⌜ r ≡ orFour (codeOf float «is_a1_counted» missing value) ⌝ }
 {
-    match genotype::values::value_code_f64(value, is_a1_counted, missing) {
-        ValueCode::Code(code) => code,
-        ValueCode::BadValue => 4,
-    }
+    let nan = choose(missing == missing, 4, 1);
+    let number = choose(value == value, 4, nan);
+    let absent = choose(value == missing, 1, number);
+    let two = choose(value == 2.0, code_of_two(is_a1_counted), absent);
+    let one = choose(value == 1.0, 2, two);
+    choose(value == 0.0, code_of_zero(is_a1_counted), one)
 }
 
 // The code of place k of the group of values that stand `stride` apart from `start` on, of which `left` are there.

@@ -1,4 +1,4 @@
--- The words of demand 3: a list that names each animal once, file order, and the two ways to go. Definitions only.
+-- The words of demand 3: accepted files, lists that name each animal once, and the two ways to go. Definitions only.
 use mathlib.Core.Path.{_≡_}
 use mathlib.Core.Bool.{Bool}
 use mathlib.Core.List.{List, [], _∷_}

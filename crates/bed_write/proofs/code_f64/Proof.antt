@@ -1,26 +1,50 @@
--- `code_f64` is the code that `value_code_f64` finds, or 4.
-use mathlib.Core.Path.{sym, ap, _∙_}
-use Rattle.genotype.specs.Says.{codeSays}
-use Rattle.bed_write.proofs.FirstLaws.{code-found, code-lacking}
+-- `code_f64`: the choices in order are the code.
+use native.Mathlib.Omega.{arith}
+use lib.Ieee.{ofBits}
+use Rattle.genotype.specs.Value.{float}
+use Rattle.bed_write.proofs.ChooseLaws.{small-code, code-chosen}
 use borrow.Author.Needs.{needs}
 use Rattle.bed_write.proofs.code_f64.Statement.{statement}
 use Rattle.bed_write.proofs.code_f64.Tie as tie
 
-value-code-f64-requires : tie.Need-value-code-f64-requires
-value-code-f64-requires c κs = search needs
+choose-requires : tie.Need-choose-requires
+choose-requires c κs = search needs
 
-enum-known-code : tie.Need-enum-known-code
-enum-known-code c = search needs
+choose-requires-2 : tie.Need-choose-requires-2
+choose-requires-2 c κs = search needs
 
-enum-told : tie.Need-enum-told
-enum-told c = search needs
+choose-requires-3 : tie.Need-choose-requires-3
+choose-requires-3 c κs = search needs
+
+code-of-two-requires : tie.Need-code-of-two-requires
+code-of-two-requires c κs = search needs
+
+choose-requires-4 : tie.Need-choose-requires-4
+choose-requires-4 c κs = (small-code (c .before .before .before .before .args .is-a1-counted) 0 3 _ (omega arith) (omega arith) (c .code-of-two .ensures), c .before .choose3 .ensures .1)
+
+choose-requires-5 : tie.Need-choose-requires-5
+choose-requires-5 c κs = search needs
+
+code-of-zero-requires : tie.Need-code-of-zero-requires
+code-of-zero-requires c κs = search needs
+
+choose-requires-6 : tie.Need-choose-requires-6
+choose-requires-6 c κs = (small-code (c .before .before .before .before .before .before .before .args .is-a1-counted) 3 0 _ (omega arith) (omega arith) (c .code-of-zero .ensures), c .before .choose5 .ensures .1)
 
 returns : tie.Need-returns
-returns c = code-found _ _ (sym (ap codeSays (c .before .code .given .1)) ∙ c .before .before .before .value-code-f64 .ensures)
-
-returns-2 : tie.Need-returns-2
-returns-2 c = code-lacking _ (sym (ap codeSays (c .enum-told .given .1)) ∙ c .before .before .value-code-f64 .ensures)
+unfolding ofBits
+returns c = code-chosen float (c .before .before .before .before .before .before .before .before .args .is-a1-counted) (c .before .before .before .before .before .before .before .before .args .missing) (c .before .before .before .before .before .before .before .before .args .value) _ _ _ _ _ _ _ (c .before .code-of-zero .ensures) (c .before .before .before .before .code-of-two .ensures) (c .before .before .before .before .before .before .before .choose .ensures .0) (c .before .before .before .before .before .before .choose2 .ensures .0) (c .before .before .before .before .before .choose3 .ensures .0) _ (c .before .before .before .choose4 .ensures .0) (c .before .before .choose5 .ensures .0) (c .choose6 .ensures .0)
 
 pub code-f64-spec : {M : Type 1} → statement M
 code-f64-spec =
-    tie.close (tie.spec value-code-f64-requires enum-known-code enum-told returns returns-2)
+    tie.close
+    (tie.spec
+    choose-requires
+    choose-requires-2
+    choose-requires-3
+    code-of-two-requires
+    choose-requires-4
+    choose-requires-5
+    code-of-zero-requires
+    choose-requires-6
+    returns)
