@@ -1,12 +1,11 @@
 -- Laws of a choice without a branch.
-use mathlib.Core.Path.{_≡_, refl, sym, ap, _∙_}
+use mathlib.Core.Path.{_≡_, refl, ap, _∙_}
 use mathlib.Core.Bool.{Bool, true, false, not, _&&_, _||_, cond}
-use mathlib.Core.Option.{Option, some, none}
+use mathlib.Core.Option.{some, none}
 use Prim.Native.Nat.{ℕ, _+_, _-_, _*_, _<_, _≤_}
 use native.Mathlib.Omega.{arith}
 use mir.Val.{boolByte}
-use lib.Ieee.{Float, eq}
-use Rattle.genotype.specs.Value.{Width, float, codeOf, sameOrNan}
+use Rattle.genotype.specs.Value.{Width, codeOf, sameOrNan}
 use Rattle.bed_write.specs.Inner.{orFour}
 
 pub test-byte : (t : Bool) → boolByte t ≤ 1

@@ -1,24 +1,22 @@
 -- Laws of `encode1`: bytes are written from the front, one a turn.
 use mathlib.Core.Path.{_≡_, refl, sym, ap, subst, _∙_}
-use mathlib.Core.Bool.{Bool, true, false, cond}
 use mathlib.Core.List.{List, [], _∷_, _++_, append-nil, append-assoc}
 use mathlib.Core.Option.{Option, some, none}
-use Prim.Native.Nat.{ℕ, zero, suc, _+_, _-_, _*_, _/_, _<_, _≤_}
+use Prim.Native.Nat.{ℕ, suc, _+_, _-_, _*_, _/_, _<_, _≤_}
 use native.Mathlib.Numerals.{add-one}
 use native.Mathlib.Omega.{arith}
 use borrow.Author.Tests.{eq-eqb, ne-eqb}
-use lib.Dec.{eqb}
 use lib.IntN.{pos}
-use lib.ListN.{length, getD, take, drop, set, length-set, length-take, length-drop, length-append, drop-of-length-le}
-use lib.Seq.{take-suc, drop-cons, set-at, length-take-le, append-snoc, take-all}
-use Rattle.genotype.specs.Answer.{Answer, done, refused, check}
+use lib.ListN.{length, getD, take, drop, set, length-take, length-drop, length-append, drop-of-length-le}
+use lib.Seq.{take-suc, drop-cons, set-at, length-take-le, take-all}
+use Rattle.genotype.specs.Answer.{done, refused}
 use Rattle.genotype.specs.Block.{blockWidth}
 use Rattle.genotype.specs.Code.{packedByte, packed}
 use Rattle.genotype.specs.Lists.{tabulate}
 use Rattle.genotype.proofs.CodeLaws.{packed-length, width-room}
 use Rattle.genotype.proofs.Tests.{by-lt}
 use Rattle.genotype.proofs.Tabulate.{length-tabulate, getD-tabulate}
-use Rattle.bed_write.specs.Packing.{orZero, packedCodes, firstOf, ifBad, firstBadAnimal, checkAnimal, encodeAnswer, newBefore, encodeBuffer}
+use Rattle.bed_write.specs.Packing.{orZero, packedCodes, ifBad, firstBadAnimal, encodeAnswer, newBefore, encodeBuffer}
 use Rattle.bed_write.specs.Inner.{orFour, inGroup, Four, FirstOfFour}
 use Rattle.bed_write.proofs.FirstLaws.{first-none, first-some, bad-none, bad-some, Coded}
 use Rattle.bed_write.proofs.GroupLaws.{group-byte, all-four, good-before, bad-here}

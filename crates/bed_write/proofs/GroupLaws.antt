@@ -1,21 +1,19 @@
 -- Laws of a group of four codes that share a byte.
-use mathlib.Core.Path.{_≡_, refl, sym, ap, subst, _∙_}
-use mathlib.Core.Bool.{Bool, true, false, cond}
+use mathlib.Core.Path.{_≡_, sym, ap, subst, _∙_}
 use mathlib.Core.List.{List, [], _∷_}
-use mathlib.Core.Option.{Option, some, none}
+use mathlib.Core.Option.{Option}
 use Prim.Native.Nat.{ℕ, zero, suc, _+_, _-_, _*_, _<_, _≤_}
 use native.Mathlib.Nat.{add-zero}
 use native.Mathlib.Omega.{arith}
 use borrow.Author.Tests.{lt-ltb, le-ltb}
-use lib.Dec.{ltb}
-use lib.ListN.{length, getD, List·getD-eq-default}
+use lib.ListN.{getD, List·getD-eq-default}
 use Rattle.genotype.specs.Code.{packedByte}
 use Rattle.genotype.specs.Lists.{tabulate}
 use Rattle.genotype.proofs.Tests.{by-lt}
 use Rattle.genotype.proofs.Tabulate.{length-tabulate, getD-tabulate}
 use Rattle.bed_write.specs.Packing.{orZero}
 use Rattle.bed_write.specs.Inner.{orFour, inGroup, Four, FirstOfFour}
-use Rattle.bed_write.proofs.FirstLaws.{zero-four, Coded}
+use Rattle.bed_write.proofs.FirstLaws.{zero-four}
 
 -- ---- the first of four that is bad
 module _ (c0 c1 c2 c3 : ℕ) where

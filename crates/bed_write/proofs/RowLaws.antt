@@ -1,6 +1,6 @@
 -- Writing a file byte by byte, in any order of its blocks: each byte that was written is the file's.
-use mathlib.Core.Path.{_≡_, refl, sym, ap, subst, _∙_}
-use mathlib.Core.List.{List, [], _∷_}
+use mathlib.Core.Path.{_≡_, sym, ap, subst, _∙_}
+use mathlib.Core.List.{List}
 use Prim.Native.Nat.{ℕ, zero, suc, _+_, _-_, _*_, _/_, _%_, _<_, _≤_}
 use lib.Arith.{digits-lt}
 use native.Mathlib.Nat.{mul-comm, zero-mul, le-refl, div-add-mod', mod-lt, div-lt-iff-lt-mul}

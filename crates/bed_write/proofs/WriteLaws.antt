@@ -3,24 +3,23 @@ use mathlib.Core.Path.{_≡_, refl, sym, ap, subst, _∙_}
 use mathlib.Core.Bool.{Bool, true, false, cond}
 use mathlib.Core.List.{List, [], _∷_}
 use mathlib.Core.Option.{Option, some, none}
-use Prim.Native.Nat.{ℕ, zero, suc, _+_, _-_, _*_, _^_, _<_, _≤_}
+use Prim.Native.Nat.{ℕ, _+_, _-_, _*_, _^_, _<_, _≤_}
 use native.Mathlib.Nat.{mul-comm, le-refl}
 use native.Mathlib.Omega.{arith}
-use borrow.Author.Count.{below-more}
 use borrow.Author.Tests.{eqb-true, leb-true, eq-eqb, ne-eqb, lt-ltb, le-ltb}
 use lib.Arith.{digits-lt}
-use lib.Dec.{eqb, leb, ltb}
+use lib.Dec.{eqb, leb}
 use lib.IntN.{ℤ, pos}
 use lib.Ieee.{Float}
 use lib.ListN.{length, getD}
 use lib.Signed.{mag}
 use Rattle.genotype.specs.Value.{Width, i8, float}
-use Rattle.genotype.specs.Answer.{Answer, done, refused, check, checkCount, countLimit, isDone, ifDone}
+use Rattle.genotype.specs.Answer.{Answer, done, refused, check, checkCount, countLimit, isDone}
 use Rattle.genotype.specs.Block.{blockWidth, fileLength, checkSize, divAnswer}
 use Rattle.genotype.specs.Code.{packedByte}
 use Rattle.genotype.specs.Lists.{tabulate}
 use Rattle.genotype.specs.Matrix.{matrixPlace}
-use Rattle.genotype.proofs.AnswerLaws.{Stage, lets, refuses, check-stage, count-stage, then-stage, heard, stays, check-passes, check-refuses, check-done, count-done, new-if-done, old-if-not, before-later}
+use Rattle.genotype.proofs.AnswerLaws.{Stage, lets, refuses, check-stage, count-stage, then-stage, heard, stays, check-passes, check-refuses, check-done, count-done, new-if-done, old-if-not}
 use Rattle.genotype.proofs.MatrixLaws.{place-below}
 use Rattle.genotype.proofs.Tests.{by-lt}
 use Rattle.genotype.proofs.Widths.{Sized, width-given}

@@ -1,15 +1,15 @@
 -- Laws of reading back what was written, and of reading everything.
 use mathlib.Core.Path.{_≡_, refl, sym, ap, subst, _∙_}
-use mathlib.Core.Bool.{Bool, true, false, _&&_, cond}
-use mathlib.Core.List.{List, [], _∷_, map}
-use mathlib.Core.Option.{Option, some, none}
-use Prim.Native.Nat.{ℕ, zero, suc, _+_, _-_, _*_, _/_, _%_, _^_, _<_, _≤_}
+use mathlib.Core.Bool.{Bool, true, false}
+use mathlib.Core.List.{List, [], map}
+use mathlib.Core.Option.{none}
+use Prim.Native.Nat.{ℕ, _-_, _*_, _/_, _%_, _^_, _<_, _≤_}
 use native.Mathlib.Omega.{arith}
 use borrow.Author.Tests.{eq-eqb, le-leb, lt-ltb}
 use lib.Dec.{eqb, leb}
-use lib.IntN.{ℤ, pos}
+use lib.IntN.{pos}
 use lib.ListN.{length, getD, length-map, List·getD-map, List·getD-eq-default}
-use Rattle.genotype.specs.Answer.{Answer, done, check, checkCount, countLimit, isDone}
+use Rattle.genotype.specs.Answer.{done, countLimit, isDone}
 use Rattle.genotype.specs.Block.{blockWidth, fileLength, checkSize}
 use Rattle.genotype.specs.Code.{codeAt, itemCode, packedByte, packed}
 use Rattle.genotype.specs.Entry.{firstBad, isGood, means}
@@ -22,12 +22,12 @@ use Rattle.genotype.proofs.MatrixLaws.{length-matrix, getD-matrix, place-below}
 use Rattle.genotype.proofs.SpanLaws.{none-bad}
 use Rattle.genotype.proofs.Tabulate.{length-tabulate, getD-tabulate}
 use Rattle.genotype.proofs.Tests.{by-lt}
-use Rattle.bed_read.specs.File.{isMode1, items, blocks, checkOpen, checkMode, checkLength, checkFile, acceptAnswer}
-use Rattle.bed_read.specs.Calls.{block, codeIn, callCode}
+use Rattle.bed_read.specs.File.{isMode1, items, blocks, checkMode, checkLength, checkFile, acceptAnswer}
+use Rattle.bed_read.specs.Calls.{codeIn, callCode}
 use Rattle.bed_read.specs.Reading.{checkLists, readAnswer, readCode, codesRead, valuesRead, readBuffer}
 use Rattle.bed_read.proofs.FileLaws.{Accepted, accepted, open-good}
 use Rattle.bed_read.proofs.CallLaws.{code-in-byte}
-use Rattle.bed_write.specs.Writing.{joined, bedFile}
+use Rattle.bed_write.specs.Writing.{bedFile}
 use Rattle.canonical.specs.Canonical.{fileOrder}
 use Rattle.bed_write.proofs.FirstLaws.{getD-inside}
 use Rattle.bed_write.proofs.BedLaws.{bed-length, bed-byte}

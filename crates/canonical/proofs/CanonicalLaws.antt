@@ -1,15 +1,15 @@
 -- Laws of the canonical call's checks and of its bytes.
 use mathlib.Core.Path.{_≡_, refl, sym, ap, subst, _∙_}
-use mathlib.Core.Bool.{Bool, true, false, cond}
+use mathlib.Core.Bool.{Bool, true, false}
 use mathlib.Core.List.{List, [], _∷_}
-use mathlib.Core.Option.{Option, some, none}
+use mathlib.Core.Option.{Option, some}
 use Prim.Native.Nat.{ℕ, _+_, _-_, _*_, _^_, _<_, _≤_}
 use native.Mathlib.Omega.{arith}
 use borrow.Author.Tests.{eqb-true, eq-eqb, ne-eqb, leb-true}
 use lib.Dec.{eqb, leb}
 use lib.IntN.{pos}
 use lib.ListN.{length, getD}
-use Rattle.genotype.specs.Answer.{Answer, done, refused, check, checkCount, countLimit, isDone}
+use Rattle.genotype.specs.Answer.{Answer, done, refused, check, checkCount, isDone}
 use Rattle.genotype.specs.Block.{blockWidth, fileLength, checkSize, divAnswer}
 use Rattle.genotype.specs.Code.{packedByte}
 use Rattle.genotype.specs.Lists.{tabulate}
@@ -21,7 +21,6 @@ use Rattle.bed_read.specs.Inner.{Shaped}
 use Rattle.bed_read.proofs.FileLaws.{Accepted, accepted, file-stage}
 use Rattle.bed_read.proofs.CallLaws.{call-below}
 use Rattle.bed_write.specs.Packing.{orZero}
-use Rattle.bed_write.specs.Writing.{bedFile}
 use Rattle.canonical.specs.Canonical.{canonicalAnswer, canonicalFile, canonicalBuffer}
 use Rattle.bed_write.specs.Inner.{orFour, inGroup, Four}
 use Rattle.canonical.specs.Inner.{writtenAnswer}

@@ -1,26 +1,29 @@
 -- Computed examples of document 01.
-use mathlib.Core.Path.{_≡_, refl, _∙_, ap, sym}
+use mathlib.Core.Path.{_≡_, refl, _∙_, ap}
 use mathlib.Core.Bool.{Bool, true, false}
 use mathlib.Core.List.{List, [], _∷_}
-use mathlib.Core.Option.{Option, some, none}
-use Prim.Native.Nat.{ℕ, _-_, _*_, _^_, _≤_}
+use Prim.Native.Nat.{ℕ, _-_, _^_, _≤_}
 use native.Mathlib.Omega.{arith}
 use borrow.Author.Tests.{eq-eqb, le-leb}
-use lib.Dec.{leb, eqb}
+use lib.Dec.{leb, eqb, lit≤}
 use lib.IntN.{ℤ, pos, negsuc}
 use lib.ListN.{length, getD}
-use Rattle.genotype.specs.Answer.{Answer, done, refused, checkCount, check}
+use Rattle.genotype.specs.Answer.{Answer, done, refused, check, isDone}
 use Rattle.genotype.specs.Block.{blockWidth, fileLength, checkSize}
 use Rattle.genotype.specs.Code.{codeAt, itemCode, packedByte, packed}
 use Rattle.genotype.specs.Lists.{tabulate}
+use Rattle.genotype.specs.Matrix.{matrixPlace}
 use Rattle.genotype.specs.Value.{i8, codeOf, sameInt, sameOrNan}
 use Rattle.genotype.proofs.AnswerLaws.{count-passes, check-passes, check-refuses}
-use Rattle.bed_read.specs.File.{isMode1, items, blocks, checkFile, checkMode, checkLength}
+use Rattle.genotype.proofs.ValueLaws.{i8-numbers, NoNumber}
+use Rattle.bed_read.specs.File.{isMode1, items, blocks, checkFile, checkMode, checkLength, acceptAnswer}
 use Rattle.bed_read.specs.Calls.{block, codeIn, callCode}
+use Rattle.bed_read.specs.Reading.{readBuffer}
 use Rattle.bed_read.proofs.FileLaws.{open-good}
-use Rattle.bed_write.specs.Packing.{placeCode, orZero, packedCodes}
-use Rattle.bed_write.specs.Writing.{joined, bedFile}
-use Rattle.canonical.specs.Canonical.{canonicalAnswer, canonicalFile}
+use Rattle.bed_write.specs.Packing.{placeCode, orZero, packedCodes, firstOf, ifBad}
+use Rattle.bed_write.specs.Writing.{joined, bedFile, valueCode, firstBadCall, checkCall, checkBuffers, writeAnswer, writeBuffer}
+use Rattle.canonical.specs.Canonical.{canonicalAnswer, canonicalFile, fileOrder}
+use Rattle.canonical.proofs.Theorems.{written-read-back, read-written}
 
 -- "6C 1B 00 0C 0D 0A 03 08 has canonical file F"
 pub canonical-of-mode-0 :
@@ -71,3 +74,58 @@ last-4 file outLength e0 e1 e2 l =
   where
     written : Answer
     written = checkSize 5 (2 ^ 63 - 1) (check (eqb outLength (fileLength 5 (2 ^ 63 - 1))) 16 (done []))
+
+-- ---- the theorems of writing and reading back at small files, their hypotheses closed by computation
+abbrev five : List ℕ
+five = 9 ∷ 9 ∷ 9 ∷ 9 ∷ 9 ∷ []
+
+column-writable : isDone (writeAnswer 5 1 (valueCode i8 true (negsuc 126) true 5 1 column) (length column) (length five)) ≡ true
+unfolding writeAnswer checkBuffers checkSize checkCall firstBadCall firstOf ifBad valueCode placeCode matrixPlace codeOf sameInt sameOrNan blockWidth isDone
+column-writable = refl
+
+-- the column 0, −127, 1, 2, 2 written and read back: the animal 1 is missing
+pub column-read-back :
+    (later : Bool)
+    → sameOrNan i8 (negsuc 126)
+    (getD
+    (readBuffer i8 (writeBuffer 5 1 (valueCode i8 true (negsuc 126) true 5 1 column) 5 five) 5 1 true (fileOrder 5) (fileOrder 1) (negsuc 126) later column)
+    (matrixPlace later 5 1 1 0) (negsuc 126))
+    ≡ true
+unfolding matrixPlace
+column-read-back later = written-read-back i8 true (negsuc 126) 5 1 true column five column-writable later column refl .1 1 0 (lit≤ tt) (lit≤ tt)
+
+abbrev inMode0 : List ℕ
+inMode0 = 0x6C ∷ 0x1B ∷ 0 ∷ 0x0C ∷ 0x0D ∷ 0x0A ∷ 0x03 ∷ 0x08 ∷ []
+
+mode-0-accepted : isDone (acceptAnswer inMode0 5 2) ≡ true
+unfolding acceptAnswer isMode1 items blocks blockWidth isDone
+mode-0-accepted = refl
+
+short : fileLength 5 2 ≤ 2 ^ 64 - 1
+unfolding blockWidth
+short = lit≤ tt
+
+-- −127 is none of 0, 1, 2
+no-number : NoNumber i8 (negsuc 126)
+unfolding sameInt
+no-number = record { not-zero = refl; not-one = refl; not-two = refl }
+
+abbrev ten : List ℤ
+ten = pos 9 ∷ pos 9 ∷ pos 9 ∷ pos 9 ∷ pos 9 ∷ pos 9 ∷ pos 9 ∷ pos 9 ∷ pos 9 ∷ pos 9 ∷ []
+
+abbrev seven : List ℕ
+seven = 9 ∷ 9 ∷ five
+
+seven-long : length seven ≡ fileLength 5 2
+unfolding blockWidth
+seven-long = refl
+
+-- the mode 0 file read as i8 and written is F, under either flag and by either matrix order
+pub mode-0-read-written :
+    (flag order : Bool)
+    → writeBuffer 5 2
+    (valueCode i8 flag (negsuc 126) order 5 2 (readBuffer i8 inMode0 5 2 flag (fileOrder 5) (fileOrder 2) (negsuc 126) order ten))
+    (length (readBuffer i8 inMode0 5 2 flag (fileOrder 5) (fileOrder 2) (negsuc 126) order ten)) seven
+    ≡ 0x6C ∷ 0x1B ∷ 1 ∷ 0xE4 ∷ 0x00 ∷ 0x2F ∷ 0x02 ∷ []
+mode-0-read-written flag order =
+    read-written i8 i8-numbers flag (negsuc 126) no-number inMode0 5 2 mode-0-accepted short order ten refl seven seven-long .2 ∙ canonical-of-mode-0

@@ -1,15 +1,13 @@
 -- Laws of a byte of a file of mode 1: with its pads cleared it is the packed byte of its calls.
 use mathlib.Core.Path.{_≡_, refl, sym, ap, subst, _∙_}
-use mathlib.Core.Bool.{Bool, true, false}
+use mathlib.Core.Bool.{Bool, true}
 use mathlib.Core.List.{List}
 use Prim.Native.Nat.{ℕ, zero, suc, _+_, _-_, _*_, _/_, _%_, _<_, _≤_}
 use native.Mathlib.Nat.{add-zero}
 use native.Mathlib.Omega.{arith}
 use lib.ListN.{length, getD, List·getD-eq-default}
-use Rattle.genotype.specs.Block.{blockWidth}
 use Rattle.genotype.specs.Code.{codeAt, packedByte}
 use Rattle.genotype.specs.Lists.{tabulate}
-use Rattle.genotype.proofs.CodeLaws.{width-room}
 use Rattle.genotype.proofs.Tabulate.{length-tabulate, getD-tabulate}
 use Rattle.bed_read.specs.File.{items, blocks}
 use Rattle.bed_read.specs.Calls.{codeIn, callCode}

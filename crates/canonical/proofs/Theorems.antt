@@ -1,6 +1,6 @@
 -- What document 01 promises of writing, reading back and the canonical file, over the definitions that the contracts cite.
 use mathlib.Core.Path.{_≡_, refl, sym, ap, subst, _∙_}
-use mathlib.Core.Bool.{Bool, true, false}
+use mathlib.Core.Bool.{Bool, true}
 use mathlib.Core.List.{List, []}
 use mathlib.Core.Option.{Option, some, none}
 use Prim.Native.Nat.{ℕ, _-_, _*_, _^_, _<_, _≤_}
@@ -9,17 +9,17 @@ use borrow.Author.Tests.{eq-eqb, le-leb}
 use lib.Dec.{eqb, leb}
 use lib.Ieee.{Float, nan, eq}
 use lib.ListN.{length, getD}
-use Rattle.genotype.specs.Answer.{Answer, done, check, checkCount, countLimit, isDone}
+use Rattle.genotype.specs.Answer.{Answer, done, isDone}
 use Rattle.genotype.specs.Block.{fileLength, checkSize}
 use Rattle.genotype.specs.Matrix.{matrixPlace}
 use Rattle.genotype.specs.Value.{Width, float, valueOf, codeOf, sameOrNan}
-use Rattle.genotype.proofs.AnswerLaws.{check-passes, count-passes, count-done, check-done, new-if-done, heard, before-later}
+use Rattle.genotype.proofs.AnswerLaws.{check-passes, count-passes, new-if-done, heard, before-later}
 use Rattle.genotype.proofs.ValueLaws.{decode-encode, encode-decode, Numbers, float-numbers, NoNumber}
-use Rattle.bed_read.specs.File.{acceptAnswer, checkFile}
+use Rattle.bed_read.specs.File.{acceptAnswer}
 use Rattle.bed_read.specs.Calls.{callCode}
 use Rattle.bed_read.specs.Reading.{readAnswer, readBuffer}
 use Rattle.bed_read.proofs.CallLaws.{call-below}
-use Rattle.bed_read.proofs.FileLaws.{Accepted, accepted}
+use Rattle.bed_read.proofs.FileLaws.{accepted}
 use Rattle.bed_write.specs.Packing.{placeCode, orZero, firstOf, ifBad}
 use Rattle.bed_write.specs.Writing.{valueCode, firstBadCall, checkCall, checkBuffers, writeAnswer, bedFile, writeBuffer}
 use Rattle.canonical.specs.Canonical.{canonicalAnswer, canonicalFile, canonicalBuffer, fileOrder}

@@ -1,13 +1,13 @@
 // The canonical file.
 ghost use mathlib.Core.Path.{_≡_};
 ghost use mathlib.Core.Bool.{true, cond};
-ghost use Prim.Native.Nat.{ℕ, _+_, _-_, _*_, _<_, _≤_};
+ghost use Prim.Native.Nat.{_+_, _-_, _*_, _<_, _≤_};
 ghost use lib.ListN.{length};
 ghost use Rattle.genotype.specs.Answer.{isDone};
 ghost use Rattle.genotype.specs.Block.{blockWidth};
 ghost use Rattle.genotype.specs.Code.{codeTable, packedByte};
 ghost use Rattle.genotype.specs.Lists.{tabulate};
-ghost use Rattle.bed_read.specs.File.{isMode1, items};
+ghost use Rattle.bed_read.specs.File.{items};
 ghost use Rattle.bed_read.specs.Calls.{callCode};
 ghost use Rattle.bed_read.specs.Inner.{Shaped};
 ghost use Rattle.canonical.specs.Canonical.{canonicalAnswer, canonicalFile, canonicalBuffer};

@@ -5,7 +5,6 @@ use lib.IntN.{pos}
 use lib.ListN.{getD}
 use lib.Signed.{mag}
 use Rattle.bed_write.proofs.GroupLaws.{each-four}
-use borrow.Author.Needs.{needs}
 use Rattle.bed_write.proofs.group_i8.Statement.{statement}
 use Rattle.bed_write.proofs.group_i8.Tie as tie
 

@@ -1,5 +1,4 @@
 -- `first_bad_f64`: no marker before is bad, and no animal before at this marker.
-use mathlib.Core.Path.{_≡_, sym}
 use Prim.Native.Nat.{ℕ, _-_, _<_}
 use native.Mathlib.Omega.{arith}
 use borrow.Author.Count.{below-more}

@@ -1,7 +1,7 @@
 -- `worst_f64`: no value so far is worse.
 use Prim.Native.Nat.{ℕ, _-_, _<_, _≤_}
 use native.Mathlib.Omega.{arith}
-use lib.ListN.{length, getD}
+use lib.ListN.{length}
 use Rattle.bed_write.specs.Inner.{byTests}
 use Rattle.bed_write.proofs.WriteLaws.{grow}
 use Rattle.genotype.specs.Value.{float}

@@ -1,5 +1,5 @@
 -- `write_file_f64`: tile by tile, every byte is the file's.
-use mathlib.Core.Path.{_≡_, sym, _∙_}
+use mathlib.Core.Path.{sym, _∙_}
 use Prim.Native.Nat.{_-_}
 use native.Mathlib.Omega.{arith}
 use Rattle.bed_write.specs.Writing.{bedFile}
