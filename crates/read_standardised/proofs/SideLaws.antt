@@ -19,8 +19,7 @@ use Rattle.bed_read.specs.Reading.{readAnswer, readCode, valuesRead, readBuffer
 use Rattle.bed_read.specs.Calls.{callCode}
 use Rattle.statistics.specs.declared.MarkerStats.{MarkerStats}
 use Rattle.statistics.specs.Statistics.{statsPerMarker, statsAt, foundFor}
-use Rattle.statistics.specs.Calls.{IsCall, total, FewEnough}
-use Rattle.statistics.specs.Calls.{NamesEachOnce as SumsAgree}
+use Rattle.statistics.specs.Calls.{IsCall, FewEnough}
 use Rattle.statistics.proofs.CountLaws.{foundFor-ext}
 use Rattle.statistics.proofs.Exact.{reordered-stats, names-same}
 use Rattle.standardise.specs.Standardised.{markerAnswer, markersAnswer, keptOrNew, applied, value, found, mayChange, lowestRefused, newStats, newValues, standardiseAnswer, laterStats, laterValues}
@@ -29,7 +28,7 @@ use Rattle.read_standardised.specs.Joined.{readNan, joinedAnswer, joined
 use Rattle.canonical.specs.Canonical.{fileOrder}
 use Rattle.read_standardised.specs.Demand.{IsAccepted, CallsAgree, GoodList, meant, NamesEachOnce, RightLengths, Way, inTurn, joinedCall, asRead, answersOf, valuesOf, statsOf}
 use Rattle.read_standardised.proofs.JoinLaws.{as-read-is, answer-is, values-are, stats-are}
-use Rattle.read_standardised.proofs.SumLaws.{same-sum, names-length, meant-below}
+use Rattle.read_standardised.proofs.SumLaws.{same-sums, names-length, meant-below}
 use Rattle.read_standardised.proofs.ReadLaws.{matrix-same, read-done, values-same, length-read, cell-read, call-read, length-order, order-means, order-good}
 
 -- the lowest refused marker's answer, by what is found for each
@@ -154,9 +153,6 @@ module _ (f : Format) (file : List ℕ) (iids sids : ℕ) (flag : Bool) (il sl :
       subst (λ (n : ℕ). IsCall (value order n (length sl) there i m)) fo-long
       (call-read flag order file iids sids fo sl i m (subst (λ (n : ℕ). i < n) (sym fo-long) hi) hm)
 
-  sums : SumsAgree (meant iids il) iids
-  sums h = ap (total (λ k. h (meant iids il k))) (sym il-long) ∙ same-sum iids il names h
-
   below : (k : ℕ) → k < iids → meant iids il k < iids
   below k h = meant-below iids il names k (subst (λ (n : ℕ). k < n) (sym il-long) h)
 
@@ -175,7 +171,7 @@ module _ (f : Format) (file : List ℕ) (iids sids : ℕ) (flag : Bool) (il sl :
     answer-moved =
         ap (λ (n : ℕ). standardiseAnswer f order n (length sl) (asRead f file iids sids flag il sl order val stats) useStats stats) il-long
         ∙ ap (λ (x : List Float). standardiseAnswer f order iids (length sl) x useStats stats) here-is
-        ∙ reordered-same-answer f order iids (length sl) there here useStats stats (meant iids il) sums same-length moved (inr (few, there-call))
+        ∙ reordered-same-answer f order iids (length sl) there here useStats stats (meant iids il) (same-sums iids il names) same-length moved (inr (few, there-call))
         ∙ ap (λ (x : List Float). standardiseAnswer f order iids (length sl) x useStats stats) (sym there-is)
         ∙ ap (λ (n : ℕ). standardiseAnswer f order n (length sl) (asRead f file iids sids flag fo sl order val stats) useStats stats) (sym fo-long)
 
@@ -184,7 +180,7 @@ module _ (f : Format) (file : List ℕ) (iids sids : ℕ) (flag : Bool) (il sl :
     stats-moved =
         ap (λ (n : ℕ). laterStats f order n (length sl) (asRead f file iids sids flag il sl order val stats) useStats stats) il-long
         ∙ ap (λ (x : List Float). laterStats f order iids (length sl) x useStats stats) here-is
-        ∙ reordered-same-stats f order iids (length sl) there here useStats stats (meant iids il) sums same-length moved (inr (few, there-call))
+        ∙ reordered-same-stats f order iids (length sl) there here useStats stats (meant iids il) (same-sums iids il names) same-length moved (inr (few, there-call))
         ∙ ap (λ (x : List Float). laterStats f order iids (length sl) x useStats stats) (sym there-is)
         ∙ ap (λ (n : ℕ). laterStats f order n (length sl) (asRead f file iids sids flag fo sl order val stats) useStats stats) (sym fo-long)
 
@@ -194,7 +190,7 @@ module _ (f : Format) (file : List ℕ) (iids sids : ℕ) (flag : Bool) (il sl :
     value-moved apply k m hk hm =
         ap (λ (n : ℕ). value order n (length sl) (laterValues f order n (length sl) (asRead f file iids sids flag il sl order val stats) useStats stats apply) k m) il-long
         ∙ ap (λ (x : List Float). value order iids (length sl) (laterValues f order iids (length sl) x useStats stats apply) k m) here-is
-        ∙ reordered-moved-values f order iids (length sl) there here useStats stats (meant iids il) sums same-length moved (inr (few, there-call)) apply k m (subst (λ (n : ℕ). k < n) il-long hk) hm
+        ∙ reordered-moved-values f order iids (length sl) there here useStats stats (meant iids il) (same-sums iids il names) same-length moved (inr (few, there-call)) apply k m (subst (λ (n : ℕ). k < n) il-long hk) hm
         ∙ ap (λ (x : List Float). value order iids (length sl) (laterValues f order iids (length sl) x useStats stats apply) (meant iids il k) m) (sym there-is)
         ∙ ap (λ (n : ℕ). value order n (length sl) (laterValues f order n (length sl) (asRead f file iids sids flag fo sl order val stats) useStats stats apply) (meant iids il k) m) (sym fo-long)
 
@@ -204,7 +200,7 @@ module _ (f : Format) (file : List ℕ) (iids sids : ℕ) (flag : Bool) (il sl :
   found-moved m h =
       foundFor-ext f (λ k. value order iids (length sl) here k m) (λ k. value order iids (length sl) there (meant iids il k) m) false (statsAt stats m) iids (λ k b. moved k m b h)
       ∙ reordered-stats f (λ k. value order iids (length sl) there (meant iids il k) m) (λ i. value order iids (length sl) there i m) iids
-      (λ k b. there-call (meant iids il k) m (below k b) h) (λ i b. there-call i m b h) few (names-same (meant iids il) iids (λ i. value order iids (length sl) there i m) sums)
+      (λ k b. there-call (meant iids il k) m (below k b) h) (λ i b. there-call i m b h) few (names-same (meant iids il) iids (λ i. value order iids (length sl) there i m) (same-sums iids il names))
 
   lowest-moved : lowestRefused f order iids (length sl) here false stats ≡ lowestRefused f order iids (length sl) there false stats
   unfolding lowestRefused

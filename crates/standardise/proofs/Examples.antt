@@ -9,7 +9,7 @@ use native.Mathlib.Omega.{arith}
 use lib.Dec.{lit≤}
 use lib.Ieee.{Float, nan, binary64}
 use Rattle.statistics.specs.Statistics.{plusZero}
-use Rattle.statistics.specs.Calls.{two, IsCall, isZero, isTwo, total, NamesEachOnce}
+use Rattle.statistics.specs.Calls.{two, IsCall, isZero, isTwo, total, SumsAgree}
 use Rattle.standardise.specs.Standardised.{value, standardiseAnswer, laterStats, laterValues}
 use Rattle.standardise.proofs.Theorems.{orders-same-answer, orders-same-stats, reordered-same-answer, reordered-same-stats, reordered-moved-values}
 
@@ -25,7 +25,7 @@ stats = nan ∷ nan ∷ []
 abbrev pub other : ℕ → ℕ
 other k = 1 - k
 
-others : NamesEachOnce other 2
+others : SumsAgree other 2
 unfolding total
 others h = omega arith
 

@@ -16,7 +16,7 @@ use Rattle.genotype.proofs.MatrixLaws.{getD-matrix}
 use Rattle.statistics.specs.declared.MarkerStats.{MarkerStats}
 use Rattle.statistics.specs.declared.MarkerStats.the-variants.{NoIndividuals}
 use Rattle.statistics.specs.Statistics.{statsPerMarker, statsAt, foundFor, markerStats}
-use Rattle.statistics.specs.Calls.{IsCall, isZero, isOne, isTwo, isMissing, FewEnough, NamesEachOnce}
+use Rattle.statistics.specs.Calls.{IsCall, isZero, isOne, isTwo, isMissing, FewEnough, SumsAgree}
 use Rattle.statistics.proofs.CountLaws.{foundFor-ext}
 use Rattle.statistics.proofs.Exact.{reordered-stats, names-below, names-same}
 use Rattle.standardise.specs.Standardised.{markerAnswer, markersAnswer, bufferChecks, keptOrNew, applied, value, found, lowestRefused, standardiseAnswer, newStats, mayChange, newValues, laterStats, laterValues}
@@ -151,7 +151,7 @@ rows-unchanged f iids sids val useStats stats apply e =
 
 -- ---- 3. animals reordered
 -- row k of the one matrix is row π k of the other, and π names each animal once
-module _ (f : Format) (order : Bool) (iids sids : ℕ) (val val′ : List Float) (useStats : Bool) (stats : List Float) (π : ℕ → ℕ) (names : NamesEachOnce π iids)
+module _ (f : Format) (order : Bool) (iids sids : ℕ) (val val′ : List Float) (useStats : Bool) (stats : List Float) (π : ℕ → ℕ) (names : SumsAgree π iids)
     (l : length val′ ≡ length val) (moved : (k m : ℕ) → k < iids → m < sids → value order iids sids val′ k m ≡ value order iids sids val (π k) m)
     -- lent statistics, or decoded calls of few enough animals
     (known : (useStats ≡ true) ⊎ (FewEnough f iids × ((i m : ℕ) → i < iids → m < sids → IsCall (value order iids sids val i m)))) where

@@ -15,7 +15,7 @@ use lib.Ieee.Scale.{round-same}
 use borrow.Author.Tests.{ltb-true, lt-ltb}
 use Rattle.statistics.specs.declared.Accumulator.{Accumulator}
 use Rattle.statistics.specs.Statistics.{plusZero, one, counted, accumulated, markerStats, statsFrom}
-use Rattle.statistics.specs.Calls.{two, IsCall, isZero, isOne, isTwo, isMissing, whole, present, copies, total, FewEnough, Calls, SameSums, NamesEachOnce}
+use Rattle.statistics.specs.Calls.{two, IsCall, isZero, isOne, isTwo, isMissing, whole, present, copies, total, FewEnough, Calls, SameSums, SumsAgree}
 use Rattle.statistics.proofs.CountLaws.{stats-from}
 
 -- ---- sums of whole numbers
@@ -172,7 +172,7 @@ total-zero h (suc n) k e l = go (eq-or-lt-of-le (le-of-suc-le-suc l)) (total-zer
     go (inr q) earlier = earlier q
 
 -- it names only those places
-pub names-below : (π : ℕ → ℕ) (n : ℕ) → NamesEachOnce π n → (k : ℕ) → k < n → π k < n
+pub names-below : (π : ℕ → ℕ) (n : ℕ) → SumsAgree π n → (k : ℕ) → k < n → π k < n
 names-below π n names k l = go (ltb (π k) n) refl
   where
     outside : ℕ → ℕ
@@ -189,7 +189,7 @@ names-below π n names k l = go (ltb (π k) n) refl
     go false e = absurd (let z : 1 ≡ 0 = (sym (ap (λ (b : Bool). cond b 0 1) e) ∙ at-zero) in omega arith)
 
 -- and every sum over the values at those places agrees
-pub names-same : (π : ℕ → ℕ) (n : ℕ) (column : ℕ → Float) → NamesEachOnce π n → SameSums (λ k. column (π k)) column n
+pub names-same : (π : ℕ → ℕ) (n : ℕ) (column : ℕ → Float) → SumsAgree π n → SameSums (λ k. column (π k)) column n
 names-same π n column names h = names (λ j. h (column j))
 
 -- ---- the hypotheses can be met

@@ -7,7 +7,7 @@ use native.Mathlib.Nat.{eq-or-lt-of-le, le-of-suc-le-suc}
 use native.Mathlib.Omega.{arith}
 use lib.Dec.{eqb}
 use borrow.Author.Tests.{eq-eqb, ne-eqb, eqb-true, eqb-false}
-use Rattle.statistics.specs.Calls.{total, NamesEachOnce}
+use Rattle.statistics.specs.Calls.{total, SumsAgree}
 use Rattle.statistics.proofs.Exact.{total-ext}
 
 -- x at the place k, and 0 elsewhere
@@ -60,8 +60,8 @@ total-ones (suc n) = let e : total (λ j. 1) n ≡ n = total-ones n in omega ari
 
 module _ (π : ℕ → ℕ) (len n : ℕ) (below : (k : ℕ) → k < len → π k < n)
     (once : (j : ℕ) → j < n → (k : ℕ) × (k < len) × (π k ≡ j) × ((i : ℕ) → i < len → π i ≡ j → i ≡ k)) where
-  pub sums-agree : (h : ℕ → ℕ) → total (λ k. h (π k)) len ≡ total h n
-  sums-agree h =
+  pub same-sum : (h : ℕ → ℕ) → total (λ k. h (π k)) len ≡ total h n
+  same-sum h =
       total-ext (λ k. h (π k)) (λ k. total (only (π k) h) n) len (λ k l. sym (total-only n (π k) h (below k l)))
       ∙ total-swap (λ k. only (π k) h) len n
       ∙ total-ext (λ j. total (λ k. only (π k) h j) len) h n (λ j l. one-entry j (once j l))
@@ -78,7 +78,7 @@ module _ (π : ℕ → ℕ) (len n : ℕ) (below : (k : ℕ) → k < len → π 
               go false q = ne-eqb j (π i) (λ p. eqb-false i k q (unique i b (sym p))) ∙ sym q
 
   pub as-long : len ≡ n
-  as-long = sym (total-ones len) ∙ sums-agree (λ j. 1) ∙ total-ones n
+  as-long = sym (total-ones len) ∙ same-sum (λ j. 1) ∙ total-ones n
 
-  pub names-each-once : NamesEachOnce π n
-  names-each-once h = subst (λ (m : ℕ). total (λ k. h (π k)) m ≡ total h n) as-long (sums-agree h)
+  pub each-once : SumsAgree π n
+  each-once h = subst (λ (m : ℕ). total (λ k. h (π k)) m ≡ total h n) as-long (same-sum h)

@@ -48,6 +48,7 @@ Calls column n = (i : ℕ) → i < n → IsCall (column i)
 abbrev pub SameSums : (ℕ → Float) → (ℕ → Float) → ℕ → Type 0
 SameSums xs ys n = (h : Float → ℕ) → total (λ i. h (xs i)) n ≡ total (λ i. h (ys i)) n
 
--- a list of places that names each of the first n places once: every sum of natural numbers over the places it names is the sum over all
-abbrev pub NamesEachOnce : (ℕ → ℕ) → ℕ → Type 0
-NamesEachOnce π n = (h : ℕ → ℕ) → total (λ k. h (π k)) n ≡ total h n
+-- every sum of natural numbers over the places that π names is the sum over the first n places. So it is if each of them is named exactly
+-- once: `each-once` of proofs/Names
+abbrev pub SumsAgree : (ℕ → ℕ) → ℕ → Type 0
+SumsAgree π n = (h : ℕ → ℕ) → total (λ k. h (π k)) n ≡ total h n
