@@ -1,0 +1,78 @@
+// One marker's block: its bytes together with its animal count.
+ghost use mathlib.Core.Path.{_≡_};
+ghost use lib.ListN.{length};
+ghost use Rattle.genotype.specs.Value.{i8, float};
+ghost use Rattle.bed_write.specs.Packing.{placeCode};
+ghost use Rattle.block.specs.Blocks.{codeAnswer, decodeAnswer, decodeBuffer, packAnswer, packBuffer};
+ghost use Rattle.block.specs.Says.{codeSays, decodeSays, packSays};
+
+pub mod decode;
+pub mod pack;
+
+use decode::CodeAnswer;
+use decode::DecodeAnswer;
+use genotype::entries::IidIndex;
+use pack::PackAnswer;
+
+// A block to be decoded.
+pub struct MarkerBlock<'a> {
+    pub bytes: &'a [u8],
+    pub iid_count: usize,
+}
+
+// A block to be filled.
+pub struct MarkerBlockMut<'a> {
+    pub bytes: &'a mut [u8],
+    pub iid_count: usize,
+}
+
+impl<'a> MarkerBlock<'a> {
+    pub fn new(bytes: &'a [u8], iid_count: usize) -> MarkerBlock<'a>
+        ensures { λ r. ⌜ (r .bytes ≡ bytes .entry) × (r .«iid_count» ≡ «iid_count») ⌝ }
+    {
+        MarkerBlock { bytes, iid_count }
+    }
+
+    // The code of one animal.
+    pub fn code(self, iid: IidIndex) -> CodeAnswer
+        ensures { λ r. ⌜ codeSays r ≡ codeAnswer (now (self .entry .bytes)) (self .entry .«iid_count») (iid .0) ⌝ }
+    {
+        decode::code_of_iid(self.bytes, self.iid_count, iid)
+    }
+
+    // Every animal's value, into a lent column.
+    pub fn decode_i8(self, is_a1_counted: bool, missing_value: i8, out: &mut [i8]) -> DecodeAnswer
+        ensures { λ r. ⌜ (decodeSays r ≡ decodeAnswer (length (now (self .entry .bytes))) (self .entry .«iid_count») (length (now (out .entry)))) × (now (out .exit) ≡ decodeBuffer i8 «is_a1_counted» «missing_value» (now (self .entry .bytes)) (self .entry .«iid_count») (now (out .entry))) ⌝ }
+    {
+        decode::decode1_i8(self.bytes, self.iid_count, is_a1_counted, missing_value, out)
+    }
+
+    pub fn decode_f64(self, is_a1_counted: bool, missing_value: f64, out: &mut [f64]) -> DecodeAnswer
+        ensures { λ r. ⌜ (decodeSays r ≡ decodeAnswer (length (now (self .entry .bytes))) (self .entry .«iid_count») (length (now (out .entry)))) × (now (out .exit) ≡ decodeBuffer float «is_a1_counted» «missing_value» (now (self .entry .bytes)) (self .entry .«iid_count») (now (out .entry))) ⌝ }
+    {
+        decode::decode1_f64(self.bytes, self.iid_count, is_a1_counted, missing_value, out)
+    }
+}
+
+impl<'a> MarkerBlockMut<'a> {
+    pub fn new(bytes: &'a mut [u8], iid_count: usize) -> MarkerBlockMut<'a>
+        ensures { λ r. ⌜ (r .bytes ≡ bytes .entry) × (r .«iid_count» ≡ «iid_count») ⌝ }
+    {
+        MarkerBlockMut { bytes, iid_count }
+    }
+
+    // Packs a column into the block's bytes.
+    pub fn encode1_i8(self, in_vector: &[i8], is_a1_counted: bool, missing: i8) -> PackAnswer
+        ensures { λ r. ⌜ (packSays r ≡ packAnswer (self .entry .«iid_count») (length (now («in_vector» .entry))) (placeCode i8 «is_a1_counted» missing (now («in_vector» .entry))) (length (now (self .entry .bytes)))) × (now (self .exit .0) ≡ packBuffer (self .entry .«iid_count») (length (now («in_vector» .entry))) (placeCode i8 «is_a1_counted» missing (now («in_vector» .entry))) (now (self .entry .bytes))) ⌝ }
+    {
+        let iid_count = self.iid_count;
+        pack::pack1_i8(&mut *self.bytes, iid_count, in_vector, is_a1_counted, missing)
+    }
+
+    pub fn encode1_f64(self, in_vector: &[f64], is_a1_counted: bool, missing: f64) -> PackAnswer
+        ensures { λ r. ⌜ (packSays r ≡ packAnswer (self .entry .«iid_count») (length (now («in_vector» .entry))) (placeCode float «is_a1_counted» missing (now («in_vector» .entry))) (length (now (self .entry .bytes)))) × (now (self .exit .0) ≡ packBuffer (self .entry .«iid_count») (length (now («in_vector» .entry))) (placeCode float «is_a1_counted» missing (now («in_vector» .entry))) (now (self .entry .bytes))) ⌝ }
+    {
+        let iid_count = self.iid_count;
+        pack::pack1_f64(&mut *self.bytes, iid_count, in_vector, is_a1_counted, missing)
+    }
+}

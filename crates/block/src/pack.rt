@@ -1,0 +1,62 @@
+// Packing a block, with plain parameters.
+ghost use mathlib.Core.Path.{_≡_};
+ghost use lib.ListN.{length};
+ghost use Rattle.genotype.specs.Value.{i8, float};
+ghost use Rattle.bed_write.specs.Packing.{placeCode};
+ghost use Rattle.block.specs.Blocks.{packAnswer, packBuffer};
+ghost use Rattle.block.specs.Says.{packSays};
+use bed_write::encode::EncodeAnswer;
+use genotype::entries::IidIndex;
+
+pub enum PackAnswer {
+    Done,
+    CountTooLarge,
+    IndexMismatch,
+    EncodingLength,
+    BadValue(IidIndex),
+}
+
+// Packs a column into a block's bytes.
+pub fn pack1_i8(
+    bytes: &mut [u8],
+    iid_count: usize,
+    in_vector: &[i8],
+    is_a1_counted: bool,
+    missing: i8,
+) -> PackAnswer
+    ensures { λ r. ⌜ (packSays r ≡ packAnswer «iid_count» (length (now («in_vector» .entry))) (placeCode i8 «is_a1_counted» missing (now («in_vector» .entry))) (length (now (bytes .entry)))) × (now (bytes .exit) ≡ packBuffer «iid_count» (length (now («in_vector» .entry))) (placeCode i8 «is_a1_counted» missing (now («in_vector» .entry))) (now (bytes .entry))) ⌝ }
+{
+    if iid_count > 9223372036854775807 {
+        return PackAnswer::CountTooLarge;
+    }
+    if in_vector.len() != iid_count {
+        return PackAnswer::IndexMismatch;
+    }
+    match bed_write::encode::encode_i8::encode1_i8(in_vector, bytes, is_a1_counted, missing) {
+        EncodeAnswer::Done => PackAnswer::Done,
+        EncodeAnswer::EncodingLength => PackAnswer::EncodingLength,
+        EncodeAnswer::BadValue(animal) => PackAnswer::BadValue(animal),
+    }
+}
+
+pub fn pack1_f64(
+    bytes: &mut [u8],
+    iid_count: usize,
+    in_vector: &[f64],
+    is_a1_counted: bool,
+    missing: f64,
+) -> PackAnswer
+    ensures { λ r. ⌜ (packSays r ≡ packAnswer «iid_count» (length (now («in_vector» .entry))) (placeCode float «is_a1_counted» missing (now («in_vector» .entry))) (length (now (bytes .entry)))) × (now (bytes .exit) ≡ packBuffer «iid_count» (length (now («in_vector» .entry))) (placeCode float «is_a1_counted» missing (now («in_vector» .entry))) (now (bytes .entry))) ⌝ }
+{
+    if iid_count > 9223372036854775807 {
+        return PackAnswer::CountTooLarge;
+    }
+    if in_vector.len() != iid_count {
+        return PackAnswer::IndexMismatch;
+    }
+    match bed_write::encode::encode_f64::encode1_f64(in_vector, bytes, is_a1_counted, missing) {
+        EncodeAnswer::Done => PackAnswer::Done,
+        EncodeAnswer::EncodingLength => PackAnswer::EncodingLength,
+        EncodeAnswer::BadValue(animal) => PackAnswer::BadValue(animal),
+    }
+}
