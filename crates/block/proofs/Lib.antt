@@ -1,0 +1,3 @@
+pub mod CheckLaws
+pub mod ColumnLaws
+pub mod PackLaws
