@@ -1,3 +1,4 @@
 pub mod CheckLaws
 pub mod ColumnLaws
 pub mod PackLaws
+pub mod Held
