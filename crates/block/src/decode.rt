@@ -28,7 +28,7 @@ pub enum DecodeAnswer {
 }
 
 // The code of one animal.
-pub fn code_of_iid(bytes: &[u8], iid_count: usize, iid: IidIndex) -> CodeAnswer
+pub(crate) fn code_of_iid(bytes: &[u8], iid_count: usize, iid: IidIndex) -> CodeAnswer
     ensures { λ r. ⌜ codeSays r ≡ codeAnswer (now (bytes .entry)) «iid_count» (iid .0) ⌝ }
 {
     if iid_count > 9223372036854775807 {
@@ -114,7 +114,7 @@ fn fill_f64(bytes: &[u8], codes: &[u8; 1024], values: &[f64; 4], out: &mut [f64]
 }
 
 // Decodes a block into a lent column.
-pub fn decode1_i8(
+pub(crate) fn decode1_i8(
     bytes: &[u8],
     iid_count: usize,
     is_a1_counted: bool,
@@ -132,7 +132,7 @@ pub fn decode1_i8(
     checked
 }
 
-pub fn decode1_f64(
+pub(crate) fn decode1_f64(
     bytes: &[u8],
     iid_count: usize,
     is_a1_counted: bool,

@@ -76,3 +76,58 @@ impl<'a> MarkerBlockMut<'a> {
         pack::pack1_f64(&mut *self.bytes, iid_count, in_vector, is_a1_counted, missing)
     }
 }
+
+// The same with plain parameters, for callers that hold no block.
+pub fn code_in_block(bytes: &[u8], iid_count: usize, iid: IidIndex) -> CodeAnswer
+    ensures { λ r. ⌜ codeSays r ≡ codeAnswer (now (bytes .entry)) «iid_count» (iid .0) ⌝ }
+{
+    MarkerBlock::new(bytes, iid_count).code(iid)
+}
+
+pub fn decode_block_i8(
+    bytes: &[u8],
+    iid_count: usize,
+    is_a1_counted: bool,
+    missing_value: i8,
+    out: &mut [i8],
+) -> DecodeAnswer
+    ensures { λ r. ⌜ (decodeSays r ≡ decodeAnswer (length (now (bytes .entry))) «iid_count» (length (now (out .entry)))) × (now (out .exit) ≡ decodeBuffer i8 «is_a1_counted» «missing_value» (now (bytes .entry)) «iid_count» (now (out .entry))) ⌝ }
+{
+    MarkerBlock::new(bytes, iid_count).decode_i8(is_a1_counted, missing_value, out)
+}
+
+pub fn decode_block_f64(
+    bytes: &[u8],
+    iid_count: usize,
+    is_a1_counted: bool,
+    missing_value: f64,
+    out: &mut [f64],
+) -> DecodeAnswer
+    ensures { λ r. ⌜ (decodeSays r ≡ decodeAnswer (length (now (bytes .entry))) «iid_count» (length (now (out .entry)))) × (now (out .exit) ≡ decodeBuffer float «is_a1_counted» «missing_value» (now (bytes .entry)) «iid_count» (now (out .entry))) ⌝ }
+{
+    MarkerBlock::new(bytes, iid_count).decode_f64(is_a1_counted, missing_value, out)
+}
+
+pub fn encode_block_i8(
+    bytes: &mut [u8],
+    iid_count: usize,
+    in_vector: &[i8],
+    is_a1_counted: bool,
+    missing: i8,
+) -> PackAnswer
+    ensures { λ r. ⌜ (packSays r ≡ packAnswer «iid_count» (length (now («in_vector» .entry))) (placeCode i8 «is_a1_counted» missing (now («in_vector» .entry))) (length (now (bytes .entry)))) × (now (bytes .exit) ≡ packBuffer «iid_count» (length (now («in_vector» .entry))) (placeCode i8 «is_a1_counted» missing (now («in_vector» .entry))) (now (bytes .entry))) ⌝ }
+{
+    MarkerBlockMut::new(bytes, iid_count).encode1_i8(in_vector, is_a1_counted, missing)
+}
+
+pub fn encode_block_f64(
+    bytes: &mut [u8],
+    iid_count: usize,
+    in_vector: &[f64],
+    is_a1_counted: bool,
+    missing: f64,
+) -> PackAnswer
+    ensures { λ r. ⌜ (packSays r ≡ packAnswer «iid_count» (length (now («in_vector» .entry))) (placeCode float «is_a1_counted» missing (now («in_vector» .entry))) (length (now (bytes .entry)))) × (now (bytes .exit) ≡ packBuffer «iid_count» (length (now («in_vector» .entry))) (placeCode float «is_a1_counted» missing (now («in_vector» .entry))) (now (bytes .entry))) ⌝ }
+{
+    MarkerBlockMut::new(bytes, iid_count).encode1_f64(in_vector, is_a1_counted, missing)
+}

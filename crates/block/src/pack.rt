@@ -17,7 +17,7 @@ pub enum PackAnswer {
 }
 
 // Packs a column into a block's bytes.
-pub fn pack1_i8(
+pub(crate) fn pack1_i8(
     bytes: &mut [u8],
     iid_count: usize,
     in_vector: &[i8],
@@ -39,7 +39,7 @@ pub fn pack1_i8(
     }
 }
 
-pub fn pack1_f64(
+pub(crate) fn pack1_f64(
     bytes: &mut [u8],
     iid_count: usize,
     in_vector: &[f64],
