@@ -37,6 +37,6 @@ module _ (iids valLength : ℕ) (code : ℕ → Option ℕ) (old : List ℕ) whe
       pack-encoded said new a = (
         a .0 ∙ ap (λ (n : ℕ). encodeAnswer n code (length old)) e ∙ sym (column-passes iids valLength _ h e),
         a .1
-        ∙ ap (λ (n : ℕ). encodeBuffer n code old) e
-        ∙ sym (new-if-done (checkColumn iids valLength (done [])) (encodeBuffer iids code old) old (ap isDone (column-passes iids valLength (done []) h e))),
+            ∙ ap (λ (n : ℕ). encodeBuffer n code old) e
+            ∙ sym (new-if-done (checkColumn iids valLength (done [])) (encodeBuffer iids code old) old (ap isDone (column-passes iids valLength (done []) h e))),
       )

@@ -44,13 +44,30 @@ impl<'a> MarkerBlock<'a> {
     pub fn decode_i8(self, is_a1_counted: bool, missing_value: i8, out: &mut [i8]) -> DecodeAnswer
         ensures { λ r. ⌜ (decodeSays r ≡ decodeAnswer (length (now (self .entry .bytes))) (self .entry .«iid_count») (length (now (out .entry)))) × (now (out .exit) ≡ decodeBuffer i8 «is_a1_counted» «missing_value» (now (self .entry .bytes)) (self .entry .«iid_count») (now (out .entry))) ⌝ }
     {
-        decode::decode1_i8(self.bytes, self.iid_count, is_a1_counted, missing_value, out)
+        decode::decode1_i8(
+            self.bytes,
+            self.iid_count,
+            is_a1_counted,
+            missing_value,
+            out,
+        )
     }
 
-    pub fn decode_f64(self, is_a1_counted: bool, missing_value: f64, out: &mut [f64]) -> DecodeAnswer
+    pub fn decode_f64(
+        self,
+        is_a1_counted: bool,
+        missing_value: f64,
+        out: &mut [f64],
+    ) -> DecodeAnswer
         ensures { λ r. ⌜ (decodeSays r ≡ decodeAnswer (length (now (self .entry .bytes))) (self .entry .«iid_count») (length (now (out .entry)))) × (now (out .exit) ≡ decodeBuffer float «is_a1_counted» «missing_value» (now (self .entry .bytes)) (self .entry .«iid_count») (now (out .entry))) ⌝ }
     {
-        decode::decode1_f64(self.bytes, self.iid_count, is_a1_counted, missing_value, out)
+        decode::decode1_f64(
+            self.bytes,
+            self.iid_count,
+            is_a1_counted,
+            missing_value,
+            out,
+        )
     }
 }
 
@@ -66,14 +83,26 @@ impl<'a> MarkerBlockMut<'a> {
         ensures { λ r. ⌜ (packSays r ≡ packAnswer (self .entry .«iid_count») (length (now («in_vector» .entry))) (placeCode i8 «is_a1_counted» missing (now («in_vector» .entry))) (length (now (self .entry .bytes)))) × (now (self .exit .0) ≡ packBuffer (self .entry .«iid_count») (length (now («in_vector» .entry))) (placeCode i8 «is_a1_counted» missing (now («in_vector» .entry))) (now (self .entry .bytes))) ⌝ }
     {
         let iid_count = self.iid_count;
-        pack::pack1_i8(&mut *self.bytes, iid_count, in_vector, is_a1_counted, missing)
+        pack::pack1_i8(
+            &mut *self.bytes,
+            iid_count,
+            in_vector,
+            is_a1_counted,
+            missing,
+        )
     }
 
     pub fn encode1_f64(self, in_vector: &[f64], is_a1_counted: bool, missing: f64) -> PackAnswer
         ensures { λ r. ⌜ (packSays r ≡ packAnswer (self .entry .«iid_count») (length (now («in_vector» .entry))) (placeCode float «is_a1_counted» missing (now («in_vector» .entry))) (length (now (self .entry .bytes)))) × (now (self .exit .0) ≡ packBuffer (self .entry .«iid_count») (length (now («in_vector» .entry))) (placeCode float «is_a1_counted» missing (now («in_vector» .entry))) (now (self .entry .bytes))) ⌝ }
     {
         let iid_count = self.iid_count;
-        pack::pack1_f64(&mut *self.bytes, iid_count, in_vector, is_a1_counted, missing)
+        pack::pack1_f64(
+            &mut *self.bytes,
+            iid_count,
+            in_vector,
+            is_a1_counted,
+            missing,
+        )
     }
 }
 

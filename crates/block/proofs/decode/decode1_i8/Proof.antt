@@ -38,8 +38,7 @@ returns : tie.Need-returns
 returns c =
     let s = c .before .before .before .before .before .before .before .before .before .before .before in
     let t = is-done-of _ _ _ (c .before .before .before .before .before .before .before .before .before .check-decode .ensures) (c .before .before .before .before .before .before .before .before .is-done .ensures) true (c .before .before .before .before .before .before .before .if1 .taken) in
-    let p = decodable (length (s .args .bytes .now)) (s .args .iid-count) (length (s .args .out .now)) (t) in
-    (
+    let p = decodable (length (s .args .bytes .now)) (s .args .iid-count) (length (s .args .out .now)) (t) in (
       c .before .before .before .before .before .before .before .before .before .check-decode .ensures,
       column-new i8 (s .args .is-a1-counted) (s .args .missing-value) (s .args .bytes .now) (s .args .iid-count) (pos 0) _ (s .args .out .now) _
           (c .before .before .before .before .before .set-up-two-bits-to-value-i8 .ensures ∙ ap (values i8 (s .args .is-a1-counted)) (toZ-ofZ w8 (s .args .missing-value) (s .fits .missing-value))) t (p .0) (c .before .fill-i8 .ensures),
@@ -47,8 +46,7 @@ returns c =
 
 returns-2 : tie.Need-returns-2
 returns-2 c =
-    let s = c .before .before .before .before in
-    (
+    let s = c .before .before .before .before in (
       c .before .before .check-decode .ensures,
       column-kept i8 (s .args .is-a1-counted) (s .args .missing-value) (s .args .bytes .now) (s .args .iid-count) (s .args .out .now)
           (is-done-of _ _ _ (c .before .before .check-decode .ensures) (c .before .is-done .ensures) false (c .if1 .left)),

@@ -3,7 +3,6 @@ use mathlib.Core.Path.{refl, ap, _∙_}
 use Prim.Native.Nat.{ℕ, _-_}
 use native.Mathlib.Omega.{arith}
 use borrow.Author.Needs.{needs}
-
 use lib.Ieee.{nan}
 use lib.ListN.{length, getD}
 use Rattle.genotype.specs.Code.{itemCode}
@@ -29,6 +28,7 @@ code-by-table-requires c κs =
 
 mul-out : tie.Need-mul-out Inv-loop μ-loop
 mul-out c = search needs
+
 element-copy-out-out : tie.Need-element-copy-out-out Inv-loop μ-loop
 element-copy-out-out c = c .code-by-table .ensures .0
 

@@ -28,7 +28,6 @@ code-by-table-requires c κs =
     let l = c .before .loop .inv .long in
     (byte-below _ (length (s .args .out .now)) _ _ (s .pre .0) refl (omega (arith, l, c .loop-test .taken)), s .pre .1)
 
-
 element-copy-out-out : tie.Need-element-copy-out-out Inv-loop μ-loop
 element-copy-out-out c = c .code-by-table .ensures .0
 
