@@ -32,10 +32,12 @@ module _ (iids valLength : ℕ) (later : Answer) where
     unfolding checkColumn
     column-passes e = count-passes iids _ h ∙ check-passes (eqb valLength iids) 15 later (eq-eqb valLength iids e)
 
-  pub column-done : isDone (checkColumn iids valLength later) ≡ true → (valLength ≡ iids) × (isDone later ≡ true)
+  pub column-done : isDone (checkColumn iids valLength later) ≡ true → (iids ≤ countLimit) × (valLength ≡ iids) × (isDone later ≡ true)
   unfolding checkColumn
   column-done d =
-      let p = check-done (eqb valLength iids) 15 later (count-done iids _ d .1) in (eqb-true valLength iids (p .0), p .1)
+      let c = count-done iids _ d in
+      let p = check-done (eqb valLength iids) 15 later (c .1) in
+      (c .0, eqb-true valLength iids (p .0), p .1)
 
 -- ---- 16
 module _ (byteCount iids : ℕ) (later : Answer) where
@@ -74,7 +76,7 @@ module _ (byteCount iids valLength : ℕ) where
   -- what is known where nothing was refused
   pub decodable : isDone (decodeAnswer byteCount iids valLength) ≡ true → (valLength ≡ iids) × (byteCount ≡ blockWidth iids)
   unfolding decodeAnswer
-  decodable d = let p = column-done iids valLength _ d in (p .0, bytes-done byteCount iids _ (p .1))
+  decodable d = let p = column-done iids valLength _ d in (p .1, bytes-done byteCount iids _ (p .2))
 
 -- ---- an animal's byte
 pub byte-below : (byteCount iids w iid : ℕ) → w ≡ blockWidth iids → byteCount ≡ w → iid < iids → iid / 4 < byteCount

@@ -1,8 +1,8 @@
 -- Filling a lent column animal by animal, over any type of values; and the later column of decoding, once over the width.
 use mathlib.Core.Path.{_≡_, refl, sym, ap, subst, _∙_}
 use mathlib.Core.Bool.{Bool, true, false}
-use mathlib.Core.List.{List, [], _∷_}
-use Prim.Native.Nat.{ℕ, zero, suc, _+_, _*_, _/_, _%_, _<_, _≤_}
+use mathlib.Core.List.{List}
+use Prim.Native.Nat.{ℕ, _+_, _*_, _/_, _%_, _<_, _≤_}
 use native.Mathlib.Omega.{arith}
 use lib.ListN.{length, getD, set, length-set}
 use lib.Seq.{getD-set-same, getD-set-other}
@@ -15,6 +15,7 @@ use Rattle.genotype.proofs.AnswerLaws.{new-if-done, old-if-not}
 use Rattle.genotype.proofs.CodeLaws.{table-at, item-below}
 use Rattle.genotype.proofs.Tabulate.{tabulate-ext, is-tabulate}
 use Rattle.genotype.proofs.Tests.{by-lt}
+use Rattle.bed_write.proofs.FirstLaws.{getD-inside}
 use Rattle.block.specs.Blocks.{decodeAnswer, columnOf, decodeBuffer}
 
 -- the code of an item, by the table
@@ -51,12 +52,6 @@ module _ {A : Type 0} (f : ℕ → A) (d : A) (n : ℕ) where
   pub filled-all : (out : List A) (k : ℕ) → Filled out k → length out ≤ k → out ≡ tabulate n f
   filled-all out k p h = is-tabulate out n f d (p .long) (λ j b. p .front j (let l = p .long in omega arith))
 
--- an element that is there is the same whatever the default
-any-default : {A : Type 0} (l : List A) (k : ℕ) (d e : A) → k < length l → getD l k d ≡ getD l k e
-any-default [] k d e h = absurd (omega arith)
-any-default (x ∷ xs) zero d e h = refl
-any-default (x ∷ xs) (suc k) d e h = any-default xs k d e (omega arith)
-
 four-values : (w : Width) (flag : Bool) (missing : w .Value) → length (values w flag missing) ≡ 4
 unfolding values
 four-values w true missing = refl
@@ -72,7 +67,7 @@ module _ (w : Width) (flag : Bool) (missing : w .Value) (bytes : List ℕ) (iids
   column-by-values d vs e =
       tabulate-ext iids _ _
       (λ a h. ap (λ (l : List (w .Value)). getD l (itemCode bytes a) d) e
-      ∙ any-default (values w flag missing) (itemCode bytes a) d missing
+      ∙ getD-inside (values w flag missing) (itemCode bytes a) d missing
       (let n = four-values w flag missing in let b = item-below bytes a in omega arith))
 
   pub column-new :

@@ -73,7 +73,7 @@ impl<'a> MarkerBlock<'a> {
 
 impl<'a> MarkerBlockMut<'a> {
     pub fn new(bytes: &'a mut [u8], iid_count: usize) -> MarkerBlockMut<'a>
-        ensures { λ r. ⌜ (r .bytes ≡ bytes .entry) × (r .«iid_count» ≡ «iid_count») ⌝ }
+        ensures { λ block. ⌜ (block .bytes ≡ bytes .entry) × (block .«iid_count» ≡ «iid_count») ⌝ }
     {
         MarkerBlockMut { bytes, iid_count }
     }

@@ -1,0 +1,38 @@
+-- The theorem of reading back at a small block, its hypothesis closed by computation.
+use mathlib.Core.Path.{_≡_, refl}
+use mathlib.Core.Bool.{true}
+use mathlib.Core.List.{List, [], _∷_}
+use Prim.Native.Nat.{ℕ}
+use lib.Dec.{lit≤}
+use lib.IntN.{ℤ, pos, negsuc}
+use lib.ListN.{getD}
+use Rattle.genotype.specs.Answer.{check, checkCount, isDone, ifDone}
+use Rattle.genotype.specs.Block.{blockWidth}
+use Rattle.genotype.specs.Code.{packedByte, packed}
+use Rattle.genotype.specs.Lists.{tabulate}
+use Rattle.genotype.specs.Value.{i8, sameInt, sameOrNan, codeOf}
+use Rattle.bed_write.specs.Packing.{placeCode, orZero, packedCodes, orElse, firstOf, ifBad, firstBadAnimal, checkAnimal, encodeAnswer, newBefore, encodeBuffer}
+use Rattle.block.specs.Blocks.{checkColumn, packAnswer, packBuffer, decodeBuffer}
+use Rattle.block.proofs.Theorems.{packed-read-back}
+
+-- "i8 column 0, −127, 1, 2, 2, counted, missing −127: 27 00."
+abbrev column : List ℤ
+column = pos 0 ∷ negsuc 126 ∷ pos 1 ∷ pos 2 ∷ pos 2 ∷ []
+
+abbrev old : List ℕ
+old = 9 ∷ 9 ∷ []
+
+abbrev bytes : List ℕ
+bytes = packBuffer 5 5 (placeCode i8 true (negsuc 126) column) old
+
+column-packable : isDone (packAnswer 5 5 (placeCode i8 true (negsuc 126) column) 2) ≡ true
+unfolding packAnswer checkColumn checkCount check encodeAnswer checkAnimal firstBadAnimal firstOf orElse ifBad placeCode codeOf sameOrNan sameInt blockWidth isDone
+column-packable = refl
+
+pub column-bytes : bytes ≡ (0x27 ∷ 0x00 ∷ [])
+unfolding packBuffer checkColumn checkCount check encodeBuffer newBefore firstBadAnimal firstOf orElse ifBad packedCodes packed packedByte tabulate orZero placeCode codeOf sameOrNan sameInt blockWidth ifDone isDone
+column-bytes = refl
+
+-- read back, the animal 1 is missing
+pub column-back : sameOrNan i8 (negsuc 126) (getD (decodeBuffer i8 true (negsuc 126) bytes 5 column) 1 (negsuc 126)) ≡ true
+column-back = packed-read-back i8 true (negsuc 126) 5 column old column-packable column refl .1 1 (lit≤ tt)

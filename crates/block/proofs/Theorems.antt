@@ -1,0 +1,115 @@
+-- A block that was filled, read back.
+use mathlib.Core.Path.{_≡_, refl, sym, ap, subst, _∙_}
+use mathlib.Core.Bool.{Bool, true}
+use mathlib.Core.List.{List, []}
+use mathlib.Core.Option.{Option, some, none}
+use Prim.Native.Nat.{ℕ, _≤_, _<_}
+use native.Mathlib.Omega.{arith}
+use borrow.Author.Tests.{eq-eqb, eqb-true}
+use lib.Dec.{eqb}
+use lib.ListN.{length, getD, List·getD-eq-default}
+use Rattle.genotype.specs.Answer.{done, isDone, countLimit}
+use Rattle.genotype.specs.Block.{blockWidth}
+use Rattle.genotype.specs.Code.{itemCode}
+use Rattle.genotype.specs.Lists.{tabulate}
+use Rattle.genotype.specs.Value.{Width, sameOrNan, valueOf}
+use Rattle.genotype.proofs.AnswerLaws.{check-done, new-if-done}
+use Rattle.genotype.proofs.CodeLaws.{Codes, packed-code}
+use Rattle.genotype.proofs.Tabulate.{length-tabulate, getD-tabulate}
+use Rattle.genotype.proofs.Tests.{by-lt}
+use Rattle.genotype.proofs.ValueLaws.{decode-encode}
+use Rattle.bed_write.specs.Packing.{placeCode, orZero, packedCodes, ifBad, firstBadAnimal, checkAnimal, encodeAnswer, newBefore, encodeBuffer}
+use Rattle.bed_write.proofs.EncodeLaws.{block-length}
+use Rattle.bed_write.proofs.FirstLaws.{first-all, not-bad, zero-below, place-coded}
+use Rattle.block.specs.Blocks.{checkColumn, packAnswer, packBuffer, decodeAnswer, columnOf, decodeBuffer}
+use Rattle.block.proofs.CheckLaws.{column-done, column-passes, decode-done}
+
+no-animal : (o : Option ℕ) → isDone (checkAnimal o (done [])) ≡ true → o ≡ none
+unfolding checkAnimal isDone
+no-animal none e = refl
+no-animal (some a) e = absurd (let q : _≡_ {A = ℕ} 0 1 = cc in omega arith)
+
+-- what is known where packing is done
+record Packable (iids valLength : ℕ) (code : ℕ → Option ℕ) (byteCount : ℕ) : Type 0 where
+  fits : iids ≤ countLimit
+  values : valLength ≡ iids
+  bytes : byteCount ≡ blockWidth iids
+  no-bad : firstBadAnimal iids code ≡ none
+
+packable : (iids valLength : ℕ) (code : ℕ → Option ℕ) (byteCount : ℕ) → isDone (packAnswer iids valLength code byteCount) ≡ true → Packable iids valLength code byteCount
+unfolding packAnswer encodeAnswer
+packable iids valLength code byteCount d =
+    let p = column-done iids valLength (encodeAnswer iids code byteCount) d in
+    let c = check-done (eqb byteCount (blockWidth iids)) 16 (checkAnimal (firstBadAnimal iids code) (done [])) (p .2) in
+    record { fits = p .0; values = p .1; bytes = eqb-true byteCount (blockWidth iids) (c .0); no-bad = no-animal (firstBadAnimal iids code) (c .1) }
+
+-- the bytes that packing leaves where it is done
+module _ (iids valLength : ℕ) (code : ℕ → Option ℕ) (old : List ℕ) (p : Packable iids valLength code (length old)) where
+  filled : packBuffer iids valLength code old ≡ packedCodes iids code
+  unfolding packBuffer encodeBuffer newBefore isDone
+  filled =
+      new-if-done (checkColumn iids valLength (done [])) (encodeBuffer iids code old) old (ap isDone (column-passes iids valLength (done []) (p .fits) (p .values)))
+      ∙ simp (eq-eqb (length old) (blockWidth iids) (p .bytes), p .no-bad)
+
+-- the code of each animal in a packed block
+module _ (iids : ℕ) (code : ℕ → Option ℕ) (small : (k : ℕ) → orZero (code k) < 4) where
+  codes-small : Codes (tabulate iids (λ a. orZero (code a)))
+  codes-small k =
+      by-lt k iids (λ h. subst (λ (c : ℕ). c < 4) (sym (getD-tabulate iids (λ a. orZero (code a)) k 0 h)) (small k))
+      (λ h. let l : length (tabulate iids (λ a. orZero (code a))) ≡ iids = length-tabulate iids (λ a. orZero (code a)) in
+      let e : getD (tabulate iids (λ a. orZero (code a))) k 0 ≡ 0 = List·getD-eq-default (tabulate iids (λ a. orZero (code a))) 0 (omega arith) in
+      omega arith)
+
+  code-back : (k : ℕ) → k < iids → itemCode (packedCodes iids code) k ≡ orZero (code k)
+  unfolding packedCodes
+  code-back k h = packed-code (tabulate iids (λ a. orZero (code a))) codes-small k ∙ getD-tabulate iids (λ a. orZero (code a)) k 0 h
+
+-- ---- packed, then decoded
+module _ (w : Width) (flag : Bool) (missing : w .Value) (iids : ℕ) (val : List (w .Value)) (old : List ℕ)
+    (d : isDone (packAnswer iids (length val) (placeCode w flag missing val) (length old)) ≡ true) (out : List (w .Value)) (l : length out ≡ iids) where
+  abbrev code : ℕ → Option ℕ
+  code = placeCode w flag missing val
+
+  abbrev new : List ℕ
+  new = packBuffer iids (length val) code old
+
+  p : Packable iids (length val) code (length old)
+  p = packable iids (length val) code (length old) d
+
+  decoded : decodeAnswer (length new) iids (length out) ≡ done []
+  decoded =
+      decode-done (length new) iids (length out) (p .fits) l (blockWidth iids) refl
+      (ap length (filled iids (length val) code old p) ∙ block-length iids code)
+
+  small : (k : ℕ) → orZero (code k) < 4
+  small k = zero-below (code k) (place-coded w flag missing val k)
+
+  value-back : (k : ℕ) → k < iids → getD (decodeBuffer w flag missing new iids out) k missing ≡ valueOf w flag missing (orZero (code k))
+  unfolding decodeBuffer columnOf isDone
+  value-back k h =
+      ap (λ x. getD x k missing) (new-if-done (decodeAnswer (length new) iids (length out)) (columnOf w flag missing new iids) out (ap isDone decoded))
+      ∙ getD-tabulate iids (λ a. valueOf w flag missing (itemCode new a)) k missing h
+      ∙ ap (valueOf w flag missing) (ap (λ (bytes : List ℕ). itemCode bytes k) (filled iids (length val) code old p) ∙ code-back iids code small k h)
+
+  has-code : (k : ℕ) → k < iids → code k ≡ some (orZero (code k))
+  unfolding firstBadAnimal
+  has-code k h = not-bad (code k) k (first-all iids (λ a. ifBad (code a) a) (p .no-bad) k h)
+
+-- "Under one flag and one missing value, an accepted writing read back gives every value, equal by number or NaN for NaN.": of one block. Where packing is done,
+-- decoding the bytes that it left into a column of the right length is done, and gives every value.
+pub packed-read-back :
+    (w : Width) (flag : Bool) (missing : w .Value) (iids : ℕ) (val : List (w .Value)) (old : List ℕ)
+    → isDone (packAnswer iids (length val) (placeCode w flag missing val) (length old)) ≡ true
+    → (out : List (w .Value)) → length out ≡ iids
+    → (decodeAnswer (length (packBuffer iids (length val) (placeCode w flag missing val) old)) iids (length out) ≡ done [])
+    × ((k : ℕ) → k < iids
+    → sameOrNan w (getD val k missing)
+    (getD (decodeBuffer w flag missing (packBuffer iids (length val) (placeCode w flag missing val) old) iids out) k missing)
+    ≡ true)
+unfolding placeCode
+packed-read-back w flag missing iids val old d out l = (
+  decoded w flag missing iids val old d out l,
+  λ k h.
+      subst (λ x. sameOrNan w (getD val k missing) x ≡ true) (sym (value-back w flag missing iids val old d out l k h))
+      (decode-encode w flag missing (getD val k missing) (orZero (placeCode w flag missing val k)) (has-code w flag missing iids val old d out l k h)),
+)
