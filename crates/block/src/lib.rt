@@ -1,4 +1,5 @@
-// One marker's block: its bytes together with its animal count.
+// One marker's block: its bytes together with its animal count. Each method takes the block apart and calls a function with plain parameters,
+// which does the work.
 ghost use mathlib.Core.Path.{_≡_};
 ghost use lib.ListN.{length};
 ghost use Rattle.genotype.specs.Value.{i8, float};
@@ -106,7 +107,7 @@ impl<'a> MarkerBlockMut<'a> {
     }
 }
 
-// The same with plain parameters, for callers that hold no block.
+// The same with plain parameters: the block is made here, so that a caller's proof needs no walk by hand.
 pub fn code_in_block(bytes: &[u8], iid_count: usize, iid: IidIndex) -> CodeAnswer
     ensures { λ r. ⌜ codeSays r ≡ codeAnswer (now (bytes .entry)) «iid_count» (iid .0) ⌝ }
 {
