@@ -1,9 +1,13 @@
-// The worked examples of document 01 that are not marked P, PLINK's published example, and calls whose counts nothing lent backs.
+// The worked examples of document 01 that are not marked P, PLINK's published example, one marker's block, and calls whose counts nothing lent backs.
 // The file `stdout` beside src/ says what each line should be.
 use bed_read::file::AcceptAnswer;
 use bed_read::reading::ReadAnswer;
 use bed_write::write::WriteAnswer;
+use block::decode::CodeAnswer;
+use block::decode::DecodeAnswer;
+use block::pack::PackAnswer;
 use canonical::CanonicalAnswer;
+use genotype::entries::IidIndex;
 use index::Bound;
 use index::Index;
 use index::ListAnswer;
@@ -46,6 +50,8 @@ fn say_f64(v: f64) {
         say(b" 1");
     } else if v == -1.0 {
         say(b" -1");
+    } else if v == 2.0 {
+        say(b" 2");
     } else if v == 9.0 {
         say(b" 9");
     } else if v == 1.0 / 0.0 {
@@ -113,6 +119,25 @@ fn write_number(a: WriteAnswer) -> u64 {
     }
 }
 
+fn pack_number(a: PackAnswer) -> u64 {
+    match a {
+        PackAnswer::Done => 0,
+        PackAnswer::CountTooLarge => 18,
+        PackAnswer::IndexMismatch => 15,
+        PackAnswer::EncodingLength => 16,
+        PackAnswer::BadValue(_) => 7,
+    }
+}
+
+fn decode_number(a: DecodeAnswer) -> u64 {
+    match a {
+        DecodeAnswer::Done => 0,
+        DecodeAnswer::CountTooLarge => 18,
+        DecodeAnswer::IndexMismatch => 15,
+        DecodeAnswer::EncodingLength => 16,
+    }
+}
+
 fn piece_number(a: PieceAnswer) -> u64 {
     match a {
         PieceAnswer::Done => 0,
@@ -167,6 +192,21 @@ fn say_standardised(a: StandardiseAnswer) {
     }
 }
 
+fn say_code(a: CodeAnswer) {
+    match a {
+        CodeAnswer::Code(c) => {
+            say(b" ");
+            io::print_decimal(1, wide(c));
+        }
+        CodeAnswer::CountTooLarge => say(b" refused: 18"),
+        CodeAnswer::EncodingLength => say(b" refused: 16"),
+        CodeAnswer::IidIndexTooBig(i) => {
+            say(b" refused: 5 for ");
+            io::print_decimal(1, i.0 as u64);
+        }
+    }
+}
+
 fn say_number(n: u64) {
     say(b" ");
     io::print_decimal(1, n);
@@ -202,6 +242,57 @@ fn plink_example() {
     say(b":");
     say_bytes(&out);
     say(b"\n");
+}
+
+fn say_codes(bytes: &[u8]) {
+    say(b" codes of animals 1, 4 and 5:");
+    say_code(block::code_in_block(bytes, 5, IidIndex(1)));
+    say(b",");
+    say_code(block::code_in_block(bytes, 5, IidIndex(4)));
+    say(b",");
+    say_code(block::code_in_block(bytes, 5, IidIndex(5)));
+}
+
+// One marker's block, by the functions with plain parameters.
+fn block_i8(bytes: &mut [u8]) {
+    let column = [0i8, -127, 1, 2, 2];
+    let p = block::encode_block_i8(bytes, 5, &column, true, -127);
+    say(b"a block of 5 animals, packed, answer");
+    say_number(pack_number(p));
+    say(b":");
+    say_bytes(bytes);
+    let mut back = [9i8; 5];
+    let d = block::decode_block_i8(bytes, 5, true, -127, &mut back);
+    say(b", decoded, answer");
+    say_number(decode_number(d));
+    say(b":");
+    say_row(&back);
+    say_codes(bytes);
+    say(b"\n");
+}
+
+fn block_f64(bytes: &mut [u8]) {
+    let mut values = [7.0; 5];
+    let d = block::decode_block_f64(bytes, 5, false, 9.0, &mut values);
+    say(b"not counted, as f64 with missing 9, answer");
+    say_number(decode_number(d));
+    say(b":");
+    say_floats(&values);
+    let again = block::encode_block_f64(bytes, 5, &values, false, 9.0);
+    say(b", packed again, answer");
+    say_number(pack_number(again));
+    say(b":");
+    say_bytes(bytes);
+    let long = block::encode_block_f64(bytes, 9, &values, false, 9.0);
+    say(b", for 9 animals, answer");
+    say_number(pack_number(long));
+    say(b"\n");
+}
+
+fn one_block() {
+    let mut bytes = [9u8; 2];
+    block_i8(&mut bytes);
+    block_f64(&mut bytes);
 }
 
 fn columns() {
@@ -387,6 +478,7 @@ fn bounded_others() {
 
 fn main() {
     plink_example();
+    one_block();
     columns();
     bounded();
     bounded_files();
