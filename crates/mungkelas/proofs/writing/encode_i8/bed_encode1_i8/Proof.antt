@@ -6,8 +6,8 @@ use Rattle.mungkelas.proofs.FitLaws.{encode-fits}
 use native.Mathlib.Omega.{arith}
 use Rattle.mungkelas.proofs.MissingLaws.{encode-missing}
 use borrow.Author.Needs.{needs}
-use Rattle.mungkelas.proofs.writing.bed_encode1_i8.Statement.{statement}
-use Rattle.mungkelas.proofs.writing.bed_encode1_i8.Tie as tie
+use Rattle.mungkelas.proofs.writing.encode_i8.bed_encode1_i8.Statement.{statement}
+use Rattle.mungkelas.proofs.writing.encode_i8.bed_encode1_i8.Tie as tie
 
 encode1-i8-requires : tie.Need-encode1-i8-requires
 encode1-i8-requires c κs = search needs

@@ -5,8 +5,8 @@ use Rattle.mungkelas.proofs.AnswerLaws.{as-said}
 use Rattle.mungkelas.proofs.FitLaws.{encode-fits}
 use native.Mathlib.Omega.{arith}
 use borrow.Author.Needs.{needs}
-use Rattle.mungkelas.proofs.writing.bed_encode1_f64.Statement.{statement}
-use Rattle.mungkelas.proofs.writing.bed_encode1_f64.Tie as tie
+use Rattle.mungkelas.proofs.writing.encode_f64.bed_encode1_f64.Statement.{statement}
+use Rattle.mungkelas.proofs.writing.encode_f64.bed_encode1_f64.Tie as tie
 
 encode1-f64-requires : tie.Need-encode1-f64-requires
 encode1-f64-requires c κs = search needs
