@@ -1,5 +1,6 @@
-// The worked examples of document 01 that are not marked P, PLINK's published example, one marker's block, and calls whose counts nothing lent backs.
-// The file `stdout` beside src/ says what each line should be.
+// The worked examples of document 01 that are not marked P, PLINK's published example, one marker's block, and calls whose counts nothing lent
+// backs.
+// Each line says where it comes from and what that asks for, then what was seen; the file `stdout` beside src/ has them all.
 use bed_read::file::AcceptAnswer;
 use bed_read::reading::ReadAnswer;
 use bed_write::write::WriteAnswer;
@@ -228,7 +229,9 @@ fn plink_example() {
         false,
         &mut val,
     );
-    say(b"PLINK's example, counted, answer");
+    say(
+        b"PLINK 1.9 format reference, its example of 6 samples and 3 variants, dosages 2 0 NA 0 0 0 / 0 NA 1 0 0 0 / 0 1 1 NA NA 2: saw answer",
+    );
     say_number(read_number(a));
     say(b":");
     say_row(&val[0..6]);
@@ -237,7 +240,7 @@ fn plink_example() {
     say(b"\n");
     let mut out = [0u8; 9];
     let w = bed_write::write::write_i8::write_val_i8(&val, 6, 3, false, true, -127, &mut out);
-    say(b"written again, answer");
+    say(b"the same, written again, its bytes 6C 1B 01 DC 0F E7 0F 6B 01: saw answer");
     say_number(write_number(w));
     say(b":");
     say_bytes(&out);
@@ -245,46 +248,49 @@ fn plink_example() {
 }
 
 fn say_codes(bytes: &[u8]) {
-    say(b" codes of animals 1, 4 and 5:");
+    say(b"its codes of animals 1, 4 and 5, missing, two copies and refusal 5: saw");
     say_code(block::code_in_block(bytes, 5, IidIndex(1)));
     say(b",");
     say_code(block::code_in_block(bytes, 5, IidIndex(4)));
     say(b",");
     say_code(block::code_in_block(bytes, 5, IidIndex(5)));
+    say(b"\n");
 }
 
 // One marker's block, by the functions with plain parameters.
 fn block_i8(bytes: &mut [u8]) {
     let column = [0i8, -127, 1, 2, 2];
     let p = block::encode_block_i8(bytes, 5, &column, true, -127);
-    say(b"a block of 5 animals, packed, answer");
+    say(
+        b"document 01, i8 column 0, -127, 1, 2, 2, counted, missing -127: 27 00, packed as a block: saw answer",
+    );
     say_number(pack_number(p));
     say(b":");
     say_bytes(bytes);
     let mut back = [9i8; 5];
     let d = block::decode_block_i8(bytes, 5, true, -127, &mut back);
-    say(b", decoded, answer");
+    say(b"\nthe same block decoded, the column: saw answer");
     say_number(decode_number(d));
     say(b":");
     say_row(&back);
-    say_codes(bytes);
     say(b"\n");
+    say_codes(bytes);
 }
 
 fn block_f64(bytes: &mut [u8]) {
     let mut values = [7.0; 5];
     let d = block::decode_block_f64(bytes, 5, false, 9.0, &mut values);
-    say(b"not counted, as f64 with missing 9, answer");
+    say(b"the same block, not counted, as f64 with missing 9, values 2, 9, 1, 0, 0: saw answer");
     say_number(decode_number(d));
     say(b":");
     say_floats(&values);
     let again = block::encode_block_f64(bytes, 5, &values, false, 9.0);
-    say(b", packed again, answer");
+    say(b"\nthe same packed again, 27 00: saw answer");
     say_number(pack_number(again));
     say(b":");
     say_bytes(bytes);
     let long = block::encode_block_f64(bytes, 9, &values, false, 9.0);
-    say(b", for 9 animals, answer");
+    say(b"\ndocument 01, a value buffer that is not the count is 15, 5 values for 9 animals: saw");
     say_number(pack_number(long));
     say(b"\n");
 }
@@ -307,7 +313,7 @@ fn columns() {
         false,
         &mut stats,
     );
-    say(b"column 0, 2, NaN:");
+    say(b"document 01, column 0, 2, NaN: mean 1, deviation 1, values -1, 1, +0: saw");
     say_standardised(a);
     say(b", mean and deviation");
     say_floats(&stats);
@@ -325,7 +331,7 @@ fn columns() {
         false,
         &mut same_stats,
     );
-    say(b"column 1, 1:");
+    say(b"document 01, column 1, 1: deviation infinite, values +0: saw");
     say_standardised(b);
     say(b", mean and deviation");
     say_floats(&same_stats);
@@ -343,7 +349,7 @@ fn columns() {
         false,
         &mut none_stats,
     );
-    say(b"all-NaN column:");
+    say(b"document 01, all-NaN column: 13, which keeps old statistics, here 9: saw");
     say_standardised(c);
     say(b", mean and deviation");
     say_floats(&none_stats);
@@ -355,7 +361,9 @@ fn columns() {
 fn bounded() {
     let header = b"\x6C\x1B\x01";
     let many = 9223372036854775807;
-    say(b"0 animals, 2^63 - 1 markers: accepted");
+    say(
+        b"document 01, nothing in a block: length 3 for any block count, 0 animals and 2^63 - 1 markers: saw accepted",
+    );
     say_number(accept_number(bed_read::file::accept(header, 0, many)));
     let none = [0i64; 0];
     let mut val = [9i8; 1];
@@ -372,7 +380,7 @@ fn bounded() {
     );
     say(b", read");
     say_number(read_number(a));
-    say(b"\n2^63 - 1 animals, 0 markers: standardised in both orders");
+    say(b"\nno markers, so none is refused, 2^63 - 1 animals: saw standardised in both orders");
     let mut values = [9.0; 1];
     let mut stats = [9.0; 1];
     say_standardised(standardise::impute_and_zero_mean_snps_f64(
@@ -402,7 +410,7 @@ fn bounded_files() {
     let many = 9223372036854775807;
     let none = [0i8; 0];
     let mut out = [9u8; 3];
-    say(b"0 animals, 2^63 - 1 markers: canonical");
+    say(b"a file of 3 bytes, 0 animals and 2^63 - 1 markers: saw canonical");
     say_number(canonical_number(canonical::canonical(header, 0, many, &mut out)));
     say(b", written");
     say_number(write_number(bed_write::write::write_i8::write_val_i8(
@@ -424,7 +432,7 @@ fn bounded_files() {
         -127,
         &mut out,
     )));
-    say(b" in animal order\n2^63 - 1 animals, 0 markers: canonical");
+    say(b" in animal order\na file of 3 bytes, 2^63 - 1 animals and 0 markers: saw canonical");
     say_number(canonical_number(canonical::canonical(header, many, 0, &mut out)));
     say(b", written");
     say_number(write_number(bed_write::write::write_i8::write_val_i8(
@@ -453,7 +461,9 @@ fn bounded_others() {
     let many = 9223372036854775807;
     let bytes = [0u8; 0];
     let mut piece = [9.0; 1];
-    say(b"an AA' piece of width 0 over 2^63 - 1 rows");
+    say(
+        b"document 01, width 0 is 20 for A'A only, an AA' piece of width 0 over 2^63 - 1 rows: saw",
+    );
     say_number(piece_number(product::file_aat_piece_f64(
         &bytes,
         0,
@@ -471,7 +481,9 @@ fn bounded_others() {
         start: Bound::Absent,
         end: Bound::At(many),
     });
-    say(b"\na range of 2^63 - 1 entries into a buffer of 1");
+    say(
+        b"\ndocument 01, list buffer shorter than the list is 19, a range of 2^63 - 1 entries into a buffer of 1: saw",
+    );
     say_number(list_number(all.to_vec(5, &no_vec, &no_marks, &mut list)));
     say(b"\n");
 }

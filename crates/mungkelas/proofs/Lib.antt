@@ -1,0 +1,5 @@
+-- What the proofs of several functions use.
+pub mod AnswerLaws
+pub mod FitLaws
+pub mod ListLaws
+pub mod MissingLaws

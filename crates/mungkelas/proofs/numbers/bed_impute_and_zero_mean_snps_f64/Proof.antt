@@ -1,0 +1,33 @@
+-- `bed_impute_and_zero_mean_snps_f64`: what the core answers, told.
+use mathlib.Core.Path.{sym, subst}
+use Rattle.mungkelas.specs.Inner.{Fits}
+use Rattle.mungkelas.proofs.AnswerLaws.{as-said}
+use Rattle.mungkelas.proofs.FitLaws.{standardise-fits}
+use borrow.Author.Needs.{needs}
+use Rattle.mungkelas.proofs.numbers.bed_impute_and_zero_mean_snps_f64.Statement.{statement}
+use Rattle.mungkelas.proofs.numbers.bed_impute_and_zero_mean_snps_f64.Tie as tie
+
+impute-and-zero-mean-snps-f64-requires : tie.Need-impute-and-zero-mean-snps-f64-requires
+impute-and-zero-mean-snps-f64-requires c κs = search needs
+
+of-standardise-requires : tie.Need-of-standardise-requires
+of-standardise-requires c κs = subst Fits (sym (c .before .before .before .before .impute-and-zero-mean-snps-f64 .ensures .0)) (standardise-fits _ _ _ _ _ _ _)
+
+same-length : tie.Need-same-length
+same-length c = search needs
+
+same-length-2 : tie.Need-same-length-2
+same-length-2 c = search needs
+
+returns : tie.Need-returns
+returns c = (as-said (c .of-standardise .ensures) (c .before .before .before .before .before .impute-and-zero-mean-snps-f64 .ensures .0), c .before .before .before .before .before .impute-and-zero-mean-snps-f64 .ensures .1, c .before .before .before .before .before .impute-and-zero-mean-snps-f64 .ensures .2)
+
+pub bed-impute-and-zero-mean-snps-f64-spec : {M : Type 1} → statement M
+bed-impute-and-zero-mean-snps-f64-spec =
+    tie.close
+    (tie.spec
+    impute-and-zero-mean-snps-f64-requires
+    of-standardise-requires
+    same-length
+    same-length-2
+    returns)

@@ -1,0 +1,54 @@
+-- `of_encode`, case by case.
+use mathlib.Core.Path.{refl}
+use Rattle.bed_write.specs.Says.{encodeSays}
+use Rattle.mungkelas.specs.Interface.{bedAnswer, numberOf, valuesOf}
+use Rattle.mungkelas.specs.Inner.{Fits, AllBelow, carriesEntry}
+use Rattle.mungkelas.proofs.AnswerLaws.{told, fitting}
+use borrow.Author.Needs.{needs}
+use Rattle.mungkelas.proofs.of_encode.Statement.{statement}
+use Rattle.mungkelas.proofs.of_encode.Tie as tie
+
+enum-told : tie.Need-enum-told
+enum-told c = search needs
+
+bare-requires : tie.Need-bare-requires
+bare-requires c κs = search needs
+
+enum-told-2 : tie.Need-enum-told-2
+enum-told-2 c = search needs
+
+bare-requires-2 : tie.Need-bare-requires-2
+bare-requires-2 c κs = search needs
+
+enum-known-answer : tie.Need-enum-known-answer
+enum-known-answer c = search needs
+
+one-requires : tie.Need-one-requires
+unfolding Fits AllBelow carriesEntry
+one-requires c κs = (fitting encodeSays _ (c .before .before .before .pre) (c .before .answer .given .1)) refl .0
+
+returns : tie.Need-returns
+unfolding bedAnswer numberOf valuesOf
+returns c = told encodeSays _ (c .bare .ensures) (c .before .enum-told .given .1)
+
+returns-2 : tie.Need-returns-2
+unfolding bedAnswer numberOf valuesOf
+returns-2 c = told encodeSays _ (c .bare2 .ensures) (c .before .enum-told2 .given .1)
+
+returns-3 : tie.Need-returns-3
+unfolding bedAnswer numberOf valuesOf
+returns-3 c = told encodeSays _ (c .one .ensures) (c .before .before .answer .given .1)
+
+pub of-encode-spec : {M : Type 1} → statement M
+of-encode-spec =
+    tie.close
+    (tie.spec
+    enum-told
+    bare-requires
+    enum-told-2
+    bare-requires-2
+    enum-known-answer
+    one-requires
+    returns
+    returns-2
+    returns-3)

@@ -1,0 +1,21 @@
+-- `bed_file_ata_piece`: what the core answers, told.
+use Rattle.mungkelas.proofs.AnswerLaws.{as-said}
+use borrow.Author.Needs.{needs}
+use Rattle.mungkelas.proofs.products.bed_file_ata_piece.Statement.{statement}
+use Rattle.mungkelas.proofs.products.bed_file_ata_piece.Tie as tie
+
+file-ata-piece-f64-requires : tie.Need-file-ata-piece-f64-requires
+file-ata-piece-f64-requires c κs = search needs
+
+of-piece-requires : tie.Need-of-piece-requires
+of-piece-requires c κs = search needs
+
+same-length : tie.Need-same-length
+same-length c = search needs
+
+returns : tie.Need-returns
+returns c = (as-said (c .of-piece .ensures) (c .before .before .before .file-ata-piece-f64 .ensures .0), c .before .before .before .file-ata-piece-f64 .ensures .1)
+
+pub bed-file-ata-piece-spec : {M : Type 1} → statement M
+bed-file-ata-piece-spec =
+    tie.close (tie.spec file-ata-piece-f64-requires of-piece-requires same-length returns)

@@ -1,0 +1,3 @@
+-- What the C interface says over the definitions of the crates that it calls.
+pub mod Interface
+pub mod Inner

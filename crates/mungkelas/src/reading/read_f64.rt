@@ -1,0 +1,38 @@
+// Reading values of type f64.
+ghost use mathlib.Core.Path.{_≡_};
+ghost use lib.ListN.{length};
+ghost use Rattle.genotype.specs.Value.{float};
+ghost use Rattle.bed_read.specs.Reading.{readAnswer, readBuffer};
+ghost use Rattle.mungkelas.specs.Interface.{bedAnswer};
+use crate::BedAnswer;
+
+#[no_mangle]
+pub extern "C" fn bed_read_f64(
+    file: &[u8],
+    iid_count: usize,
+    sid_count: usize,
+    is_a1_counted: bool,
+    iid_index: &[i64],
+    sid_index: &[i64],
+    missing_value: f64,
+    animal_order: bool,
+    val: &mut [f64],
+) -> BedAnswer
+    ensures { λ r. ⌜
+        (r ≡ bedAnswer (readAnswer (now (file .entry)) «iid_count» «sid_count» (now («iid_index» .entry)) (now («sid_index» .entry)) (length (now (val .entry)))))
+        × (now (val .exit) ≡ readBuffer float (now (file .entry)) «iid_count» «sid_count» «is_a1_counted» (now («iid_index» .entry)) (now («sid_index» .entry)) «missing_value» «animal_order» (now (val .entry)))
+        ⌝ }
+{
+    let answer = bed_read::reading::read_f64::read_no_alloc_f64(
+        file,
+        iid_count,
+        sid_count,
+        is_a1_counted,
+        iid_index,
+        sid_index,
+        missing_value,
+        animal_order,
+        val,
+    );
+    crate::of_read(answer)
+}

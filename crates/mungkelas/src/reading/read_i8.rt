@@ -1,0 +1,38 @@
+// Reading values of type i8.
+ghost use mathlib.Core.Path.{_≡_};
+ghost use lib.ListN.{length};
+ghost use Rattle.genotype.specs.Value.{i8};
+ghost use Rattle.bed_read.specs.Reading.{readAnswer, readBuffer};
+ghost use Rattle.mungkelas.specs.Interface.{bedAnswer};
+use crate::BedAnswer;
+
+#[no_mangle]
+pub extern "C" fn bed_read_i8(
+    file: &[u8],
+    iid_count: usize,
+    sid_count: usize,
+    is_a1_counted: bool,
+    iid_index: &[i64],
+    sid_index: &[i64],
+    missing_value: i8,
+    animal_order: bool,
+    val: &mut [i8],
+) -> BedAnswer
+    ensures { λ r. ⌜
+        (r ≡ bedAnswer (readAnswer (now (file .entry)) «iid_count» «sid_count» (now («iid_index» .entry)) (now («sid_index» .entry)) (length (now (val .entry)))))
+        × (now (val .exit) ≡ readBuffer i8 (now (file .entry)) «iid_count» «sid_count» «is_a1_counted» (now («iid_index» .entry)) (now («sid_index» .entry)) «missing_value» «animal_order» (now (val .entry)))
+        ⌝ }
+{
+    let answer = bed_read::reading::read_i8::read_no_alloc_i8(
+        file,
+        iid_count,
+        sid_count,
+        is_a1_counted,
+        iid_index,
+        sid_index,
+        missing_value,
+        animal_order,
+        val,
+    );
+    crate::of_read(answer)
+}

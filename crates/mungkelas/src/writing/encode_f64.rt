@@ -1,0 +1,28 @@
+// Packing one marker's values of type f64.
+ghost use mathlib.Core.Path.{_≡_};
+ghost use lib.ListN.{length};
+ghost use Rattle.genotype.specs.Value.{float};
+ghost use Rattle.bed_write.specs.Packing.{placeCode, encodeAnswer, encodeBuffer};
+ghost use Rattle.mungkelas.specs.Interface.{bedAnswer};
+use crate::BedAnswer;
+
+#[no_mangle]
+pub extern "C" fn bed_encode1_f64(
+    in_vector: &[f64],
+    out_vector: &mut [u8],
+    is_a1_counted: bool,
+    missing: f64,
+) -> BedAnswer
+    ensures { λ r. ⌜
+        (r ≡ bedAnswer (encodeAnswer (length (now («in_vector» .entry))) (placeCode float «is_a1_counted» missing (now («in_vector» .entry))) (length (now («out_vector» .entry)))))
+        × (now («out_vector» .exit) ≡ encodeBuffer (length (now («in_vector» .entry))) (placeCode float «is_a1_counted» missing (now («in_vector» .entry))) (now («out_vector» .entry)))
+        ⌝ }
+{
+    let answer = bed_write::encode::encode_f64::encode1_f64(
+        in_vector,
+        out_vector,
+        is_a1_counted,
+        missing,
+    );
+    crate::of_encode(answer)
+}

@@ -1,0 +1,34 @@
+// Writing a whole file from values of type i8.
+ghost use mathlib.Core.Path.{_≡_};
+ghost use lib.ListN.{length};
+ghost use Rattle.genotype.specs.Value.{i8};
+ghost use Rattle.bed_write.specs.Writing.{valueCode, writeAnswer, writeBuffer};
+ghost use Rattle.mungkelas.specs.Interface.{bedAnswer};
+use crate::BedAnswer;
+
+#[no_mangle]
+pub extern "C" fn bed_write_i8(
+    val: &[i8],
+    iid_count: usize,
+    sid_count: usize,
+    animal_order: bool,
+    is_a1_counted: bool,
+    missing: i8,
+    out: &mut [u8],
+) -> BedAnswer
+    ensures { λ r. ⌜
+        (r ≡ bedAnswer (writeAnswer «iid_count» «sid_count» (valueCode i8 «is_a1_counted» missing «animal_order» «iid_count» «sid_count» (now (val .entry))) (length (now (val .entry))) (length (now (out .entry)))))
+        × (now (out .exit) ≡ writeBuffer «iid_count» «sid_count» (valueCode i8 «is_a1_counted» missing «animal_order» «iid_count» «sid_count» (now (val .entry))) (length (now (val .entry))) (now (out .entry)))
+        ⌝ }
+{
+    let answer = bed_write::write::write_i8::write_val_i8(
+        val,
+        iid_count,
+        sid_count,
+        animal_order,
+        is_a1_counted,
+        missing,
+        out,
+    );
+    crate::of_write(answer)
+}

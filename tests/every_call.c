@@ -1,0 +1,605 @@
+/* Uses every call of the header and compares each answer and every buffer with document 01's sentences, written out plainly here: on its
+ * worked examples, and on drawn inputs, good ones and damaged ones. Prints a line for each call with the refusals that were seen. */
+#include <math.h>
+#include <stdio.h>
+#include <stdlib.h>
+#include <string.h>
+
+#include "mungkelas.h"
+
+/* ---- drawing, counting, comparing */
+
+static uint64_t state = 20240229;
+
+static uint64_t draw(uint64_t below) {
+    state += 0x9e3779b97f4a7c15;
+    uint64_t z = state;
+    z = (z ^ (z >> 30)) * 0xbf58476d1ce4e5b9;
+    z = (z ^ (z >> 27)) * 0x94d049bb133111eb;
+    return (z ^ (z >> 31)) % below;
+}
+
+static const char *call;
+static unsigned long calls, all_calls, seen[21];
+
+static void begin(const char *name) {
+    call = name;
+    calls = 0;
+    memset(seen, 0, sizeof seen);
+}
+
+static void end(void) {
+    printf("%-34s %6lu calls; refusals", call, calls);
+    for (int n = 1; n <= 20; n++)
+        if (seen[n]) printf(" %d", n);
+    printf("\n");
+    all_calls += calls;
+}
+
+static void fail(const char *what) {
+    printf("%s: %s differs at call %lu\n", call, what, calls);
+    exit(1);
+}
+
+static bed_answer answer(uint64_t number, int64_t first, int64_t second) {
+    bed_answer a = {number, first, second};
+    return a;
+}
+
+static void same(bed_answer got, bed_answer want) {
+    calls++;
+    if (got.number <= 20) seen[got.number]++;
+    if (got.number != want.number || got.first != want.first || got.second != want.second) {
+        printf("got %lu %ld %ld, want %lu %ld %ld\n", got.number, got.first, got.second, want.number, want.first, want.second);
+        fail("the answer");
+    }
+}
+
+static void same_floats(const double *got, const double *want, size_t n, const char *what) {
+    for (size_t i = 0; i < n; i++)
+        if (memcmp(&got[i], &want[i], 8) && !(isnan(got[i]) && isnan(want[i]))) fail(what);
+}
+
+#define ROOM 512
+#define TOO_LARGE ((size_t)1 << 63)
+
+/* ---- document 01's sentences */
+
+static size_t width_of(size_t count) { return count == 0 ? 0 : (count - 1) / 4 + 1; }
+
+/* 4, in exact arithmetic */
+static bool too_big(size_t items, size_t blocks) {
+    return (unsigned __int128)width_of(items) * blocks + 3 > (unsigned __int128)UINT64_MAX;
+}
+
+static bool good(size_t count, int64_t e) { return e < 0 ? (uint64_t)(-1 - e) < count : (uint64_t)e < count; }
+
+static size_t means(size_t count, int64_t e) { return e < 0 ? count - (size_t)(-1 - e) - 1 : (size_t)e; }
+
+static bool bad_entry(size_t count, const int64_t *list, size_t n, int64_t *entry) {
+    for (size_t i = 0; i < n; i++)
+        if (!good(count, list[i])) return *entry = list[i], true;
+    return false;
+}
+
+static bed_answer accept(const uint8_t *file, size_t len, size_t iids, size_t sids) {
+    if (len < 3) return answer(1, 0, 0);
+    if (file[0] != 0x6C || file[1] != 0x1B) return answer(2, 0, 0);
+    if (file[2] > 1) return answer(3, 0, 0);
+    size_t items = file[2] ? iids : sids, blocks = file[2] ? sids : iids;
+    if (too_big(items, blocks)) return answer(4, 0, 0);
+    return answer(len == 3 + width_of(items) * blocks ? 0 : 2, 0, 0);
+}
+
+static int code_of(const uint8_t *file, size_t iids, size_t sids, size_t a, size_t m) {
+    size_t block = file[2] ? m : a, item = file[2] ? a : m, width = width_of(file[2] ? iids : sids);
+    return file[3 + block * width + item / 4] >> (2 * (item % 4)) & 3;
+}
+
+static double value_of(int code, bool flag, double missing) {
+    return code == 1 ? missing : code == 2 ? 1 : (code == 0) == flag ? 2 : 0;
+}
+
+/* the code of a value, or -1 */
+static int coded(double v, bool flag, double missing) {
+    if (v == 0) return flag ? 3 : 0;
+    if (v == 1) return 2;
+    if (v == 2) return flag ? 0 : 3;
+    return v == missing || (isnan(v) && isnan(missing)) ? 1 : -1;
+}
+
+static size_t place(bool animal_order, size_t iids, size_t sids, size_t a, size_t m) { return animal_order ? a * sids + m : m * iids + a; }
+
+struct reading {
+    uint8_t file[ROOM];
+    size_t len, iids, sids, iid_len, sid_len, val_len;
+    int64_t iid_index[16], sid_index[16];
+    bool flag, order;
+};
+
+/* The checks of reading; 15 asks for the product of the list lengths. */
+static bed_answer read_checks(const struct reading *r, size_t val_len, bool stats_fit) {
+    int64_t e;
+    if (r->iids >= TOO_LARGE || r->sids >= TOO_LARGE) return answer(18, 0, 0);
+    if (val_len != r->iid_len * r->sid_len) return answer(15, 0, 0);
+    if (!stats_fit) return answer(17, 0, 0);
+    bed_answer a = accept(r->file, r->len, r->iids, r->sids);
+    if (a.number) return a;
+    bool mode_1 = r->file[2];
+    bool bad_iid = bad_entry(r->iids, r->iid_index, r->iid_len, &e);
+    if (mode_1 && bad_iid) return answer(5, e, 0);
+    if (bad_entry(r->sids, r->sid_index, r->sid_len, &e)) return answer(mode_1 ? 6 : 5, e, 0);
+    if (bad_iid) return bad_entry(r->iids, r->iid_index, r->iid_len, &e), answer(6, e, 0);
+    return answer(0, 0, 0);
+}
+
+static void read_values(const struct reading *r, double missing, double *val) {
+    for (size_t k = 0; k < r->iid_len; k++)
+        for (size_t m = 0; m < r->sid_len; m++) {
+            int code = code_of(r->file, r->iids, r->sids, means(r->iids, r->iid_index[k]), means(r->sids, r->sid_index[m]));
+            val[place(r->order, r->iid_len, r->sid_len, k, m)] = value_of(code, r->flag, missing);
+        }
+}
+
+/* Standardises, and answers 0, 13 or 14 with the lowest refused marker. */
+static bed_answer standardise(double *val, size_t iids, size_t sids, bool order, bool apply, bool lent, double *stats) {
+    bed_answer a = answer(0, 0, 0);
+    bool refused[ROOM] = {false};
+    for (size_t m = 0; m < sids && !lent; m++) {
+        double count = 0, sum = 0, squares = 0;
+        for (size_t i = 0; i < iids; i++) {
+            double v = val[place(order, iids, sids, i, m)];
+            if (!isnan(v)) count += 1, sum += v, squares += v * v;
+        }
+        double mean = sum / count, variance = squares / count - mean * mean;
+        refused[m] = count == 0 || isnan(mean);
+        if (refused[m] && a.number == 0) a = answer(count == 0 ? 13 : 14, (int64_t)m, 0);
+        if (!refused[m]) stats[2 * m] = mean, stats[2 * m + 1] = isnan(sqrt(variance)) || sqrt(variance) <= 0 ? INFINITY : sqrt(variance);
+    }
+    for (size_t m = 0; m < sids && apply && !(order && a.number); m++)
+        for (size_t i = 0; i < iids && !refused[m]; i++) {
+            double *v = &val[place(order, iids, sids, i, m)];
+            *v = isnan(*v) || isinf(stats[2 * m + 1]) ? 0 : (*v - stats[2 * m]) * (1 / stats[2 * m + 1]);
+        }
+    return a;
+}
+
+/* ---- drawn inputs */
+
+static size_t draw_count(void) { return draw(60) ? draw(10) : draw(2) ? TOO_LARGE + draw(3) : TOO_LARGE - 1 - draw(3); }
+
+static size_t draw_list(size_t count, int64_t *list) {
+    size_t n = draw(8);
+    if (count == 0 && draw(8)) n = 0;
+    for (size_t i = 0; i < n; i++)
+        list[i] = count == 0 || count > 100 || draw(40) == 0 ? (int64_t)draw(40) - 20 : (int64_t)draw(2 * count) - (int64_t)count;
+    return n;
+}
+
+static void draw_reading(struct reading *r) {
+    r->iids = draw_count(), r->sids = draw_count();
+    r->flag = draw(2), r->order = draw(2);
+    for (size_t i = 0; i < ROOM; i++) r->file[i] = (uint8_t)draw(256);
+    uint8_t mode = draw(40) ? (uint8_t)draw(2) : (uint8_t)draw(256);
+    size_t items = mode ? r->iids : r->sids, blocks = mode ? r->sids : r->iids;
+    r->file[0] = draw(60) ? 0x6C : 0x6D, r->file[1] = draw(60) ? 0x1B : 0x1A, r->file[2] = mode;
+    r->len = 3 + (items < 100 && blocks < 100 ? width_of(items) * blocks : 0);
+    if (draw(30) == 0) r->len += 1;
+    if (draw(30) == 0) r->len -= 1 + draw(3) % r->len;
+    r->iid_len = draw_list(r->iids, r->iid_index), r->sid_len = draw_list(r->sids, r->sid_index);
+    r->val_len = r->iid_len * r->sid_len + (draw(40) == 0);
+}
+
+static double draw_value(void) {
+    static const double wild[] = {0, -0.0, 1, 2, 3, 0.5, 1e300, -1e300, 1e-300, INFINITY, -INFINITY, NAN};
+    return draw(12) ? (draw(5) ? (double)draw(3) : NAN) : wild[draw(12)];
+}
+
+/* ---- the calls */
+
+static void files_and_widths(void) {
+    struct reading r;
+    begin("bed_open_and_check");
+    for (int i = 0; i < 2000; i++) {
+        draw_reading(&r);
+        if (draw(10) == 0) r.len = draw(3);
+        bed_answer want = r.len < 3 ? answer(1, 0, 0) : r.file[0] != 0x6C || r.file[1] != 0x1B ? answer(2, 0, 0) : answer(0, r.file[2], 0);
+        same(bed_open_and_check(r.file, r.len), want);
+    }
+    same(bed_open_and_check(NULL, 0), answer(1, 0, 0));
+    end();
+
+    begin("bed_try_div_4");
+    for (int i = 0; i < 2000; i++) {
+        size_t iids = draw_count(), sids = draw_count();
+        bed_answer want = iids >= TOO_LARGE || sids >= TOO_LARGE ? answer(18, 0, 0)
+                          : too_big(iids, sids)                  ? answer(4, 0, 0)
+                                                                 : answer(0, (int64_t)width_of(iids), 0);
+        same(bed_try_div_4(iids, sids), want);
+    }
+    same(bed_try_div_4(TOO_LARGE - 1, 8), answer(4, 0, 0));
+    same(bed_try_div_4(TOO_LARGE - 1, 7), answer(0, (int64_t)1 << 61, 0));
+    end();
+
+    begin("bed_byte_span");
+    for (int i = 0; i < 2000; i++) {
+        int64_t list[16], e, lowest = 0, highest = -1;
+        size_t count = draw_count(), n = draw_list(count, list);
+        bed_answer want = answer(18, 0, 0);
+        if (count < TOO_LARGE) {
+            bool bad = bad_entry(count, list, n, &e);
+            for (size_t k = 0; k < n && !bad; k++) {
+                int64_t byte = (int64_t)(means(count, list[k]) / 4);
+                if (k == 0 || byte < lowest) lowest = byte;
+                if (k == 0 || byte > highest) highest = byte;
+            }
+            want = bad ? answer(5, e, 0) : n == 0 ? answer(0, 0, 0) : answer(0, lowest, highest - lowest + 1);
+        }
+        same(bed_byte_span(count, list, n), want);
+    }
+    end();
+}
+
+static void reading_calls(void) {
+    struct reading r;
+    double val[ROOM], want[ROOM];
+    int8_t small[ROOM];
+    begin("bed_read_f64");
+    for (int i = 0; i < 20000; i++) {
+        draw_reading(&r);
+        double missing = draw(2) ? NAN : draw_value();
+        for (size_t k = 0; k < ROOM; k++) val[k] = want[k] = 9;
+        bed_answer a = read_checks(&r, r.val_len, true);
+        if (a.number == 0) read_values(&r, missing, want);
+        same(bed_read_f64(r.file, r.len, r.iids, r.sids, r.flag, r.iid_index, r.iid_len, r.sid_index, r.sid_len, missing, r.order, val, r.val_len), a);
+        same_floats(val, want, ROOM, "a value");
+    }
+    end();
+
+    begin("bed_read_i8");
+    for (int i = 0; i < 20000; i++) {
+        draw_reading(&r);
+        int8_t missing = (int8_t)((int)draw(256) - 128);
+        int8_t old = (int8_t)draw(100);
+        memset(small, old, ROOM);
+        for (size_t k = 0; k < ROOM; k++) want[k] = old;
+        bed_answer a = read_checks(&r, r.val_len, true);
+        if (a.number == 0) read_values(&r, missing, want);
+        same(bed_read_i8(r.file, r.len, r.iids, r.sids, r.flag, r.iid_index, r.iid_len, r.sid_index, r.sid_len, missing, r.order, small, r.val_len), a);
+        for (size_t k = 0; k < ROOM; k++) val[k] = small[k];
+        same_floats(val, want, ROOM, "a value");
+    }
+    end();
+
+    begin("bed_read_standardised_f64");
+    for (int i = 0; i < 20000; i++) {
+        double stats[64], want_stats[64];
+        draw_reading(&r);
+        size_t stats_len = BED_STATS_PER_MARKER * r.sid_len + (draw(40) == 0);
+        for (size_t k = 0; k < ROOM; k++) val[k] = want[k] = 9;
+        for (size_t k = 0; k < 64; k++) stats[k] = want_stats[k] = 7;
+        bed_answer a = read_checks(&r, r.val_len, stats_len == 2 * r.sid_len);
+        if (a.number == 0) {
+            read_values(&r, NAN, want);
+            a = standardise(want, r.iid_len, r.sid_len, r.order, true, false, want_stats);
+        }
+        same(bed_read_standardised_f64(r.file, r.len, r.iids, r.sids, r.flag, r.iid_index, r.iid_len, r.sid_index, r.sid_len, r.order, val, r.val_len, stats, stats_len), a);
+        same_floats(val, want, ROOM, "a value");
+        same_floats(stats, want_stats, 64, "a statistic");
+    }
+    end();
+
+    begin("bed_canonical");
+    for (int i = 0; i < 20000; i++) {
+        uint8_t out[ROOM], want_out[ROOM];
+        draw_reading(&r);
+        memset(out, 0xAA, ROOM), memset(want_out, 0xAA, ROOM);
+        size_t out_len = 3 + (r.iids < 100 && r.sids < 100 ? width_of(r.iids) * r.sids : 0) + (draw(40) == 0);
+        bed_answer a = r.iids >= TOO_LARGE || r.sids >= TOO_LARGE ? answer(18, 0, 0) : accept(r.file, r.len, r.iids, r.sids);
+        if (a.number == 0 && too_big(r.iids, r.sids)) a = answer(4, 0, 0);
+        if (a.number == 0 && out_len != 3 + width_of(r.iids) * r.sids) a = answer(16, 0, 0);
+        if (a.number == 0) {
+            memset(want_out, 0, out_len);
+            want_out[0] = 0x6C, want_out[1] = 0x1B, want_out[2] = 1;
+            for (size_t m = 0; m < r.sids && r.iids; m++)
+                for (size_t k = 0; k < r.iids; k++)
+                    want_out[3 + m * width_of(r.iids) + k / 4] |= (uint8_t)(code_of(r.file, r.iids, r.sids, k, m) << (2 * (k % 4)));
+        }
+        same(bed_canonical(r.file, r.len, r.iids, r.sids, out, out_len), a);
+        if (memcmp(out, want_out, ROOM)) fail("a byte");
+    }
+    end();
+}
+
+/* Packing and writing at one of the widths; the plain sentences speak of doubles. */
+static void packing(bool narrow) {
+    begin(narrow ? "bed_encode1_i8" : "bed_encode1_f64");
+    for (int i = 0; i < 20000; i++) {
+        double in[64], missing = narrow ? (double)(int)draw(256) - 128 : draw(2) ? NAN : draw_value();
+        int8_t small[64];
+        uint8_t out[32], want[32];
+        size_t n = draw(40), out_len = width_of(n) + (draw(40) == 0), bad = n;
+        bool flag = draw(2);
+        for (size_t k = 0; k < n; k++) {
+            in[k] = draw(100) ? (draw(5) ? (double)draw(3) : missing) : narrow ? (double)(int)draw(256) - 128 : draw_value();
+            if (narrow) small[k] = (int8_t)in[k];
+            if (bad == n && coded(in[k], flag, missing) < 0) bad = k;
+        }
+        memset(out, 0xAA, 32), memset(want, 0xAA, 32);
+        bed_answer a = out_len != width_of(n) ? answer(16, 0, 0) : bad < n ? answer(7, (int64_t)bad, 0) : answer(0, 0, 0);
+        if (a.number != 16) {
+            size_t until = bad < n ? bad / 4 * 4 : n;
+            memset(want, 0, width_of(until));
+            for (size_t k = 0; k < until; k++) want[k / 4] |= (uint8_t)(coded(in[k], flag, missing) << (2 * (k % 4)));
+        }
+        same(narrow ? bed_encode1_i8(small, n, out, out_len, flag, (int8_t)missing) : bed_encode1_f64(in, n, out, out_len, flag, missing), a);
+        if (memcmp(out, want, 32)) fail("a byte");
+    }
+    end();
+
+    begin(narrow ? "bed_write_i8" : "bed_write_f64");
+    for (int i = 0; i < 20000; i++) {
+        double val[ROOM], missing = narrow ? (double)(int)draw(256) - 128 : draw(2) ? NAN : draw_value();
+        int8_t small[ROOM];
+        uint8_t out[ROOM], want[ROOM];
+        size_t iids = draw_count(), sids = draw_count(), few = iids < 100 && sids < 100;
+        size_t val_len = (few ? iids * sids : 0) + (draw(40) == 0), out_len = 3 + (few ? width_of(iids) * sids : 0) + (draw(40) == 0);
+        bool flag = draw(2), order = draw(2);
+        for (size_t k = 0; k < val_len; k++) {
+            val[k] = draw(300) ? (draw(5) ? (double)draw(3) : missing) : narrow ? (double)(int)draw(256) - 128 : draw_value();
+            if (narrow) small[k] = (int8_t)val[k];
+        }
+        memset(out, 0xAA, ROOM), memset(want, 0xAA, ROOM);
+        bed_answer a = answer(0, 0, 0);
+        if (iids >= TOO_LARGE || sids >= TOO_LARGE) a = answer(18, 0, 0);
+        else if (too_big(iids, sids)) a = answer(4, 0, 0);
+        else if ((unsigned __int128)iids * sids != val_len) a = answer(15, 0, 0);
+        else if (out_len != 3 + width_of(iids) * sids) a = answer(16, 0, 0);
+        else
+            for (size_t m = 0; m < sids && iids && a.number == 0; m++)
+                for (size_t k = 0; k < iids && a.number == 0; k++)
+                    if (coded(val[place(order, iids, sids, k, m)], flag, missing) < 0) a = answer(7, (int64_t)k, (int64_t)m);
+        if (a.number == 0) {
+            memset(want, 0, out_len);
+            want[0] = 0x6C, want[1] = 0x1B, want[2] = 1;
+            for (size_t m = 0; m < sids && iids; m++)
+                for (size_t k = 0; k < iids; k++)
+                    want[3 + m * width_of(iids) + k / 4] |= (uint8_t)(coded(val[place(order, iids, sids, k, m)], flag, missing) << (2 * (k % 4)));
+        }
+        same(narrow ? bed_write_i8(small, val_len, iids, sids, order, flag, (int8_t)missing, out, out_len)
+                    : bed_write_f64(val, val_len, iids, sids, order, flag, missing, out, out_len), a);
+        if (memcmp(out, want, ROOM)) fail("a byte");
+    }
+    end();
+}
+
+static void standardising(void) {
+    begin("bed_impute_and_zero_mean_snps_f64");
+    for (int i = 0; i < 20000; i++) {
+        double val[ROOM], want[ROOM], stats[64], want_stats[64];
+        size_t iids = draw_count(), sids = draw_count(), few = iids < 100 && sids < 100;
+        size_t val_len = (few ? iids * sids : 0) + (draw(40) == 0), stats_len = (sids < 100 ? 2 * sids : 0) + (draw(40) == 0);
+        bool order = draw(2), apply = draw(2), lent = draw(2);
+        for (size_t k = 0; k < ROOM; k++) val[k] = want[k] = draw_value();
+        for (size_t k = 0; k < 64; k++) stats[k] = want_stats[k] = draw_value();
+        bed_answer a = answer(0, 0, 0);
+        if (iids >= TOO_LARGE || sids >= TOO_LARGE) a = answer(18, 0, 0);
+        else if ((unsigned __int128)iids * sids != val_len) a = answer(15, 0, 0);
+        else if ((unsigned __int128)2 * sids != stats_len) a = answer(17, 0, 0);
+        else a = standardise(want, iids, sids, order, apply, lent, want_stats);
+        same(bed_impute_and_zero_mean_snps_f64(val, val_len, iids, sids, order, apply, lent, stats, stats_len), a);
+        same_floats(val, want, ROOM, "a value");
+        same_floats(stats, want_stats, 64, "a statistic");
+    }
+    /* "Column 0, 2, NaN: mean 1, deviation 1, values -1, 1, +0. Column 1, 1: deviation infinite, values +0." "All-NaN column: 13." */
+    double column[3] = {0, 2, NAN}, ones[2] = {1, 1}, none[2] = {NAN, NAN}, s[2] = {9, 9};
+    same(bed_impute_and_zero_mean_snps_f64(column, 3, 3, 1, false, true, false, s, 2), answer(0, 0, 0));
+    same_floats(column, (double[]){-1, 1, 0}, 3, "a value");
+    same_floats(s, (double[]){1, 1}, 2, "a statistic");
+    same(bed_impute_and_zero_mean_snps_f64(ones, 2, 2, 1, true, true, false, s, 2), answer(0, 0, 0));
+    same_floats(ones, (double[]){0, 0}, 2, "a value");
+    same_floats(s, (double[]){1, INFINITY}, 2, "a statistic");
+    same(bed_impute_and_zero_mean_snps_f64(none, 2, 2, 1, false, true, false, s, 2), answer(13, 0, 0));
+    end();
+
+    begin("bed_root_f64");
+    for (int i = 0; i < 200000; i++) {
+        uint64_t bits = draw(3) ? draw(UINT64_MAX) : draw(1ull << 54);
+        double v, r, want;
+        memcpy(&v, &bits, 8);
+        r = bed_root_f64(v), want = sqrt(v);
+        same_floats(&r, &want, 1, "the root");
+        calls++;
+    }
+    end();
+}
+
+/* The list that is lent, how long it is said to be, and the list that should stand at its front. */
+static int64_t list[64], wanted[64];
+static size_t room, wanted_len;
+
+static void fresh(void) {
+    for (size_t k = 0; k < 64; k++) list[k] = 77;
+    room = draw(10) ? 48 : draw(12);
+    wanted_len = 0;
+}
+
+static void want_entry(int64_t e) {
+    if (wanted_len < 64) wanted[wanted_len] = e;
+    wanted_len++;
+}
+
+/* number: what is refused before 19, or 0 */
+static void same_list(bed_answer got, uint64_t number) {
+    int64_t later[64];
+    for (size_t k = 0; k < 64; k++) later[k] = 77;
+    if (number == 0 && wanted_len > room) number = 19;
+    if (number == 0) memcpy(later, wanted, 8 * wanted_len);
+    same(got, number ? answer(number, 0, 0) : answer(0, (int64_t)wanted_len, 0));
+    if (memcmp(list, later, sizeof list)) fail("the list");
+}
+
+static void lists(void) {
+    begin("bed_index_all");
+    for (int i = 0; i < 2000; i++) {
+        size_t count = draw_count();
+        fresh();
+        for (size_t k = 0; k < count && k < 60; k++) want_entry((int64_t)k);
+        same_list(bed_index_all(count, list, room), count >= TOO_LARGE ? 18 : 0);
+    }
+    end();
+
+    begin("bed_index_one");
+    for (int i = 0; i < 2000; i++) {
+        size_t count = draw_count();
+        int64_t one = (int64_t)draw(UINT64_MAX);
+        fresh();
+        want_entry(one);
+        same_list(bed_index_one(count, one, list, room), count >= TOO_LARGE ? 18 : 0);
+    }
+    end();
+
+    begin("bed_index_vec");
+    for (int i = 0; i < 2000; i++) {
+        size_t count = draw_count();
+        int64_t vec[16];
+        size_t n = draw(16);
+        fresh();
+        for (size_t k = 0; k < n; k++) want_entry(vec[k] = (int64_t)draw(40) - 20);
+        same_list(bed_index_vec(count, vec, n, list, room), count >= TOO_LARGE ? 18 : 0);
+    }
+    end();
+
+    begin("bed_index_bool");
+    for (int i = 0; i < 2000; i++) {
+        size_t count = draw_count(), n = (count < 16 ? count : 3) + (draw(20) == 0);
+        uint8_t marks[32];
+        fresh();
+        for (size_t k = 0; k < n; k++)
+            if ((marks[k] = draw(2) ? (uint8_t)draw(256) : 0)) want_entry((int64_t)k);
+        same_list(bed_index_bool(count, marks, n, list, room), count >= TOO_LARGE ? 18 : n != count ? 8 : 0);
+    }
+    end();
+
+    begin("bed_index_range");
+    for (int i = 0; i < 4000; i++) {
+        size_t count = draw_count(), start = draw(30) ? draw(12) : TOO_LARGE - draw(2), stop = draw(30) ? draw(20) : TOO_LARGE - draw(2);
+        bool has_start = draw(3), has_stop = draw(3);
+        size_t from = has_start ? start : 0, to = has_stop ? stop : count;
+        uint64_t number = count >= TOO_LARGE || from >= TOO_LARGE || to >= TOO_LARGE ? 18 : from > to ? 12 : 0;
+        fresh();
+        for (size_t k = from; k < to && wanted_len < 60; k++) want_entry((int64_t)k);
+        same_list(bed_index_range(count, has_start, start, has_stop, stop, list, room), number);
+    }
+    end();
+
+    begin("bed_to_range");
+    for (int i = 0; i < 4000; i++) {
+        size_t count = draw_count(), start = draw(30) ? draw(12) : TOO_LARGE - draw(2), stop = draw(30) ? draw(20) : TOO_LARGE - draw(2);
+        bool has_start = draw(3), has_stop = draw(3);
+        size_t from = has_start ? start : 0, to = has_stop ? stop : count;
+        uint64_t number = count >= TOO_LARGE || from >= TOO_LARGE || to >= TOO_LARGE ? 18 : from > to ? 12 : 0;
+        same(bed_to_range(count, has_start, start, has_stop, stop), number ? answer(number, 0, 0) : answer(0, (int64_t)from, (int64_t)to));
+    }
+    end();
+
+    begin("bed_index_slice");
+    for (int i = 0; i < 20000; i++) {
+        size_t count = draw(60) ? draw(20) : TOO_LARGE;
+        int64_t start = (int64_t)draw(44) - 22, stop = (int64_t)draw(44) - 22, step = (int64_t)draw(9) - 4;
+        bool has_stop = draw(3);
+        if (draw(50) == 0) start = INT64_MIN;
+        if (draw(50) == 0) stop = INT64_MIN;
+        if (draw(50) == 0) step = INT64_MIN;
+        uint64_t start_size = start < 0 ? -(uint64_t)start : (uint64_t)start, stop_size = stop < 0 ? -(uint64_t)stop : (uint64_t)stop;
+        uint64_t number = count >= TOO_LARGE ? 18 : step == 0 ? 9 : start_size > count ? 10 : has_stop && stop_size > count ? 11 : 0;
+        fresh();
+        if (number == 0) {
+            int64_t from = start < 0 ? (int64_t)count + start : start, to = !has_stop ? (int64_t)count : stop < 0 ? (int64_t)count + stop : stop;
+            if (step > 0)
+                for (int64_t k = from; k < to; k += step) want_entry(k);
+            else
+                for (__int128 k = (__int128)to - 1; k >= from; k += step) want_entry((int64_t)k);
+        }
+        same_list(bed_index_slice(count, start, has_stop, stop, step, list, room), number);
+    }
+    /* "Count 6, slice 1 to 6 step -2: 5, 3, 1." */
+    fresh();
+    want_entry(5), want_entry(3), want_entry(1);
+    same_list(bed_index_slice(6, 1, true, 6, -2, list, room), 0);
+    end();
+}
+
+static void products(bool over_columns) {
+    begin(over_columns ? "bed_file_ata_piece" : "bed_file_aat_piece");
+    for (int i = 0; i < 20000; i++) {
+        static uint8_t bytes[2048];
+        double matrix[256], piece[128], want[128];
+        size_t rows = draw(60) ? draw(9) : draw_count(), columns = draw(60) ? draw(9) : draw_count(), few = rows < 12 && columns < 12;
+        size_t total = over_columns ? columns : rows, offset = draw(30) ? draw(20) : UINT64_MAX - draw(20);
+        size_t start = total && total < 12 ? draw(total) : draw(3), height = total - start, width = draw(height < 12 ? height + 1 : 3);
+        if (draw(30) == 0) start += 1;
+        if (draw(30) == 0) height += 1;
+        if (draw(30) == 0) width += 1 + draw(4);
+        size_t piece_len = (height < 12 && width < 12 ? height * width : 0) + (draw(30) == 0);
+        size_t bytes_len = few && offset < 20 ? offset + 8 * rows * columns + draw(3) : draw(100);
+        if (bytes_len && draw(20) == 0) bytes_len -= 1;
+        if (piece_len > 128) piece_len = 128;
+        for (size_t k = 0; k < 256; k++) matrix[k] = draw_value();
+        for (size_t k = 0; k < sizeof bytes; k++) bytes[k] = (uint8_t)draw(256);
+        if (few && offset < 20) memcpy(bytes + offset, matrix, 8 * rows * columns);
+        for (size_t k = 0; k < 128; k++) piece[k] = want[k] = 9;
+        bed_answer a = answer(0, 0, 0);
+        if (rows >= TOO_LARGE || columns >= TOO_LARGE || start >= TOO_LARGE || height >= TOO_LARGE || width >= TOO_LARGE) a = answer(18, 0, 0);
+        else if (start >= total || start + height != total || start + width > total || (over_columns && width == 0)) a = answer(20, 0, 0);
+        else if ((unsigned __int128)height * width != piece_len) a = answer(15, 0, 0);
+        else if (rows && columns && bytes_len < offset + (unsigned __int128)8 * rows * columns) a = answer(1, 0, 0);
+        else
+            for (size_t r = 0; r < height; r++)
+                for (size_t c = 0; c < width; c++) {
+                    size_t x = start + (c <= r ? r : c), y = start + (c <= r ? c : r);
+                    double sum = 0;
+                    if (over_columns)
+                        for (size_t k = 0; k < rows; k++) sum += matrix[x * rows + k] * matrix[y * rows + k];
+                    else
+                        for (size_t k = 0; k < columns; k++) sum += matrix[k * rows + x] * matrix[k * rows + y];
+                    want[r * width + c] = !over_columns && c > r ? 0 : sum;
+                }
+        same(over_columns ? bed_file_ata_piece(bytes, bytes_len, offset, rows, columns, start, height, width, piece, piece_len)
+                          : bed_file_aat_piece(bytes, bytes_len, offset, rows, columns, start, height, width, piece, piece_len), a);
+        same_floats(piece, want, 128, "an entry");
+    }
+    end();
+}
+
+/* Counts that nothing lent backs: each call returns at once. */
+static void bounded(void) {
+    const uint8_t header[2][3] = {{0x6C, 0x1B, 0}, {0x6C, 0x1B, 1}};
+    size_t large = TOO_LARGE - 1;
+    double piece[1];
+    begin("counts that nothing lent backs");
+    same(bed_read_f64(header[1], 3, 0, large, true, NULL, 0, NULL, 0, NAN, false, NULL, 0), answer(0, 0, 0));
+    same(bed_read_f64(header[0], 3, large, 0, true, NULL, 0, NULL, 0, NAN, true, NULL, 0), answer(0, 0, 0));
+    same(bed_canonical(header[1], 3, 0, large, (uint8_t[3]){0}, 3), answer(0, 0, 0));
+    same(bed_write_i8(NULL, 0, 0, large, false, true, 0, (uint8_t[3]){0}, 3), answer(0, 0, 0));
+    same(bed_impute_and_zero_mean_snps_f64(NULL, 0, large, 0, false, true, false, NULL, 0), answer(0, 0, 0));
+    same(bed_file_aat_piece(NULL, 0, 0, large, 0, large - 1, 1, 0, NULL, 0), answer(0, 0, 0));
+    same(bed_file_ata_piece(NULL, 0, 0, 0, large, large - 1, 1, 1, piece, 1), answer(0, 0, 0));
+    same(bed_index_range(large, false, 0, false, 0, list, 4), answer(19, 0, 0));
+    same(bed_index_slice(large, 0, false, 0, 1, list, 4), answer(19, 0, 0));
+    end();
+}
+
+int main(void) {
+    files_and_widths();
+    reading_calls();
+    packing(true);
+    packing(false);
+    standardising();
+    lists();
+    products(true);
+    products(false);
+    bounded();
+    printf("every call of the header was used; %lu calls, none differs\n", all_calls);
+    return 0;
+}
