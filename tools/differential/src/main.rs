@@ -1,0 +1,2 @@
+mod original;
+fn main() { println!("{}", env!("CUT")); }
