@@ -1,2 +1,144 @@
+//! Runs the original's own lines and the library side by side on drawn inputs (README.md).
+mod case;
+mod draw;
+mod library;
 mod original;
-fn main() { println!("{}", env!("CUT")); }
+mod short;
+mod want;
+
+use case::*;
+use draw::Rng;
+use std::collections::BTreeMap;
+use want::{Did, Folder};
+
+/// What was seen of one call.
+#[derive(Default)]
+struct Seen {
+    cases: u64,
+    /// The library's number, and by whom it was compared: the original, or document 01's named difference.
+    numbers: BTreeMap<u64, (u64, u64)>,
+    named: BTreeMap<&'static str, (u64, BTreeMap<Did, u64>, String)>,
+    panicked: (u64, String),
+    different: (u64, String),
+}
+
+/// The shorter line, and of two as long the lesser.
+fn keep_least(least: &mut String, line: String) {
+    if least.is_empty() || (line.len(), &line) < (least.len(), &*least) {
+        *least = line;
+    }
+}
+
+fn judge(seen: &mut Seen, case: &Case, folder: &Folder) {
+    let want = want::want(case, folder);
+    let got = library::run(case);
+    seen.cases += 1;
+    if let Some(name) = want.named {
+        let entry = seen.named.entry(name).or_default();
+        entry.0 += 1;
+        *entry.1.entry(want.did).or_default() += 1;
+        keep_least(&mut entry.2, case.line());
+    }
+    match want.outcome {
+        None => {
+            seen.panicked.0 += 1;
+            keep_least(&mut seen.panicked.1, case.line());
+        }
+        Some(outcome) if outcome == got => {
+            let entry = seen.numbers.entry(got.number).or_default();
+            match want.named {
+                None => entry.0 += 1,
+                Some(_) => entry.1 += 1,
+            }
+        }
+        Some(outcome) => {
+            seen.different.0 += 1;
+            let line = format!("{}\n    wanted: {}\n    library: {}", case.line(), outcome.line(), got.line());
+            keep_least(&mut seen.different.1, line);
+        }
+    }
+}
+
+fn print(name: &str, seen: &Seen) {
+    println!("{name}: {} cases", seen.cases);
+    for (number, (original, document)) in &seen.numbers {
+        let number = if *number == 0 { "done".to_string() } else { format!("{number:4}") };
+        println!("    {number}  {original:9} as the original  {document:9} as document 01's named difference");
+    }
+    for (name, (count, did, least)) in &seen.named {
+        let did: Vec<String> = did
+            .iter()
+            .map(|(did, n)| match did {
+                Did::Answered(0) => format!("done {n}"),
+                Did::Answered(number) => format!("{number} {n}"),
+                Did::Panicked => format!("panicked {n}"),
+                Did::NotRun => format!("not run {n}"),
+            })
+            .collect();
+        println!("    named: {name}: {count} (the original: {}); least: {least}", did.join(", "));
+    }
+    if seen.panicked.0 > 0 {
+        println!("    the original panicked, so outside the domain: {}; least: {}", seen.panicked.0, seen.panicked.1);
+    }
+    if seen.different.0 > 0 {
+        println!("    DIFFERENT: {}; least: {}", seen.different.0, seen.different.1);
+    }
+}
+
+fn roots(rng: &mut Rng, draws: u64) -> Seen {
+    let mut seen = Seen::default();
+    for _ in 0..draws {
+        let bits = draw::root_draw(rng);
+        let v = f64::from_bits(bits);
+        let (got, want) = (alike(library::root(v).to_bits()), alike(v.sqrt().to_bits()));
+        seen.cases += 1;
+        if got == want {
+            seen.numbers.entry(0).or_default().0 += 1;
+        } else {
+            seen.different.0 += 1;
+            keep_least(&mut seen.different.1, format!("{bits:x}: wanted {want:x}, library {got:x}"));
+        }
+    }
+    seen
+}
+
+fn main() {
+    // One thread makes the original's choice among several errors repeatable.
+    std::env::set_var("RAYON_NUM_THREADS", "1");
+    std::panic::set_hook(Box::new(|_| {}));
+    let mut words: BTreeMap<String, String> = BTreeMap::new();
+    for word in std::env::args().skip(1) {
+        let (key, value) = word.split_once('=').unwrap_or((&word, ""));
+        words.insert(key.into(), value.into());
+    }
+    let number = |key: &str, or: u64| words.get(key).map_or(or, |v| v.parse().unwrap_or_else(|_| panic!("{key}")));
+    let (seed, draws, root_draws) = (number("seed", 1), number("draws", 100_000), number("roots", 20_000_000));
+    let dir = std::path::PathBuf::from(words.get("dir").cloned().unwrap_or_else(|| std::env::temp_dir().display().to_string()));
+    let folder = Folder { file: dir.join(format!("differential-{}.in", std::process::id())), out: dir.join(format!("differential-{}.out", std::process::id())) };
+
+    println!("the original: {}, cut out of its source", env!("CUT"));
+    println!("seed {seed}, {draws} draws for each call, {root_draws} for the root");
+    let mut different = 0;
+    for (i, (name, _)) in CALLS.iter().enumerate() {
+        if words.get("call").is_some_and(|only| only != name) {
+            continue;
+        }
+        let mut rng = Rng(seed.wrapping_mul(1000).wrapping_add(i as u64));
+        let seen = if *name == "root_f64" {
+            roots(&mut rng, root_draws)
+        } else {
+            let mut seen = Seen::default();
+            short::each(name, &mut |case| judge(&mut seen, &case, &folder));
+            for _ in 0..draws {
+                judge(&mut seen, &draw::draw(name, &mut rng), &folder);
+            }
+            seen
+        };
+        print(name, &seen);
+        different += seen.different.0;
+    }
+    let _ = std::fs::remove_file(&folder.file);
+    let _ = std::fs::remove_file(&folder.out);
+    println!("{}", if different == 0 { "no difference but the named ones" } else { "DIFFERENT" });
+    std::process::exit(if different == 0 { 0 } else { 1 });
+}
