@@ -9,7 +9,7 @@ pub enum Kind {
 }
 
 /// A parameter: a number, a buffer that is only read, or one that may be written.
-#[derive(Clone, Copy)]
+#[derive(Clone, Copy, Debug)]
 pub enum Par {
     Num,
     In(Kind),
@@ -98,8 +98,13 @@ pub fn i64_bits(values: &[i64]) -> Vec<u64> {
 impl Case {
     pub fn new(name: &str, args: Vec<Arg>) -> Case {
         let case = Case { call: call(name), args };
-        let fits = |(par, arg): (&Par, &Arg)| matches!((par, arg), (Num, Arg::N(_)) | (In(_) | Out(_), Arg::B(_)));
-        assert!(CALLS[case.call].1.len() == case.args.len() && CALLS[case.call].1.iter().zip(&case.args).all(fits), "{name}");
+        let fits = |(par, arg): (&Par, &Arg)| match (par, arg) {
+            (Num, Arg::N(_)) => true,
+            (In(U8 | I8) | Out(U8 | I8), Arg::B(b)) => b.iter().all(|&v| v < 256),
+            (In(_) | Out(_), Arg::B(_)) => true,
+            _ => false,
+        };
+        assert!(CALLS[case.call].1.len() == case.args.len() && CALLS[case.call].1.iter().zip(&case.args).all(fits), "{name} {:?}", CALLS[case.call].1);
         case
     }
 

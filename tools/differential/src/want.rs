@@ -409,7 +409,7 @@ fn piece(c: &Case, folder: &Folder, ata: bool) -> Want {
     fs::write(&folder.file, &bytes).unwrap();
     let p = Piece { offset, row_count: rows as usize, col_count: cols as usize, start: start as usize, shape };
     let said = guarded(|| ask_piece(&folder.file, ata, &p, &mut piece));
-    if sound && need > u64::MAX as u128 && short {
+    if sound && need > u64::MAX as u128 && short && said.is_some_and(|s| s.number != 1) {
         return document(did(said), c.unwritten(1, 0, 0), "positions that wrap");
     }
     if said.is_some_and(|s| s.number == 1) {
