@@ -4,6 +4,7 @@ mod draw;
 mod library;
 mod list;
 mod original;
+mod plink;
 mod short;
 mod want;
 
@@ -142,6 +143,9 @@ fn main() {
 
     if words.contains_key("list") {
         return list::print(seed, &folder);
+    }
+    if let Some(program) = words.get("plink") {
+        std::process::exit((plink::compare(program, number("files", 300), seed, &dir) > 0) as i32);
     }
     println!("the original: {}, cut out of its source", env!("CUT"));
     println!("seed {seed}, {draws} draws for each call, {root_draws} for the root");
