@@ -6,6 +6,7 @@ mod list;
 mod original;
 mod plink;
 mod short;
+mod threads;
 mod want;
 
 use case::*;
@@ -128,8 +129,6 @@ fn roots(rng: &mut Rng, draws: u64) -> Seen {
 }
 
 fn main() {
-    // One thread makes the original's choice among several errors repeatable.
-    std::env::set_var("RAYON_NUM_THREADS", "1");
     std::panic::set_hook(Box::new(|_| {}));
     let mut words: BTreeMap<String, String> = BTreeMap::new();
     for word in std::env::args().skip(1) {
@@ -141,6 +140,11 @@ fn main() {
     let dir = std::path::PathBuf::from(words.get("dir").cloned().unwrap_or_else(|| std::env::temp_dir().display().to_string()));
     let folder = Folder { file: dir.join(format!("differential-{}.in", std::process::id())), out: dir.join(format!("differential-{}.out", std::process::id())) };
 
+    // One thread makes the original's choice among several errors repeatable.
+    std::env::set_var("RAYON_NUM_THREADS", words.get("threads").map_or("1", |n| n));
+    if words.contains_key("threads") {
+        return threads::print(number("threads", 1) as usize, number("times", 10_000), &folder);
+    }
     if words.contains_key("list") {
         return list::print(seed, &folder);
     }

@@ -34,6 +34,13 @@ pub struct Said {
     pub second: i64,
 }
 
+/// How many threads the original is given.
+pub static THREADS: std::sync::atomic::AtomicUsize = std::sync::atomic::AtomicUsize::new(1);
+
+fn threads() -> usize {
+    THREADS.load(std::sync::atomic::Ordering::Relaxed)
+}
+
 pub const DONE: Said = Said { number: 0, first: 0, second: 0 };
 
 fn refused(e: Box<BedErrorPlus>) -> Said {
@@ -102,7 +109,7 @@ pub struct Reading<'a> {
 pub fn ask_read<T: BedVal>(path: &Path, r: &Reading, missing: T, val: &mut [T]) -> Said {
     let mut view = nd::ArrayViewMut2::from_shape(r.shape.set_f(!r.animal_order), val).expect("a shape that fits");
     let (iids, sids) = (isizes(r.iid_index), isizes(r.sid_index));
-    said(read_no_alloc(path, r.iid_count, r.sid_count, r.is_a1_counted, &iids, &sids, missing, 1, &mut view))
+    said(read_no_alloc(path, r.iid_count, r.sid_count, r.is_a1_counted, &iids, &sids, missing, threads(), &mut view))
 }
 
 pub fn ask_encode<T: BedVal>(input: &[T], out: &mut [u8], is_a1_counted: bool, missing: T) -> Said {
@@ -111,7 +118,7 @@ pub fn ask_encode<T: BedVal>(input: &[T], out: &mut [u8], is_a1_counted: bool, m
 
 pub fn ask_write<T: BedVal>(path: &Path, val: &[T], shape: (usize, usize), animal_order: bool, is_a1_counted: bool, missing: T) -> Said {
     let view = nd::ArrayView2::from_shape(shape.set_f(!animal_order), val).expect("a shape that fits");
-    said(write_val(path, &view, is_a1_counted, missing, 1))
+    said(write_val(path, &view, is_a1_counted, missing, threads()))
 }
 
 /// `records`: the rows of two of the statistics.

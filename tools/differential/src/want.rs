@@ -388,23 +388,25 @@ fn piece(c: &Case, folder: &Folder, ata: bool) -> Want {
     if [rows, cols, start, height, width].iter().any(|&x| x > TOP) {
         return document(Did::NotRun, c.unwritten(18, 0, 0), "18 added");
     }
-    if ata && width == 0 {
-        return document(Did::NotRun, c.unwritten(20, 0, 0), "20 for width 0 of A'A: the original takes 1 from it");
-    }
     let total = if ata { cols } else { rows };
     let shape = (height as usize, width as usize);
+    // Sums of two numbers under 2^63 do not wrap.
+    let sound = start < total && start + height == total && start + width <= total;
+    if ata && width == 0 && sound {
+        return document(Did::NotRun, c.unwritten(20, 0, 0), "20 for width 0 of A'A: the original takes 1 from it");
+    }
     if product(shape) != piece.len() as u128 {
-        // Sums of two numbers under 2^63 do not wrap.
-        let number = if start >= total || start + height != total || start + width > total { 20 } else { 15 };
+        let number = if sound { 15 } else { 20 };
         return document(Did::NotRun, c.unwritten(number, 0, 0), "15, outside the domain (20 comes before it)");
     }
     let need = offset as u128 + 8 * rows as u128 * cols as u128;
     let short = rows > 0 && cols > 0 && (bytes.len() as u128) < need;
-    let sound = start < total && start + height == total && start + width <= total;
     let column = if ata { rows } else { height };
-    if sound && (column > MOST || (!ata && cols > MOST && rows % (1 << 61) == 0)) {
+    let endless = !ata && cols > MOST && rows % (1 << 61) == 0;
+    if sound && (column > MOST || endless) {
         let (number, written) = if short { (1, c.before()) } else { (0, vec![vec![0; piece.len()]]) };
-        return document(Did::NotRun, Outcome { written, ..c.unwritten(number, 0, 0) }, "a column of more values than there is room for, or endless columns");
+        let name = if endless { "positions that wrap, without end" } else { "a column of more values than there is room for" };
+        return document(Did::NotRun, Outcome { written, ..c.unwritten(number, 0, 0) }, name);
     }
     fs::write(&folder.file, &bytes).unwrap();
     let p = Piece { offset, row_count: rows as usize, col_count: cols as usize, start: start as usize, shape };

@@ -1,0 +1,54 @@
+//! What the original answers to the same input, again and again, with several threads. Only rayon's part of it is parallel: the stand-ins are not.
+use crate::case::*;
+use crate::original::*;
+use crate::want::Folder;
+use std::collections::BTreeMap;
+use std::fs;
+
+fn count(name: &str, times: u64, mut f: impl FnMut() -> String) {
+    let mut answers: BTreeMap<String, u64> = BTreeMap::new();
+    for _ in 0..times {
+        *answers.entry(f()).or_default() += 1;
+    }
+    println!("{name}:");
+    answers.iter().for_each(|(answer, n)| println!("    {n} times {answer}"));
+}
+
+fn text(s: Said) -> String {
+    match s.number {
+        5 | 6 => format!("{}, which carries {}", s.number, s.first),
+        n => n.to_string(),
+    }
+}
+
+pub fn print(threads: usize, times: u64, folder: &Folder) {
+    THREADS.store(threads, std::sync::atomic::Ordering::Relaxed);
+    println!("the original with {threads} threads, each input {times} times");
+    fs::write(&folder.file, [0x6c, 0x1b, 1, 0xe4, 0, 0x2f, 2]).unwrap();
+    let reading = |iid_index: &[i64], sid_index: &[i64]| {
+        let shape = (iid_index.len(), sid_index.len());
+        let mut val = vec![9i8; shape.0 * shape.1];
+        let r = Reading { iid_count: 5, sid_count: 2, is_a1_counted: true, iid_index, sid_index, animal_order: false, shape };
+        let said = ask_read(&folder.file, &r, -127, &mut val);
+        let columns: Vec<usize> = (0..shape.1).filter(|&j| val[j * shape.0..][..shape.0].iter().any(|&v| v != 9)).collect();
+        format!("{}; columns written: {columns:?}", text(said))
+    };
+    count("reading F, animals [5, 6], markers [0]", times, || reading(&[5, 6], &[0]));
+    count("reading F, animals [0], markers [2, 3]", times, || reading(&[0], &[2, 3]));
+    let bad: Vec<i64> = (2..66).collect();
+    count("reading F, animals [0], markers [2, 3, 4 and so on up to 65]", times, || reading(&[0], &bad));
+    count("reading F, animals [0], markers [0, 2, 1]", times, || reading(&[0], &[0, 2, 1]));
+    for (order, animal_order) in [("marker", false), ("animal", true)] {
+        count(&format!("standardising in {order} order, a marker of infinities of both signs and 63 of NaN"), times, || {
+            let mut val = [f64::NAN; 128];
+            val[0] = f64::INFINITY;
+            val[if animal_order { 64 } else { 1 }] = f64::NEG_INFINITY;
+            text(ask_impute(&mut val, (2, 64), animal_order, true, false, &mut [0.5; 128], 64))
+        });
+    }
+    count("packing 0 1 2 2 0 3 1", times, || {
+        let mut out = [0xee; 2];
+        let said = ask_encode(&[0i8, 1, 2, 2, 0, 3, 1], &mut out, true, -127);
+        format!("{}; bytes {:x?}", text(said), u8_bits(&out))
+    });
+}
