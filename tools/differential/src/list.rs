@@ -284,3 +284,42 @@ pub fn print(seed: u64, folder: &Folder) {
         }
     }
 }
+
+/// A stored list, read back: each line's case and what stands for its answer.
+fn parse(line: &str) -> Option<(Case, String)> {
+    let words: Vec<u64> = line.split(' ').map(|w| u64::from_str_radix(w, 16).ok()).collect::<Option<_>>()?;
+    let call = (words[1] as usize).checked_sub(1)?;
+    let mut at = 2;
+    let mut args = vec![];
+    for par in CALLS.get(call)?.1 {
+        let n = *words.get(at)?;
+        at += 1;
+        args.push(match par {
+            Par::Num => N(n),
+            _ => {
+                let buffer = words.get(at..at + n as usize)?.to_vec();
+                at += n as usize;
+                B(buffer)
+            }
+        });
+    }
+    let answer = line.split(' ').skip(at).collect::<Vec<&str>>().join(" ");
+    Some((Case::new(CALLS[call].0, args), answer))
+}
+
+/// Runs a stored list against the library. Answers how many lines differ.
+pub fn check(text: &str) -> u64 {
+    let (mut same, mut different) = (0, 0);
+    for line in text.lines().filter(|line| !line.starts_with('#')) {
+        let (case, answer) = parse(line).unwrap_or_else(|| panic!("a line that is not a case: {line}"));
+        let got = crate::library::run(&case).line();
+        if got == answer {
+            same += 1;
+        } else {
+            different += 1;
+            println!("DIFFERENT: {line}\n    library: {got}");
+        }
+    }
+    println!("the stored list: {same} lines agree, {different} differ");
+    different
+}

@@ -111,8 +111,7 @@ fn print(name: &str, seen: &Seen) {
     }
 }
 
-fn roots(rng: &mut Rng, draws: u64) -> Seen {
-    let mut seen = Seen::default();
+fn roots(seen: &mut Seen, rng: &mut Rng, draws: u64) {
     for _ in 0..draws {
         let bits = draw::root_draw(rng);
         let v = f64::from_bits(bits);
@@ -125,51 +124,51 @@ fn roots(rng: &mut Rng, draws: u64) -> Seen {
             keep_least(&mut seen.different.1, format!("{bits:x}: wanted {want:x}, library {got:x}"));
         }
     }
-    seen
 }
 
-fn main() {
-    std::panic::set_hook(Box::new(|_| {}));
-    let mut words: BTreeMap<String, String> = BTreeMap::new();
-    for word in std::env::args().skip(1) {
-        let (key, value) = word.split_once('=').unwrap_or((&word, ""));
-        words.insert(key.into(), value.into());
-    }
-    let number = |key: &str, or: u64| words.get(key).map_or(or, |v| v.parse().unwrap_or_else(|_| panic!("{key}")));
-    let (seed, draws, root_draws) = (number("seed", 1), number("draws", 100_000), number("roots", 20_000_000));
-    let dir = std::path::PathBuf::from(words.get("dir").cloned().unwrap_or_else(|| std::env::temp_dir().display().to_string()));
-    let folder = Folder { file: dir.join(format!("differential-{}.in", std::process::id())), out: dir.join(format!("differential-{}.out", std::process::id())) };
+/// The words of the command line, `key=value` or `key`.
+struct Words(BTreeMap<String, String>);
 
-    // One thread makes the original's choice among several errors repeatable.
-    std::env::set_var("RAYON_NUM_THREADS", words.get("threads").map_or("1", |n| n));
-    if words.contains_key("threads") {
-        return threads::print(number("threads", 1) as usize, number("times", 10_000), &folder);
+impl Words {
+    fn read() -> Words {
+        const KNOWN: &[&str] = &["seed", "draws", "roots", "call", "dir", "list", "check", "plink", "files", "threads", "times"];
+        let mut words = BTreeMap::new();
+        for word in std::env::args().skip(1) {
+            let (key, value) = word.split_once('=').unwrap_or((&word, ""));
+            assert!(KNOWN.contains(&key), "no such word: {key}");
+            words.insert(key.into(), value.into());
+        }
+        Words(words)
     }
-    if words.contains_key("list") {
-        return list::print(seed, &folder);
+
+    fn get(&self, key: &str) -> Option<&str> {
+        self.0.get(key).map(|v| v.as_str())
     }
-    if let Some(program) = words.get("plink") {
-        std::process::exit((plink::compare(program, number("files", 300), seed, &dir) > 0) as i32);
+
+    fn number(&self, key: &str, or: u64) -> u64 {
+        self.get(key).map_or(or, |v| v.parse().unwrap_or_else(|_| panic!("{key}={v} is not a number")))
     }
+}
+
+/// Compares every call. Answers how many differ.
+fn compare(words: &Words, seed: u64, folder: &Folder) -> u64 {
+    let (draws, root_draws) = (words.number("draws", 100_000), words.number("roots", 20_000_000));
     println!("the original: {}, cut out of its source", env!("CUT"));
     println!("seed {seed}, {draws} draws for each call, {root_draws} for the root");
     let mut different = 0;
     for (i, (name, _)) in CALLS.iter().enumerate() {
-        if words.get("call").is_some_and(|only| only != name) {
+        if words.get("call").is_some_and(|only| only != *name) {
             continue;
         }
         let mut rng = Rng(seed.wrapping_mul(1000).wrapping_add(i as u64));
-        let seen = if *name == "root_f64" {
-            roots(&mut rng, root_draws)
+        let mut seen = Seen::default();
+        list::by_hand().iter().filter(|case| case.name() == *name).for_each(|case| judge(&mut seen, case, folder));
+        short::each(name, &mut |case| judge(&mut seen, &case, folder));
+        if *name == "root_f64" {
+            roots(&mut seen, &mut rng, root_draws);
         } else {
-            let mut seen = Seen::default();
-            list::by_hand().iter().filter(|case| case.name() == *name).for_each(|case| judge(&mut seen, case, &folder));
-            short::each(name, &mut |case| judge(&mut seen, &case, &folder));
-            for _ in 0..draws {
-                judge(&mut seen, &draw::draw(name, &mut rng), &folder);
-            }
-            seen
-        };
+            (0..draws).for_each(|_| judge(&mut seen, &draw::draw(name, &mut rng), folder));
+        }
         print(name, &seen);
         different += seen.different.0;
         for never in numbers(name).iter().filter(|n| !seen.numbers.contains_key(n)) {
@@ -177,8 +176,38 @@ fn main() {
             different += 1;
         }
     }
+    println!("{}", if different == 0 { "no difference but the named ones" } else { "DIFFERENT" });
+    different
+}
+
+fn main() {
+    let words = Words::read();
+    // One thread makes the original's choice among several errors repeatable.
+    std::env::set_var("RAYON_NUM_THREADS", words.get("threads").unwrap_or("1"));
+    let loud = std::panic::take_hook();
+    std::panic::set_hook(Box::new(move |info| {
+        if !want::is_asking() {
+            loud(info)
+        }
+    }));
+    let seed = words.number("seed", 1);
+    let dir = words.get("dir").map_or_else(std::env::temp_dir, std::path::PathBuf::from);
+    let named = |end: &str| dir.join(format!("differential-{}.{end}", std::process::id()));
+    let folder = Folder { file: named("in"), out: named("out") };
+    let different = if words.get("list").is_some() {
+        list::print(seed, &folder);
+        0
+    } else if words.get("threads").is_some() {
+        threads::print(words.number("threads", 1) as usize, words.number("times", 10_000), &folder);
+        0
+    } else if let Some(file) = words.get("check") {
+        list::check(&std::fs::read_to_string(file).expect("the stored list"))
+    } else if let Some(program) = words.get("plink") {
+        plink::compare(program, words.number("files", 300), seed, &dir)
+    } else {
+        compare(&words, seed, &folder)
+    };
     let _ = std::fs::remove_file(&folder.file);
     let _ = std::fs::remove_file(&folder.out);
-    println!("{}", if different == 0 { "no difference but the named ones" } else { "DIFFERENT" });
-    std::process::exit(if different == 0 { 0 } else { 1 });
+    std::process::exit((different > 0) as i32);
 }

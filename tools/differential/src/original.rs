@@ -43,6 +43,9 @@ fn threads() -> usize {
 
 pub const DONE: Said = Said { number: 0, first: 0, second: 0 };
 
+/// For an error that document 01 gives no number.
+const NO_NUMBER: u64 = 999;
+
 fn refused(e: Box<BedErrorPlus>) -> Said {
     let (number, first) = match *e {
         BedErrorPlus::IOError(_) => (1, 0),
@@ -63,9 +66,9 @@ fn refused(e: Box<BedErrorPlus>) -> Said {
             BedError::IndexMismatch(..) => (15, 0),
             BedError::EncodingLength(..) => (16, 0),
             BedError::CannotConvertBetaToFromF64 => (20, 0),
-            other => panic!("an error without a number: {other}"),
+            _ => (NO_NUMBER, 0),
         },
-        other => panic!("an error without a number: {other}"),
+        _ => (NO_NUMBER, 0),
     };
     Said { number, first, second: 0 }
 }

@@ -4,6 +4,7 @@ use crate::original::*;
 use std::fs;
 use std::panic::{catch_unwind, AssertUnwindSafe};
 use std::path::{Path, PathBuf};
+use std::sync::atomic::{AtomicBool, Ordering};
 
 /// What the original did.
 #[derive(Clone, Copy, PartialEq, Eq, PartialOrd, Ord, Debug)]
@@ -32,8 +33,18 @@ pub struct Folder {
     pub out: PathBuf,
 }
 
+static ASKING: AtomicBool = AtomicBool::new(false);
+
+/// Is the original being asked? Its panics are counted, not printed.
+pub fn is_asking() -> bool {
+    ASKING.load(Ordering::SeqCst)
+}
+
 fn guarded<R>(f: impl FnOnce() -> R) -> Option<R> {
-    catch_unwind(AssertUnwindSafe(f)).ok()
+    ASKING.store(true, Ordering::SeqCst);
+    let answer = catch_unwind(AssertUnwindSafe(f)).ok();
+    ASKING.store(false, Ordering::SeqCst);
+    answer
 }
 
 fn did(said: Option<Said>) -> Did {
