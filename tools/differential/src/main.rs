@@ -6,7 +6,7 @@ mod list;
 mod original;
 mod plink;
 mod short;
-mod threads;
+mod shown;
 mod want;
 
 use case::*;
@@ -131,7 +131,7 @@ struct Words(BTreeMap<String, String>);
 
 impl Words {
     fn read() -> Words {
-        const KNOWN: &[&str] = &["seed", "draws", "roots", "call", "dir", "list", "check", "plink", "files", "threads", "times"];
+        const KNOWN: &[&str] = &["seed", "draws", "roots", "call", "dir", "list", "check", "plink", "files", "threads", "times", "shapes"];
         let mut words = BTreeMap::new();
         for word in std::env::args().skip(1) {
             let (key, value) = word.split_once('=').unwrap_or((&word, ""));
@@ -198,7 +198,10 @@ fn main() {
         list::print(seed, &folder);
         0
     } else if words.get("threads").is_some() {
-        threads::print(words.number("threads", 1) as usize, words.number("times", 10_000), &folder);
+        shown::threads(words.number("threads", 1) as usize, words.number("times", 10_000), &folder);
+        0
+    } else if words.get("shapes").is_some() {
+        shown::shapes(&folder);
         0
     } else if let Some(file) = words.get("check") {
         list::check(&std::fs::read_to_string(file).expect("the stored list"))

@@ -40,7 +40,7 @@ pub fn is_asking() -> bool {
     ASKING.load(Ordering::SeqCst)
 }
 
-fn guarded<R>(f: impl FnOnce() -> R) -> Option<R> {
+pub fn guarded<R>(f: impl FnOnce() -> R) -> Option<R> {
     ASKING.store(true, Ordering::SeqCst);
     let answer = catch_unwind(AssertUnwindSafe(f)).ok();
     ASKING.store(false, Ordering::SeqCst);
@@ -403,15 +403,20 @@ fn piece(c: &Case, folder: &Folder, ata: bool) -> Want {
     let shape = (height as usize, width as usize);
     // Sums of two numbers under 2^63 do not wrap.
     let sound = start < total && start + height == total && start + width <= total;
+    let need = offset as u128 + 8 * rows as u128 * cols as u128;
+    let short = rows > 0 && cols > 0 && (bytes.len() as u128) < need;
+    let p = Piece { offset, row_count: rows as usize, col_count: cols as usize, start: start as usize, shape };
     if ata && width == 0 && sound {
-        return document(Did::NotRun, c.unwritten(20, 0, 0), "20 for width 0 of A'A: the original takes 1 from it");
+        // It runs on unless a column cannot be read.
+        let stops = short && need <= TOP as u128 && rows <= MOST && piece.is_empty();
+        fs::write(&folder.file, &bytes).unwrap();
+        let did = if stops { did(guarded(|| ask_piece(&folder.file, ata, &p, &mut piece))) } else { Did::NotRun };
+        return document(did, c.unwritten(20, 0, 0), "20 for width 0 of A'A: the original takes 1 from it");
     }
     if product(shape) != piece.len() as u128 {
         let number = if sound { 15 } else { 20 };
         return document(Did::NotRun, c.unwritten(number, 0, 0), "15, outside the domain (20 comes before it)");
     }
-    let need = offset as u128 + 8 * rows as u128 * cols as u128;
-    let short = rows > 0 && cols > 0 && (bytes.len() as u128) < need;
     let column = if ata { rows } else { height };
     let endless = !ata && cols > MOST && rows % (1 << 61) == 0;
     if sound && (column > MOST || endless) {
@@ -420,7 +425,6 @@ fn piece(c: &Case, folder: &Folder, ata: bool) -> Want {
         return document(Did::NotRun, Outcome { written, ..c.unwritten(number, 0, 0) }, name);
     }
     fs::write(&folder.file, &bytes).unwrap();
-    let p = Piece { offset, row_count: rows as usize, col_count: cols as usize, start: start as usize, shape };
     let said = guarded(|| ask_piece(&folder.file, ata, &p, &mut piece));
     if sound && need > u64::MAX as u128 && short && said.is_some_and(|s| s.number != 1) {
         return document(did(said), c.unwritten(1, 0, 0), "positions that wrap");

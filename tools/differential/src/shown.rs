@@ -1,7 +1,8 @@
-//! What the original answers to the same input, again and again, with several threads. Only rayon's part of it is parallel: the stand-ins are not.
+//! What the original does where the C interface has no such input: arrays of another shape than the lists, and several threads. Only rayon's part
+//! of it is then parallel: the stand-ins are not.
 use crate::case::*;
 use crate::original::*;
-use crate::want::Folder;
+use crate::want::{guarded, Folder};
 use std::collections::BTreeMap;
 use std::fs;
 
@@ -21,7 +22,7 @@ fn text(s: Said) -> String {
     }
 }
 
-pub fn print(threads: usize, times: u64, folder: &Folder) {
+pub fn threads(threads: usize, times: u64, folder: &Folder) {
     THREADS.store(threads, std::sync::atomic::Ordering::Relaxed);
     println!("the original with {threads} threads, each input {times} times");
     fs::write(&folder.file, [0x6c, 0x1b, 1, 0xe4, 0, 0x2f, 2]).unwrap();
@@ -51,4 +52,30 @@ pub fn print(threads: usize, times: u64, folder: &Folder) {
         let said = ask_encode(&[0i8, 1, 2, 2, 0, 3, 1], &mut out, true, -127);
         format!("{}; bytes {:x?}", text(said), u8_bits(&out))
     });
+}
+
+fn shown<R>(f: impl FnOnce() -> R, text: impl FnOnce(R) -> String) -> String {
+    guarded(f).map_or("panics".to_string(), text)
+}
+
+pub fn shapes(folder: &Folder) {
+    fs::write(&folder.file, [0x6c, 0x1b, 1, 0xe4, 0, 0x2f, 2]).unwrap();
+    for (iids, sids, shape) in [(2, 1, (2, 0)), (2, 2, (2, 1)), (2, 1, (2, 2)), (2, 1, (1, 1)), (2, 1, (3, 1))] {
+        let lists: [Vec<i64>; 2] = [(0..iids).collect(), (0..sids).collect()];
+        let mut val = vec![9i8; shape.0 * shape.1];
+        let r = Reading { iid_count: 5, sid_count: 2, is_a1_counted: true, iid_index: &lists[0], sid_index: &lists[1], animal_order: false, shape };
+        let said = shown(|| ask_read(&folder.file, &r, -127, &mut val), text);
+        println!("reading F, {iids} animals and {sids} markers into an array of {shape:?}: {said}, {val:?}");
+    }
+    for (markers, records) in [(2, 1), (2, 3)] {
+        for choice in 0..8 {
+            let (animal_order, apply, lent) = (choice & 1 == 1, choice & 2 == 2, choice & 4 == 4);
+            let mut val = [0.0, 2.0, 2.0, 0.0];
+            let mut stats = [0.5, 2.0, 0.5, 2.0, 0.5, 2.0];
+            let (val, stats) = (&mut val[..2 * markers], &mut stats[..2 * records]);
+            let said = shown(|| ask_impute(val, (2, markers), animal_order, apply, lent, stats, records), text);
+            let order = if animal_order { "animal" } else { "marker" };
+            println!("standardising {markers} markers with statistics for {records}, {order} order, applied {apply}, lent {lent}: {said}, {val:?}, {stats:?}");
+        }
+    }
 }
