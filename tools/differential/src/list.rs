@@ -94,6 +94,8 @@ pub fn by_hand() -> Vec<Case> {
     read(&F, 5, 2, vec![0, 5, neg(6)], vec![0, 2], 6);
     read(&F, 5, 2, vec![0], vec![2], 1);
     read(&F, 5, 2, vec![0], vec![0, 2], 2);
+    read(&F, 5, 2, vec![0], vec![0, 2, 1], 3);
+    read(&F, 5, 2, vec![5, 6], vec![0], 2);
     read(&F, 5, 2, vec![], vec![neg(3)], 0);
     read(&F, 5, 2, vec![5], vec![], 0);
     read(&F_BY_ANIMAL, 5, 2, vec![9], vec![0, 2, 3], 3);
@@ -128,6 +130,7 @@ pub fn by_hand() -> Vec<Case> {
             write("write_i8", vec![], TOP, 8, 0x81, 3);
             write("write_i8", vec![3], TOP + 1, 8, 0x81, 3);
             write("write_f64", vec![3], 1, 2, NAN, 5);
+            write("write_i8", vec![3], 1, 1, 0x81, 4);
             write("write_i8", vec![3], 1, 1, 0x81, 5);
         }
     }
@@ -156,6 +159,7 @@ pub fn by_hand() -> Vec<Case> {
         impute(&[f64::INFINITY, 0.0, f64::NEG_INFINITY, 1.0], 2, 2, &[0.5, 0.75, -0.0, -1.0]);
         impute(&[0.1, 0.2, 0.3, 0.7, 1e300, -1e300], 3, 2, &[f64::NAN, 0.75, f64::INFINITY, 1e-300]);
         impute(&[1.0, 2.0], 1, 2, &[0.5, 0.75]);
+        impute(&[f64::NAN, f64::NAN], 1, 2, &[0.5, 0.75, 0.5, 0.75]);
         impute(&[1.0], 1, 2, &[0.5, 0.75, 0.5, 0.75]);
     }
     add("impute_and_zero_mean_snps_f64", vec![B(vec![]), N(TOP), N(0), N(0), N(1), N(0), B(vec![])]);
@@ -210,6 +214,12 @@ pub fn by_hand() -> Vec<Case> {
         piece(one, 8, 1 << 61, 1, (1 << 61) - 1, 1, 1, 1);
         piece(one, 0, 1, 1 << 61, (1 << 61) - 1, 1, 1, 1);
         piece(one, 0, 1 << 61, 2, 1, 1, 1, 1);
+        piece(&[], 0, 1, 1, 0, 1, 1, 1);
+        piece(one, 0, 1, 2, 0, 2, 1, 2);
+        piece(&[], 0, 0, 1, 0, 1, 0, 0);
+        piece(one, 8, 1 << 61, TOP, (1 << 61) - 1, 1, 1, 1);
+        piece(one, 0, TOP, 1, 0, 1, 1, 1);
+        piece(one, 0, TOP, 1, 0, TOP, 0, 0);
         piece(one, 0, TOP, TOP, 0, TOP, 0, 0);
         piece(one, 0, TOP + 1, 1, 0, 1, 1, 1);
         piece(one, 0, 1, 1, 0, 1, TOP + 1, 1);
