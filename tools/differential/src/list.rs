@@ -295,6 +295,16 @@ pub fn print(seed: u64, folder: &Folder) {
     }
 }
 
+/// The cases by hand at which document 01 names a difference, with what the original did.
+pub fn rows(folder: &Folder) {
+    for case in by_hand() {
+        let want = want(&case, folder);
+        if let (Some(name), Some(outcome)) = (want.named, want.outcome) {
+            println!("{}: {name}; the original: {}; document 01: {}; {}", case.name(), want.did, outcome.number, case.line());
+        }
+    }
+}
+
 /// A stored list, read back: each line's case and what stands for its answer.
 fn parse(line: &str) -> Option<(Case, String)> {
     let words: Vec<u64> = line.split(' ').map(|w| u64::from_str_radix(w, 16).ok()).collect::<Option<_>>()?;

@@ -92,15 +92,7 @@ fn print(name: &str, seen: &Seen) {
         println!("    {number}  {original:9} as the original  {document:9} as document 01's named difference");
     }
     for (name, (count, did, least)) in &seen.named {
-        let did: Vec<String> = did
-            .iter()
-            .map(|(did, n)| match did {
-                Did::Answered(0) => format!("done {n}"),
-                Did::Answered(number) => format!("{number} {n}"),
-                Did::Panicked => format!("panicked {n}"),
-                Did::NotRun => format!("not run {n}"),
-            })
-            .collect();
+        let did: Vec<String> = did.iter().map(|(did, n)| format!("{did} {n}")).collect();
         println!("    named: {name}: {count} (the original: {}); least: {least}", did.join(", "));
     }
     if seen.panicked.0 > 0 {
@@ -131,7 +123,7 @@ struct Words(BTreeMap<String, String>);
 
 impl Words {
     fn read() -> Words {
-        const KNOWN: &[&str] = &["seed", "draws", "roots", "call", "dir", "list", "check", "plink", "files", "threads", "times", "shapes"];
+        const KNOWN: &[&str] = &["seed", "draws", "roots", "call", "dir", "list", "check", "plink", "files", "threads", "times", "shapes", "rows"];
         let mut words = BTreeMap::new();
         for word in std::env::args().skip(1) {
             let (key, value) = word.split_once('=').unwrap_or((&word, ""));
@@ -199,6 +191,9 @@ fn main() {
         0
     } else if words.get("threads").is_some() {
         shown::threads(words.number("threads", 1) as usize, words.number("times", 10_000), &folder);
+        0
+    } else if words.get("rows").is_some() {
+        list::rows(&folder);
         0
     } else if words.get("shapes").is_some() {
         shown::shapes(&folder);

@@ -1,6 +1,7 @@
 //! What the library is to answer for a case: the original's answer, or document 01's where it names a difference.
 use crate::case::*;
 use crate::original::*;
+use std::fmt;
 use std::fs;
 use std::panic::{catch_unwind, AssertUnwindSafe};
 use std::path::{Path, PathBuf};
@@ -13,6 +14,17 @@ pub enum Did {
     Panicked,
     /// It would run on or ask for more memory than there is.
     NotRun,
+}
+
+impl fmt::Display for Did {
+    fn fmt(&self, f: &mut fmt::Formatter<'_>) -> fmt::Result {
+        match self {
+            Did::Answered(0) => f.write_str("done"),
+            Did::Answered(number) => number.fmt(f),
+            Did::Panicked => f.write_str("panicked"),
+            Did::NotRun => f.write_str("not run"),
+        }
+    }
 }
 
 pub struct Want {
