@@ -56,21 +56,24 @@ const KEPT: &[&str] = &[
 const TWICE: &[&str] = &["impl Index"];
 
 /// Words before `::` that may stand in the kept items.
-const ROOTS: &[&str] = &[
-    "Array1", "ArrayBase", "ArrayView1", "BedError", "BedErrorPlus", "Beta", "Box", "BufReader", "BufWriter", "Bound", "collect", "clippy", "Dist", "File", "Index", "Ok", "Ordering",
-    "PathBuf", "RangeAny", "RangeNdSlice", "SeekFrom", "SliceInfoElem", "T", "TVal", "ThreadPoolBuilder", "Vec", "Zip", "f64", "fs", "io", "mem", "nd",
-    "ndarray", "rayon", "std", "u64", "usize", "read_f64_into", "size_of",
-];
+const ROOTS: &str = "Array1 BedError BedErrorPlus Beta Bound Box BufReader BufWriter clippy collect Dist f64 File fs Index io mem nd ndarray Ok \
+    Ordering PathBuf RangeNdSlice rayon read_f64_into SeekFrom size_of SliceInfoElem std T ThreadPoolBuilder TVal u64 usize Vec Zip";
 
 /// Words that may not stand in them.
-const FOREIGN: &[&str] = &["unsafe", "extern", "mod", "use", "include", "env", "process", "net", "asm", "async", "await", "cloud", "url"];
+const FOREIGN: &str = "unsafe extern mod use include env process net asm async await cloud url";
 
 /// The text with comments, strings and character constants blanked, byte for byte as long.
 fn bare(text: &str) -> Vec<u8> {
     let t = text.as_bytes();
     let mut out = t.to_vec();
     let mut i = 0;
-    let blank = |out: &mut Vec<u8>, a: usize, b: usize| (a..b).for_each(|k| if out[k] != b'\n' { out[k] = b' ' });
+    let blank = |out: &mut Vec<u8>, a: usize, b: usize| {
+        (a..b).for_each(|k| {
+            if out[k] != b'\n' {
+                out[k] = b' '
+            }
+        })
+    };
     while i < t.len() {
         let end = match t[i] {
             b'/' if t[i + 1..].starts_with(b"/") => i + t[i..].iter().position(|&c| c == b'\n').unwrap_or(t.len() - i),
@@ -155,9 +158,9 @@ fn main() {
             if is_word(bare[i]) {
                 let k = (i..to).find(|&k| !is_word(bare[k])).unwrap_or(to);
                 let word = &text[i..k];
-                assert!(!FOREIGN.contains(&word), "foreign word in a kept item: {word}");
+                assert!(FOREIGN.split(' ').all(|foreign| foreign != word), "foreign word in a kept item: {word}");
                 if bare[k..to].starts_with(b"::") {
-                    assert!(ROOTS.contains(&word), "foreign path in a kept item: {word}::");
+                    assert!(ROOTS.split(' ').any(|root| root == word), "foreign path in a kept item: {word}::");
                 }
                 i = k;
             } else {

@@ -104,7 +104,11 @@ impl Case {
             (In(_) | Out(_), Arg::B(_)) => true,
             _ => false,
         };
-        assert!(CALLS[case.call].1.len() == case.args.len() && CALLS[case.call].1.iter().zip(&case.args).all(fits), "{name} {:?}", CALLS[case.call].1);
+        assert!(
+            CALLS[case.call].1.len() == case.args.len() && CALLS[case.call].1.iter().zip(&case.args).all(fits),
+            "{name} {:?}",
+            CALLS[case.call].1
+        );
         case
     }
 

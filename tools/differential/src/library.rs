@@ -95,7 +95,19 @@ pub fn run(c: &Case) -> Outcome {
                 let (file, iid, sid, mut val) = (c.u8s(0), c.i64s(4), c.i64s(5), c.i8s(8));
                 let a = lend(&mut val, 0x5a, |p, k| {
                     bed_read_i8(
-                        file.as_ptr(), file.len(), n(1), n(2), f(3), iid.as_ptr(), iid.len(), sid.as_ptr(), sid.len(), c.num(6) as i8, f(7), p, k,
+                        file.as_ptr(),
+                        file.len(),
+                        n(1),
+                        n(2),
+                        f(3),
+                        iid.as_ptr(),
+                        iid.len(),
+                        sid.as_ptr(),
+                        sid.len(),
+                        c.num(6) as i8,
+                        f(7),
+                        p,
+                        k,
                     )
                 });
                 written.push(i8_bits(&val));
@@ -105,8 +117,19 @@ pub fn run(c: &Case) -> Outcome {
                 let (file, iid, sid, mut val) = (c.u8s(0), c.i64s(4), c.i64s(5), c.f64s(8));
                 let a = lend(&mut val, 0.25, |p, k| {
                     bed_read_f64(
-                        file.as_ptr(), file.len(), n(1), n(2), f(3), iid.as_ptr(), iid.len(), sid.as_ptr(), sid.len(), f64::from_bits(c.num(6)), f(7),
-                        p, k,
+                        file.as_ptr(),
+                        file.len(),
+                        n(1),
+                        n(2),
+                        f(3),
+                        iid.as_ptr(),
+                        iid.len(),
+                        sid.as_ptr(),
+                        sid.len(),
+                        f64::from_bits(c.num(6)),
+                        f(7),
+                        p,
+                        k,
                     )
                 });
                 written.push(f64_bits(&val));
@@ -156,7 +179,20 @@ pub fn run(c: &Case) -> Outcome {
                 let a = lend(&mut val, 0.25, |v, vk| {
                     lend(&mut stats, 0.25, |p, k| {
                         bed_read_standardised_f64(
-                            file.as_ptr(), file.len(), n(1), n(2), f(3), iid.as_ptr(), iid.len(), sid.as_ptr(), sid.len(), f(6), v, vk, p, k,
+                            file.as_ptr(),
+                            file.len(),
+                            n(1),
+                            n(2),
+                            f(3),
+                            iid.as_ptr(),
+                            iid.len(),
+                            sid.as_ptr(),
+                            sid.len(),
+                            f(6),
+                            v,
+                            vk,
+                            p,
+                            k,
                         )
                     })
                 });

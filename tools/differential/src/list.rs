@@ -28,24 +28,74 @@ pub fn by_hand() -> Vec<Case> {
     let old = |n: usize| B(vec![0.5f64.to_bits(); n]);
     let old64 = |n: usize| B(vec![77; n]);
 
-    for file in [vec![], vec![0x6c], vec![0x6c, 0x1b], vec![0x6c, 0x1b, 0], vec![0x6c, 0x1b, 1], vec![0x6c, 0x1b, 2, 7], vec![0x1b, 0x6c, 1], vec![0x6c, 0x1c, 1]] {
+    for file in [
+        vec![],
+        vec![0x6c],
+        vec![0x6c, 0x1b],
+        vec![0x6c, 0x1b, 0],
+        vec![0x6c, 0x1b, 1],
+        vec![0x6c, 0x1b, 2, 7],
+        vec![0x1b, 0x6c, 1],
+        vec![0x6c, 0x1c, 1],
+    ] {
         add("open_and_check", vec![B(file)]);
     }
     for (a, b) in [
-        (0, 0), (0, TOP), (0, TOP + 1), (1, 0), (4, 1), (5, 1), (8, 3), (9, 3), (TOP, 0), (TOP, 7), (TOP, 8), (TOP + 1, 0), (u64::MAX, u64::MAX),
-        (4, TOP), (8, TOP), (9, TOP), (5, TOP), (1, u64::MAX), (13, TOP / 2), (4, u64::MAX - 3),
+        (0, 0),
+        (0, TOP),
+        (0, TOP + 1),
+        (1, 0),
+        (4, 1),
+        (5, 1),
+        (8, 3),
+        (9, 3),
+        (TOP, 0),
+        (TOP, 7),
+        (TOP, 8),
+        (TOP + 1, 0),
+        (u64::MAX, u64::MAX),
+        (4, TOP),
+        (8, TOP),
+        (9, TOP),
+        (5, TOP),
+        (1, u64::MAX),
+        (13, TOP / 2),
+        (4, u64::MAX - 3),
     ] {
         add("try_div_4", vec![N(a), N(b)]);
     }
     for (count, list) in [
-        (0, vec![]), (0, vec![0]), (0, vec![u64::MAX]), (5, vec![neg(5)]), (5, vec![4]), (5, vec![neg(6)]), (5, vec![5]), (5, vec![0, 5, neg(6)]),
-        (40, vec![39, 8, neg(20)]), (TOP, vec![TOP - 1, neg(TOP)]), (TOP, vec![TOP]), (TOP, vec![TOP + 1]), (TOP + 1, vec![]), (9, vec![3, 3, 4]),
+        (0, vec![]),
+        (0, vec![0]),
+        (0, vec![u64::MAX]),
+        (5, vec![neg(5)]),
+        (5, vec![4]),
+        (5, vec![neg(6)]),
+        (5, vec![5]),
+        (5, vec![0, 5, neg(6)]),
+        (40, vec![39, 8, neg(20)]),
+        (TOP, vec![TOP - 1, neg(TOP)]),
+        (TOP, vec![TOP]),
+        (TOP, vec![TOP + 1]),
+        (TOP + 1, vec![]),
+        (9, vec![3, 3, 4]),
     ] {
         add("byte_span", vec![N(count), B(list)]);
     }
     for (count, has_start, start, has_end, end) in [
-        (5, 0, 9, 0, 9), (5, 1, 2, 0, 9), (5, 0, 9, 1, 3), (5, 1, 3, 1, 3), (5, 1, 4, 1, 3), (5, 1, 6, 0, 0), (5, 1, 3, 1, 12), (TOP, 0, 0, 0, 0),
-        (5, 1, TOP, 1, TOP), (5, 1, TOP + 1, 1, TOP + 2), (5, 1, 0, 1, TOP + 1), (TOP + 1, 1, 0, 1, 0), (5, 0, u64::MAX, 0, u64::MAX),
+        (5, 0, 9, 0, 9),
+        (5, 1, 2, 0, 9),
+        (5, 0, 9, 1, 3),
+        (5, 1, 3, 1, 3),
+        (5, 1, 4, 1, 3),
+        (5, 1, 6, 0, 0),
+        (5, 1, 3, 1, 12),
+        (TOP, 0, 0, 0, 0),
+        (5, 1, TOP, 1, TOP),
+        (5, 1, TOP + 1, 1, TOP + 2),
+        (5, 1, 0, 1, TOP + 1),
+        (TOP + 1, 1, 0, 1, 0),
+        (5, 0, u64::MAX, 0, u64::MAX),
     ] {
         add("to_range", vec![N(count), N(has_start), N(start), N(has_end), N(end)]);
         if end <= 16 {
@@ -139,10 +189,21 @@ pub fn by_hand() -> Vec<Case> {
 
     // Canonical files.
     for (file, iids, sids, n) in [
-        (F.to_vec(), 5, 2, 7), (f2.to_vec(), 5, 2, 7), (F_BY_ANIMAL.to_vec(), 5, 2, 7), (F.to_vec(), 5, 2, 6), (F[..6].to_vec(), 5, 2, 7),
-        (vec![0x6c, 0x1b, 1], 0, 9, 3), (vec![0x6c, 0x1b, 0], 9, 0, 3), (vec![0x6c, 0x1b, 1], 0, TOP, 3), (vec![0x6c, 0x1b, 0], TOP, 0, 3),
-        (vec![0x6c, 0x1b, 0], 5, TOP, 3), (vec![0x6c, 0x1b, 0], 9, TOP, 3), (vec![0x6c, 0x1b, 3], 9, TOP, 3), (vec![0x6c, 0x1b], 0, 0, 3),
-        (F.to_vec(), TOP + 1, 2, 7), (vec![0x6c, 0x1b, 1], TOP, 8, 3),
+        (F.to_vec(), 5, 2, 7),
+        (f2.to_vec(), 5, 2, 7),
+        (F_BY_ANIMAL.to_vec(), 5, 2, 7),
+        (F.to_vec(), 5, 2, 6),
+        (F[..6].to_vec(), 5, 2, 7),
+        (vec![0x6c, 0x1b, 1], 0, 9, 3),
+        (vec![0x6c, 0x1b, 0], 9, 0, 3),
+        (vec![0x6c, 0x1b, 1], 0, TOP, 3),
+        (vec![0x6c, 0x1b, 0], TOP, 0, 3),
+        (vec![0x6c, 0x1b, 0], 5, TOP, 3),
+        (vec![0x6c, 0x1b, 0], 9, TOP, 3),
+        (vec![0x6c, 0x1b, 3], 9, TOP, 3),
+        (vec![0x6c, 0x1b], 0, 0, 3),
+        (F.to_vec(), TOP + 1, 2, 7),
+        (vec![0x6c, 0x1b, 1], TOP, 8, 3),
     ] {
         add("canonical", vec![B(file), N(iids), N(sids), old8(n)]);
     }
@@ -150,7 +211,10 @@ pub fn by_hand() -> Vec<Case> {
     // Standardising.
     for choice in 0..8 {
         let mut impute = |val: &[f64], iids: u64, sids: u64, stats: &[f64]| {
-            add("impute_and_zero_mean_snps_f64", vec![B(bits(val)), N(iids), N(sids), N(choice & 1), N(choice >> 1 & 1), N(choice >> 2), B(bits(stats))]);
+            add(
+                "impute_and_zero_mean_snps_f64",
+                vec![B(bits(val)), N(iids), N(sids), N(choice & 1), N(choice >> 1 & 1), N(choice >> 2), B(bits(stats))],
+            );
         };
         impute(&[0.0, 2.0, f64::NAN], 3, 1, &[1.5, 0.25]);
         impute(&[1.0, 1.0], 2, 1, &[0.5, f64::NEG_INFINITY]);
@@ -175,8 +239,23 @@ pub fn by_hand() -> Vec<Case> {
         add("index_bool", vec![N(count), B(vec![1, 0, 255]), old64(n)]);
     }
     for (start, has_end, end, step) in [
-        (1, 1, 6, neg(2)), (0, 0, 99, 1), (0, 0, 99, neg(1)), (0, 0, 99, 0), (7, 1, 9, 0), (7, 1, 9, 1), (neg(7), 1, 9, 1), (0, 1, 7, 1), (0, 1, neg(7), 1),
-        (neg(6), 1, neg(1), 2), (4, 1, 2, 1), (3, 1, 3, neg(1)), (1 << 63, 1, 2, 1), (0, 1, 1 << 63, 1), (0, 1, 6, 1 << 63), (0, 1, 6, TOP), (1, 1, 6, neg(TOP)),
+        (1, 1, 6, neg(2)),
+        (0, 0, 99, 1),
+        (0, 0, 99, neg(1)),
+        (0, 0, 99, 0),
+        (7, 1, 9, 0),
+        (7, 1, 9, 1),
+        (neg(7), 1, 9, 1),
+        (0, 1, 7, 1),
+        (0, 1, neg(7), 1),
+        (neg(6), 1, neg(1), 2),
+        (4, 1, 2, 1),
+        (3, 1, 3, neg(1)),
+        (1 << 63, 1, 2, 1),
+        (0, 1, 1 << 63, 1),
+        (0, 1, 6, 1 << 63),
+        (0, 1, 6, TOP),
+        (1, 1, 6, neg(TOP)),
     ] {
         add("index_slice", vec![N(6), N(start), N(has_end), N(end), N(step), old64(6)]);
     }
@@ -283,7 +362,9 @@ pub fn cases(seed: u64, folder: &Folder) -> Vec<Case> {
 
 pub fn print(seed: u64, folder: &Folder) {
     println!("# Answers of the original's own lines, for the program `replay`. The original (bed-reader at commit 0128fc7557) as published");
-    println!("# was not run: its kept functions, cut unchanged out of its source, were compiled over small stand-ins for the crates that could not be");
+    println!(
+        "# was not run: its kept functions, cut unchanged out of its source, were compiled over small stand-ins for the crates that could not be"
+    );
     println!("# had, and run on one thread. What indexing, views, strides and iteration order give is the stand-ins'. tools/differential says how.");
     println!("# Made by: differential list seed={seed}. A line is a case, in hexadecimal words: whose answer it is (0 the original's; 1 document 01's, at a");
     println!("# difference that docs/DIFFERENCES.md names), the call, its parameters, the answer. tools/differential/README.md has the form.");

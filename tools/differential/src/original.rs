@@ -2,21 +2,19 @@
 #![allow(dead_code, unused_imports, unused_variables, clippy::all)]
 
 use anyinput::anyinput;
-use byteorder::{LittleEndian, ReadBytesExt};
+use byteorder::{LittleEndian, ReadBytesExt as _};
 use cloud_file::CloudFileError;
-use core::fmt::Debug;
-use dpc_pariter::{scope, IteratorExt};
-use nd::ShapeBuilder;
-use ndarray as nd;
-use num_traits::{abs, Float, FromPrimitive, Signed, ToPrimitive};
-use rayon::iter::{IntoParallelRefIterator, IntoParallelRefMutIterator, ParallelIterator};
-use rayon::{iter::ParallelBridge, ThreadPoolBuildError};
-use statrs::distribution::{Beta, Continuous};
+use dpc_pariter::{scope, IteratorExt as _};
+use ndarray::{self as nd, ShapeBuilder as _};
+use num_traits::{Float, FromPrimitive, ToPrimitive};
+use rayon::{prelude::*, ThreadPoolBuildError};
+use statrs::distribution::{Beta, Continuous as _};
 use std::cmp::Ordering;
+use std::fmt::Debug;
 use std::fs::{self, File};
-use std::io::{BufRead, BufReader, BufWriter, Read, Seek, SeekFrom, Write};
+use std::io::{BufReader, BufWriter, Read as _, Seek as _, SeekFrom, Write as _};
 use std::num::{ParseFloatError, ParseIntError};
-use std::ops::{AddAssign, Range, RangeBounds, Bound};
+use std::ops::{AddAssign, Bound, Range, RangeBounds};
 use std::path::{Path, PathBuf};
 use std::str::Utf8Error;
 use thiserror::Error;
@@ -90,8 +88,11 @@ pub fn ask_div(in_iid_count: usize, in_sid_count: usize) -> Said {
 }
 
 pub fn ask_span(count: usize, list: &[i64]) -> Said {
-    check_and_precompute_iid_index(count, &isizes(list))
-        .map_or_else(refused, |(_, _, start, len)| Said { first: start as i64, second: len as i64, ..DONE })
+    check_and_precompute_iid_index(count, &isizes(list)).map_or_else(refused, |(_, _, start, len)| Said {
+        first: start as i64,
+        second: len as i64,
+        ..DONE
+    })
 }
 
 pub fn ask_range(count: usize, start: Option<usize>, end: Option<usize>) -> Said {
@@ -126,13 +127,7 @@ pub fn ask_write<T: BedVal>(path: &Path, val: &[T], shape: (usize, usize), anima
 
 /// `records`: the rows of two of the statistics.
 pub fn ask_impute(
-    val: &mut [f64],
-    shape: (usize, usize),
-    animal_order: bool,
-    apply_in_place: bool,
-    use_stats: bool,
-    stats: &mut [f64],
-    records: usize,
+    val: &mut [f64], shape: (usize, usize), animal_order: bool, apply_in_place: bool, use_stats: bool, stats: &mut [f64], records: usize,
 ) -> Said {
     let mut val = nd::ArrayViewMut2::from_shape(shape.set_f(!animal_order), val).expect("a shape that fits");
     let mut stats = nd::ArrayViewMut2::from_shape((records, 2).set_f(false), stats).expect("a shape that fits");

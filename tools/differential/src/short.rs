@@ -131,7 +131,8 @@ pub fn each(name: &str, f: &mut dyn FnMut(Case)) {
                         if iids * sids == val.len() as u64 {
                             for choice in 0..4 {
                                 let out = 3 + iids.div_ceil(4) * sids;
-                                let args = vec![B(val.to_vec()), N(iids), N(sids), N(choice & 1), N(choice >> 1), N(missing), B(vec![0xee; out as usize])];
+                                let args =
+                                    vec![B(val.to_vec()), N(iids), N(sids), N(choice & 1), N(choice >> 1), N(missing), B(vec![0xee; out as usize])];
                                 f(Case::new(name, args));
                             }
                         }

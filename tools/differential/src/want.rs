@@ -146,9 +146,7 @@ pub fn want(c: &Case, folder: &Folder) -> Want {
                 "index_one" => (Asked::One(c.num(1) as i64), false),
                 "index_vec" => (Asked::Vec(&vec), false),
                 "index_bool" => (Asked::Bool(&marks), false),
-                "index_range" => {
-                    (Asked::Range(present(1, 2), present(3, 4)), c.flag(1) && c.num(2) > TOP || c.flag(3) && c.num(4) > TOP)
-                }
+                "index_range" => (Asked::Range(present(1, 2), present(3, 4)), c.flag(1) && c.num(2) > TOP || c.flag(3) && c.num(4) > TOP),
                 "index_slice" => (Asked::Slice(c.num(1) as i64, present(2, 3).map(|e| e as i64), c.num(4) as i64), false),
                 _ => panic!("no call {name}"),
             };
@@ -270,7 +268,11 @@ fn write<T: BedVal>(c: &Case, folder: &Folder, val: Vec<T>, missing: T) -> Want 
     }
     if shape.1 as u64 > MOST {
         // No animal and so many markers: a file of three bytes after as many turns.
-        return document(Did::NotRun, Outcome { written: vec![u8_bits(&HEADER)], ..c.unwritten(0, 0, 0) }, "as many turns as markers, with no animal");
+        return document(
+            Did::NotRun,
+            Outcome { written: vec![u8_bits(&HEADER)], ..c.unwritten(0, 0, 0) },
+            "as many turns as markers, with no animal",
+        );
     }
     fs::write(&folder.out, "an older file").unwrap();
     let said = guarded(|| ask_write(&folder.out, &val, shape, c.flag(3), c.flag(4), missing));
@@ -292,7 +294,8 @@ fn canonical(c: &Case, folder: &Folder) -> Want {
     let shape = (c.num(1) as usize, c.num(2) as usize);
     fs::write(&folder.file, c.u8s(0)).unwrap();
     // The header and the length, by a reading of nothing.
-    let none = Reading { iid_count: shape.0, sid_count: shape.1, is_a1_counted: true, iid_index: &[], sid_index: &[], animal_order: false, shape: (0, 0) };
+    let none =
+        Reading { iid_count: shape.0, sid_count: shape.1, is_a1_counted: true, iid_index: &[], sid_index: &[], animal_order: false, shape: (0, 0) };
     let said = guarded(|| ask_read(&folder.file, &none, f64::NAN, &mut []));
     if c.num(1) > TOP || c.num(2) > TOP {
         return document(did(said), c.unwritten(18, 0, 0), "18 added");
@@ -306,7 +309,11 @@ fn canonical(c: &Case, folder: &Folder) -> Want {
         return document(Did::NotRun, c.unwritten(16, 0, 0), "16 of the canonical call, outside the domain");
     }
     if shape.0.max(shape.1) as u64 > MOST {
-        return document(Did::NotRun, Outcome { written: vec![u8_bits(&HEADER)], ..c.unwritten(0, 0, 0) }, "a list of more entries than there is room for");
+        return document(
+            Did::NotRun,
+            Outcome { written: vec![u8_bits(&HEADER)], ..c.unwritten(0, 0, 0) },
+            "a list of more entries than there is room for",
+        );
     }
     // Reading everything with missing NaN, then writing under the same flag: both flags, both orders.
     let iids: Vec<i64> = (0..shape.0 as i64).collect();
@@ -443,7 +450,11 @@ fn piece(c: &Case, folder: &Folder, ata: bool) -> Want {
     }
     if said.is_some_and(|s| s.number == 1) {
         if rows == 0 && offset > TOP {
-            return document(did(said), Outcome { written: vec![vec![0; piece.len()]], ..c.unwritten(0, 0, 0) }, "a seek to 2^63 or more, with nothing to read");
+            return document(
+                did(said),
+                Outcome { written: vec![vec![0; piece.len()]], ..c.unwritten(0, 0, 0) },
+                "a seek to 2^63 or more, with nothing to read",
+            );
         }
         if f64_bits(&piece) != c.before()[0] {
             return document(did(said), c.unwritten(1, 0, 0), "1 after the piece was written");
