@@ -78,4 +78,14 @@ pub fn shapes(folder: &Folder) {
             println!("standardising {markers} markers with statistics for {records}, {order} order, applied {apply}, lent {lent}: {said}, {val:?}, {stats:?}");
         }
     }
+    // One row and one column in a file that is long enough.
+    fs::write(&folder.file, 1.5f64.to_le_bytes()).unwrap();
+    let file = folder.file.clone();
+    let (tell, told) = std::sync::mpsc::channel();
+    std::thread::spawn(move || {
+        let piece = Piece { offset: 0, row_count: 1, col_count: 1, start: 0, shape: (1, 0) };
+        let _ = tell.send(ask_piece(&file, true, &piece, &mut []));
+    });
+    let said = told.recv_timeout(std::time::Duration::from_secs(20)).map_or("not back after 20 seconds".to_string(), text);
+    println!("A'A of width 0: {said}");
 }

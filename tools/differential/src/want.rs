@@ -394,7 +394,7 @@ fn list(c: &Case, asked: &Asked, above: bool) -> Want {
         return document(did, c.unwritten(18, 0, 0), "18 added");
     }
     match lists {
-        None => original(None, vec![]),
+        None => document(did, c.unwritten(19, 0, 0), "19 added, the list is too long to be made"),
         Some(Err(Some(s))) => original(Some(s), c.before()),
         // Longer than any buffer that is drawn.
         Some(Err(None)) => document(did, c.unwritten(19, 0, 0), "19 added, the list is too long to be made"),
@@ -438,12 +438,14 @@ fn piece(c: &Case, folder: &Folder, ata: bool) -> Want {
     }
     let column = if ata { rows } else { height };
     let endless = !ata && cols > MOST && rows % (1 << 61) == 0;
+    fs::write(&folder.file, &bytes).unwrap();
     if sound && (column > MOST || endless) {
+        // A column of 2^63 bytes or more panics at once.
+        let did = if column >= 1 << 60 && !endless { did(guarded(|| ask_piece(&folder.file, ata, &p, &mut piece))) } else { Did::NotRun };
         let (number, written) = if short { (1, c.before()) } else { (0, vec![vec![0; piece.len()]]) };
         let name = if endless { "positions that wrap, without end" } else { "a column of more values than there is room for" };
-        return document(Did::NotRun, Outcome { written, ..c.unwritten(number, 0, 0) }, name);
+        return document(did, Outcome { written, ..c.unwritten(number, 0, 0) }, name);
     }
-    fs::write(&folder.file, &bytes).unwrap();
     let said = guarded(|| ask_piece(&folder.file, ata, &p, &mut piece));
     if sound && need > u64::MAX as u128 && short && said.is_some_and(|s| s.number != 1) {
         return document(did(said), c.unwritten(1, 0, 0), "positions that wrap");
