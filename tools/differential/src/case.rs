@@ -169,6 +169,36 @@ impl Case {
         Outcome { number, first, second, written: self.before() }
     }
 
+    /// Cases with one element fewer, or with one number or element that is less.
+    pub fn smaller(&self) -> Vec<Case> {
+        let mut cases = vec![];
+        for i in 0..self.args.len() {
+            let with = |arg: Arg| {
+                let mut case = self.clone();
+                case.args[i] = arg;
+                case
+            };
+            // Only a small number goes down by 1: a large one would take too many turns.
+            let less = |n: u64| [0, n / 2, if n < 99 { n.wrapping_sub(1) } else { n }].into_iter().filter(move |&m| m < n);
+            match &self.args[i] {
+                Arg::N(n) => cases.extend(less(*n).map(|m| with(Arg::N(m)))),
+                Arg::B(b) => {
+                    for at in 0..b.len() {
+                        let mut shorter = b.clone();
+                        shorter.remove(at);
+                        cases.push(with(Arg::B(shorter)));
+                        cases.extend(less(b[at]).map(|m| {
+                            let mut changed = b.clone();
+                            changed[at] = m;
+                            with(Arg::B(changed))
+                        }));
+                    }
+                }
+            }
+        }
+        cases
+    }
+
     /// The case's line in the stored list, up to the answer.
     pub fn line(&self) -> String {
         let mut line = format!("{:x}", self.call + 1);

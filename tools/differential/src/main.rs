@@ -23,6 +23,8 @@ struct Seen {
     named: BTreeMap<&'static str, (u64, BTreeMap<Did, u64>, String)>,
     panicked: (u64, String),
     different: (u64, String),
+    /// The shortest case that differs.
+    least: Option<Case>,
 }
 
 /// The numbers that document 01 lets a call give, and that an input can meet. The canonical call's second 4 needs a longer file than can be lent, and
@@ -77,11 +79,32 @@ fn judge(seen: &mut Seen, case: &Case, folder: &Folder) {
                 Some(_) => entry.1 += 1,
             }
         }
-        Some(outcome) => {
+        Some(_) => {
             seen.different.0 += 1;
-            let line = format!("{}\n    wanted: {}\n    library: {}", case.line(), outcome.line(), got.line());
-            keep_least(&mut seen.different.1, line);
+            if seen.least.as_ref().is_none_or(|least| case.line().len() < least.line().len()) {
+                seen.least = Some(case.clone());
+            }
         }
+    }
+}
+
+/// The case and both answers, if they differ.
+fn differs(case: &Case, folder: &Folder) -> Option<String> {
+    let (want, got) = (want::want(case, folder).outcome?, library::run(case));
+    (want != got).then(|| format!("{}\n    wanted: {}\n    library: {}", case.line(), want.line(), got.line()))
+}
+
+/// Makes a case that differs smaller, one number or element at a time, as long as it still differs.
+fn shrink(mut case: Case, folder: &Folder) -> String {
+    let mut text = differs(&case, folder).expect("a case that differs");
+    'again: loop {
+        for smaller in case.smaller() {
+            if let Some(found) = differs(&smaller, folder) {
+                (case, text) = (smaller, found);
+                continue 'again;
+            }
+        }
+        return text;
     }
 }
 
@@ -160,6 +183,9 @@ fn compare(words: &Words, seed: u64, folder: &Folder) -> u64 {
             roots(&mut seen, &mut rng, root_draws);
         } else {
             (0..draws).for_each(|_| judge(&mut seen, &draw::draw(name, &mut rng), folder));
+        }
+        if let Some(least) = seen.least.take() {
+            seen.different.1 = shrink(least, folder);
         }
         print(name, &seen);
         different += seen.different.0;
