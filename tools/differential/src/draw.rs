@@ -101,7 +101,16 @@ impl Rng {
         };
         let mut list: Vec<u64> = match kind {
             0 => (0..n).collect(),
-            1 => (0..n).rev().collect(),
+            1 => match self.below(4) {
+                0 => (0..n).rev().collect(),
+                1 => (0..n).map(|i| i.wrapping_sub(count)).collect(),
+                2 => (count - n..count).collect(),
+                _ => {
+                    let mut list: Vec<u64> = (0..n).collect();
+                    (1..list.len()).for_each(|i| list.swap(i, self.below(i as u64 + 1) as usize));
+                    list
+                }
+            },
             2 => vec![],
             _ if count == 0 && kind < 7 => vec![],
             _ => (0..n).map(|_| good(self)).collect(),
@@ -134,7 +143,7 @@ fn width(count: u64) -> u64 {
 /// The bytes of a file of the mode for the counts, sometimes damaged.
 fn file(r: &mut Rng, mode: u64, iids: u64, sids: u64) -> Vec<u64> {
     let (within, blocks) = if mode == 0 { (sids, iids) } else { (iids, sids) };
-    let len = (width(within) as u128 * blocks as u128).min(600) as usize;
+    let len = room(width(within), blocks);
     let mut file = vec![0x6c, 0x1b, mode];
     file.extend(r.bytes(len));
     if r.once_in(6) {
@@ -201,12 +210,18 @@ fn counts(r: &mut Rng, most: u64) -> (u64, u64) {
     }
 }
 
-fn area(a: usize, b: usize) -> usize {
-    a * b
+/// The product, or some small number if no buffer of that length is drawn.
+fn room(a: u64, b: u64) -> usize {
+    match a as u128 * b as u128 {
+        n if n <= 6000 => n as usize,
+        _ => 20,
+    }
 }
 
 pub fn draw(name: &str, r: &mut Rng) -> Case {
     let kind = if name.ends_with("i8") { Kind::I8 } else { Kind::F64 };
+    // Mostly small; sometimes large enough for whatever is done in steps of 16 or so.
+    let most = if r.once_in(25) { 70 } else { 9 };
     let args = match name {
         "open_and_check" => {
             let n = r.below(7) as usize;
@@ -237,11 +252,11 @@ pub fn draw(name: &str, r: &mut Rng) -> Case {
             args
         }
         "read_i8" | "read_f64" | "read_standardised_f64" => {
-            let (iids, sids) = counts(r, 9);
+            let (iids, sids) = counts(r, most);
             let mode = if r.once_in(30) { r.below(256) } else { r.flag() };
             let file = file(r, mode, iids, sids);
-            let (iid_index, sid_index) = (r.list(iids, 10), r.list(sids, 8));
-            let right = area(iid_index.len(), sid_index.len());
+            let (iid_index, sid_index) = (r.list(iids, most + 1), r.list(sids, most));
+            let right = iid_index.len() * sid_index.len();
             let mut args = vec![B(file), N(iids), N(sids), N(r.flag()), B(iid_index), B(sid_index.clone())];
             let n = r.length(right);
             if name == "read_standardised_f64" {
@@ -255,33 +270,30 @@ pub fn draw(name: &str, r: &mut Rng) -> Case {
         }
         "encode1_i8" | "encode1_f64" => {
             let missing = if kind == Kind::I8 { r.pick(I8_MISSING) } else { f64_missing(r) };
-            let n = r.below(19);
+            let n = r.below(2 * most + 1);
             let bad_in = r.pick(&[0, 0, 4, 16]);
             let input: Vec<u64> = (0..n).map(|_| value(r, kind, missing, bad_in)).collect();
             let k = r.length(width(n) as usize);
             vec![B(input), B(r.old(Kind::U8, k)), N(r.flag()), N(missing)]
         }
         "write_i8" | "write_f64" => {
-            let (iids, sids) = counts(r, 9);
+            let (iids, sids) = counts(r, most);
             let missing = if kind == Kind::I8 { r.pick(I8_MISSING) } else { f64_missing(r) };
-            let bad_in = r.pick(&[0, 0, 0, 9, 40]);
-            let right = (iids as u128 * sids as u128).min(99) as usize;
-            let n = r.length(right);
+            let bad_in = r.pick(&[0, 0, 0, 9, 40, 2000]);
+            let n = r.length(room(iids, sids));
             let val: Vec<u64> = (0..n).map(|_| value(r, kind, missing, bad_in)).collect();
-            let k = 3 + (width(iids) as u128 * sids as u128).min(120) as usize;
-            let k = r.length(k);
+            let k = r.length(3 + room(width(iids), sids));
             vec![B(val), N(iids), N(sids), N(r.flag()), N(r.flag()), N(missing), B(r.old(Kind::U8, k))]
         }
         "canonical" => {
-            let (iids, sids) = counts(r, 9);
+            let (iids, sids) = counts(r, most);
             let mode = if r.once_in(30) { r.below(256) } else { r.flag() };
-            let k = 3 + (width(iids) as u128 * sids as u128).min(120) as usize;
-            let k = r.length(k);
+            let k = r.length(3 + room(width(iids), sids));
             vec![B(file(r, mode, iids, sids)), N(iids), N(sids), B(r.old(Kind::U8, k))]
         }
         "impute_and_zero_mean_snps_f64" => {
-            let (iids, sids) = counts(r, 7);
-            let n = (iids as u128 * sids as u128).min(120) as usize;
+            let (iids, sids) = counts(r, most);
+            let n = room(iids, sids);
             let n = if r.once_in(20) { r.length(n) } else { n };
             let values = r.below(4);
             let val: Vec<u64> = (0..n)
@@ -292,7 +304,7 @@ pub fn draw(name: &str, r: &mut Rng) -> Case {
                     _ => (r.below(1 << 20) as f64 / 1024.0 - 300.0).to_bits(),
                 })
                 .collect();
-            let k = (2 * sids as u128).min(60) as usize;
+            let k = room(2, sids);
             let k = if r.once_in(12) { r.length(k) } else { k };
             vec![B(val), N(iids), N(sids), N(r.flag()), N(r.flag()), N(r.flag()), B(r.old(Kind::F64, k))]
         }
@@ -333,25 +345,24 @@ pub fn draw(name: &str, r: &mut Rng) -> Case {
             let n = r.below(15) as usize;
             vec![N(count), N(start), N(r.flag()), N(end), N(step), B(r.old(Kind::I64, n))]
         }
-        "file_ata_piece" | "file_aat_piece" => piece(name == "file_ata_piece", r),
+        "file_ata_piece" | "file_aat_piece" => piece(name == "file_ata_piece", if most > 9 { 24 } else { 5 }, r),
         "root_f64" => vec![N(root_draw(r))],
         _ => panic!("no call {name}"),
     };
     Case::new(name, args)
 }
 
-fn piece(ata: bool, r: &mut Rng) -> Vec<Arg> {
+fn piece(ata: bool, most: u64, r: &mut Rng) -> Vec<Arg> {
     let (rows, cols) = match r.below(20) {
         0 => (r.edge(), r.below(4)),
         1 => (r.below(4), r.edge()),
         2 => ((1 << 61) * r.below(5) + r.below(3), r.below(6)),
         3 => (0, r.below(5)),
         4 => (r.below(5), 0),
-        _ => (1 + r.below(5), 1 + r.below(5)),
+        _ => (1 + r.below(most), 1 + r.below(most)),
     };
     let total = if ata { cols } else { rows };
-    let room = r.below(5);
-    let start = if total > 5 { total - 1 - room.min(3) } else { r.below(total + 1) };
+    let start = if total > most { total - 1 - r.below(4) } else { r.below(total + 1) };
     let height = total.saturating_sub(start);
     let width = if r.once_in(8) { 0 } else { 1 + r.below(height.max(1)) };
     let (mut start, mut height, mut width) = (start, height, width);
@@ -374,7 +385,7 @@ fn piece(ata: bool, r: &mut Rng) -> Vec<Arg> {
     };
     let values = r.below(3);
     let mut bytes = r.bytes(offset.min(40) as usize);
-    for _ in 0..(rows as u128 * cols as u128).min(40) {
+    for _ in 0..room(rows, cols) {
         let bits = match values {
             0 => r.wild(),
             1 => (r.below(9) as f64 - 4.0).to_bits(),
@@ -385,7 +396,7 @@ fn piece(ata: bool, r: &mut Rng) -> Vec<Arg> {
     let n = r.length(bytes.len());
     let n = if r.flag() == 0 { bytes.len() } else { n };
     bytes.resize(n, 7);
-    let area = (height as u128 * width as u128).min(40) as usize;
+    let area = room(height, width);
     let area = if r.once_in(12) { r.length(area) } else { area };
     vec![B(bytes), N(offset), N(rows), N(cols), N(start), N(height), N(width), B(r.old(Kind::F64, area))]
 }

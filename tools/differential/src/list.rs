@@ -25,7 +25,7 @@ pub fn by_hand() -> Vec<Case> {
     let neg = |i: u64| i.wrapping_neg();
     let all = |n: u64| (0..n).collect::<Vec<u64>>();
     let old8 = |n: usize| B(vec![0xee; n]);
-    let old = |n: usize| B(vec![0.5f64.to_bits(); n]);
+    let old = |n: usize| B(vec![9; n]);
     let old64 = |n: usize| B(vec![77; n]);
 
     for file in [
@@ -106,6 +106,7 @@ pub fn by_hand() -> Vec<Case> {
     add("index_range", vec![N(5), N(1), N(TOP + 1), N(1), N(TOP + 2), old64(1)]);
 
     // Reading.
+    let mut large = vec![];
     let mut read = |file: &[u64], iids: u64, sids: u64, iid_index: Vec<u64>, sid_index: Vec<u64>, places: usize| {
         for choice in 0..4 {
             let (flag, order) = (choice & 1, choice >> 1);
@@ -154,6 +155,23 @@ pub fn by_hand() -> Vec<Case> {
     read(&F, 5, 2, vec![0, 1], vec![0], 1);
     read(&F, TOP + 1, 2, vec![0], vec![0], 1);
     read(&F, 5, TOP + 1, vec![0], vec![0], 1);
+
+    // Seventeen markers or animals, one more than a power of two.
+    let drawn = |n: u64| (0..n).map(|k| (k * 37 + 11) % 256).collect::<Vec<u64>>();
+    for (mode, iids, sids) in [(0, 3, 17), (1, 3, 17), (0, 17, 3), (1, 17, 3)] {
+        let (within, blocks): (u64, u64) = if mode == 0 { (sids, iids) } else { (iids, sids) };
+        let file = [vec![0x6c, 0x1b, mode], drawn(within.div_ceil(4) * blocks)].concat();
+        read(&file, iids, sids, all(iids), all(sids), (iids * sids) as usize);
+        read(
+            &file,
+            iids,
+            sids,
+            all(iids).into_iter().rev().collect(),
+            all(sids).into_iter().map(|m| m.wrapping_sub(sids)).collect(),
+            (iids * sids) as usize,
+        );
+        large.push((file, iids, sids));
+    }
 
     // Packing and writing.
     for flag in 0..2 {
@@ -206,6 +224,20 @@ pub fn by_hand() -> Vec<Case> {
         (vec![0x6c, 0x1b, 1], TOP, 8, 3),
     ] {
         add("canonical", vec![B(file), N(iids), N(sids), old8(n)]);
+    }
+
+    for (file, iids, sids) in large {
+        add("canonical", vec![B(file), N(iids), N(sids), old8(3 + (iids.div_ceil(4) * sids) as usize)]);
+        let values: Vec<u64> = (0..iids * sids).map(|k| [0, 2, 1, 0x81, 1][(k * k % 5) as usize]).collect();
+        let floats: Vec<u64> = values.iter().map(|&v| if v == 0x81 { NAN } else { (v as f64).to_bits() }).collect();
+        for order in 0..2 {
+            let out = 3 + (iids.div_ceil(4) * sids) as usize;
+            add("write_i8", vec![B(values.clone()), N(iids), N(sids), N(order), N(order), N(0x81), old8(out)]);
+            add("write_f64", vec![B(floats.clone()), N(iids), N(sids), N(order), N(1 - order), N(NAN), old8(out)]);
+            add("impute_and_zero_mean_snps_f64", vec![B(floats.clone()), N(iids), N(sids), N(order), N(1), N(0), old(2 * sids as usize)]);
+        }
+        add("encode1_i8", vec![B(values.clone()), old8(values.len().div_ceil(4)), N(1), N(0x81)]);
+        add("encode1_f64", vec![B(floats.clone()), old8(values.len().div_ceil(4)), N(0), N(NAN)]);
     }
 
     // Standardising.
