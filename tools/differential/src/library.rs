@@ -61,9 +61,21 @@ pub fn root(variance: f64) -> f64 {
     unsafe { bed_root_f64(variance) }
 }
 
+/// Where values are lent; none are lent as null, which the interface allows.
+fn at<T>(values: &[T]) -> *const T {
+    if values.is_empty() {
+        std::ptr::null()
+    } else {
+        values.as_ptr()
+    }
+}
+
 /// Lends the values between two elements that must not change.
 fn lend<T: Copy + PartialEq, R>(values: &mut Vec<T>, edge: T, f: impl FnOnce(*mut T, usize) -> R) -> R {
     let n = values.len();
+    if n == 0 {
+        return f(std::ptr::null_mut(), 0);
+    }
     values.insert(0, edge);
     values.push(edge);
     let r = f(unsafe { values.as_mut_ptr().add(1) }, n);
@@ -83,32 +95,18 @@ pub fn run(c: &Case) -> Outcome {
         match name {
             "open_and_check" => {
                 let file = c.u8s(0);
-                bed_open_and_check(file.as_ptr(), file.len())
+                bed_open_and_check(at(&file), file.len())
             }
             "try_div_4" => bed_try_div_4(n(0), n(1)),
             "byte_span" => {
                 let list = c.i64s(1);
-                bed_byte_span(n(0), list.as_ptr(), list.len())
+                bed_byte_span(n(0), at(&list), list.len())
             }
             "to_range" => bed_to_range(n(0), f(1), n(2), f(3), n(4)),
             "read_i8" => {
                 let (file, iid, sid, mut val) = (c.u8s(0), c.i64s(4), c.i64s(5), c.i8s(8));
                 let a = lend(&mut val, 0x5a, |p, k| {
-                    bed_read_i8(
-                        file.as_ptr(),
-                        file.len(),
-                        n(1),
-                        n(2),
-                        f(3),
-                        iid.as_ptr(),
-                        iid.len(),
-                        sid.as_ptr(),
-                        sid.len(),
-                        c.num(6) as i8,
-                        f(7),
-                        p,
-                        k,
-                    )
+                    bed_read_i8(at(&file), file.len(), n(1), n(2), f(3), at(&iid), iid.len(), at(&sid), sid.len(), c.num(6) as i8, f(7), p, k)
                 });
                 written.push(i8_bits(&val));
                 a
@@ -117,14 +115,14 @@ pub fn run(c: &Case) -> Outcome {
                 let (file, iid, sid, mut val) = (c.u8s(0), c.i64s(4), c.i64s(5), c.f64s(8));
                 let a = lend(&mut val, 0.25, |p, k| {
                     bed_read_f64(
-                        file.as_ptr(),
+                        at(&file),
                         file.len(),
                         n(1),
                         n(2),
                         f(3),
-                        iid.as_ptr(),
+                        at(&iid),
                         iid.len(),
-                        sid.as_ptr(),
+                        at(&sid),
                         sid.len(),
                         f64::from_bits(c.num(6)),
                         f(7),
@@ -137,31 +135,31 @@ pub fn run(c: &Case) -> Outcome {
             }
             "encode1_i8" => {
                 let (input, mut out) = (c.i8s(0), c.u8s(1));
-                let a = lend(&mut out, 0x5a, |p, k| bed_encode1_i8(input.as_ptr(), input.len(), p, k, f(2), c.num(3) as i8));
+                let a = lend(&mut out, 0x5a, |p, k| bed_encode1_i8(at(&input), input.len(), p, k, f(2), c.num(3) as i8));
                 written.push(u8_bits(&out));
                 a
             }
             "encode1_f64" => {
                 let (input, mut out) = (c.f64s(0), c.u8s(1));
-                let a = lend(&mut out, 0x5a, |p, k| bed_encode1_f64(input.as_ptr(), input.len(), p, k, f(2), f64::from_bits(c.num(3))));
+                let a = lend(&mut out, 0x5a, |p, k| bed_encode1_f64(at(&input), input.len(), p, k, f(2), f64::from_bits(c.num(3))));
                 written.push(u8_bits(&out));
                 a
             }
             "write_i8" => {
                 let (val, mut out) = (c.i8s(0), c.u8s(6));
-                let a = lend(&mut out, 0x5a, |p, k| bed_write_i8(val.as_ptr(), val.len(), n(1), n(2), f(3), f(4), c.num(5) as i8, p, k));
+                let a = lend(&mut out, 0x5a, |p, k| bed_write_i8(at(&val), val.len(), n(1), n(2), f(3), f(4), c.num(5) as i8, p, k));
                 written.push(u8_bits(&out));
                 a
             }
             "write_f64" => {
                 let (val, mut out) = (c.f64s(0), c.u8s(6));
-                let a = lend(&mut out, 0x5a, |p, k| bed_write_f64(val.as_ptr(), val.len(), n(1), n(2), f(3), f(4), f64::from_bits(c.num(5)), p, k));
+                let a = lend(&mut out, 0x5a, |p, k| bed_write_f64(at(&val), val.len(), n(1), n(2), f(3), f(4), f64::from_bits(c.num(5)), p, k));
                 written.push(u8_bits(&out));
                 a
             }
             "canonical" => {
                 let (file, mut out) = (c.u8s(0), c.u8s(3));
-                let a = lend(&mut out, 0x5a, |p, k| bed_canonical(file.as_ptr(), file.len(), n(1), n(2), p, k));
+                let a = lend(&mut out, 0x5a, |p, k| bed_canonical(at(&file), file.len(), n(1), n(2), p, k));
                 written.push(u8_bits(&out));
                 a
             }
@@ -179,14 +177,14 @@ pub fn run(c: &Case) -> Outcome {
                 let a = lend(&mut val, 0.25, |v, vk| {
                     lend(&mut stats, 0.25, |p, k| {
                         bed_read_standardised_f64(
-                            file.as_ptr(),
+                            at(&file),
                             file.len(),
                             n(1),
                             n(2),
                             f(3),
-                            iid.as_ptr(),
+                            at(&iid),
                             iid.len(),
-                            sid.as_ptr(),
+                            at(&sid),
                             sid.len(),
                             f(6),
                             v,
@@ -204,7 +202,7 @@ pub fn run(c: &Case) -> Outcome {
             "file_ata_piece" | "file_aat_piece" => {
                 let (bytes, mut piece) = (c.u8s(0), c.f64s(7));
                 let call = if name == "file_ata_piece" { bed_file_ata_piece } else { bed_file_aat_piece };
-                let a = lend(&mut piece, 0.25, |p, k| call(bytes.as_ptr(), bytes.len(), c.num(1), n(2), n(3), n(4), n(5), n(6), p, k));
+                let a = lend(&mut piece, 0.25, |p, k| call(at(&bytes), bytes.len(), c.num(1), n(2), n(3), n(4), n(5), n(6), p, k));
                 written.push(f64_bits(&piece));
                 a
             }
@@ -215,11 +213,11 @@ pub fn run(c: &Case) -> Outcome {
                     "index_one" => bed_index_one(n(0), s(1), p, k),
                     "index_vec" => {
                         let vec = c.i64s(1);
-                        bed_index_vec(n(0), vec.as_ptr(), vec.len(), p, k)
+                        bed_index_vec(n(0), at(&vec), vec.len(), p, k)
                     }
                     "index_bool" => {
                         let marks = c.u8s(1);
-                        bed_index_bool(n(0), marks.as_ptr(), marks.len(), p, k)
+                        bed_index_bool(n(0), at(&marks), marks.len(), p, k)
                     }
                     "index_range" => bed_index_range(n(0), f(1), n(2), f(3), n(4), p, k),
                     "index_slice" => bed_index_slice(n(0), s(1), f(2), s(3), s(4), p, k),
