@@ -1,0 +1,458 @@
+//! The stored list: a few hundred chosen cases with their answers, a line each (README.md has the form).
+use crate::case::Arg::{B, N};
+use crate::case::*;
+use crate::draw::{draw, Rng};
+use crate::want::{want, Folder};
+use std::collections::BTreeMap;
+
+const TOP: u64 = i64::MAX as u64;
+const NAN: u64 = 0x7ff8_0000_0000_0000;
+/// Buffers of the list have at most this many places.
+const MOST: usize = 64;
+
+fn bits(values: &[f64]) -> Vec<u64> {
+    values.iter().map(|v| v.to_bits()).collect()
+}
+
+/// File F of document 01, and a file of mode 0 with the same calls.
+const F: [u64; 7] = [0x6c, 0x1b, 1, 0xe4, 0, 0x2f, 2];
+const F_BY_ANIMAL: [u64; 8] = [0x6c, 0x1b, 0, 0xc, 0xd, 0xa, 3, 8];
+
+/// Document 01's examples, the boundaries, and the smallest input of each difference in docs/DIFFERENCES.md.
+pub fn by_hand() -> Vec<Case> {
+    let mut cases = vec![];
+    let mut add = |name: &str, args: Vec<Arg>| cases.push(Case::new(name, args));
+    let neg = |i: u64| i.wrapping_neg();
+    let all = |n: u64| (0..n).collect::<Vec<u64>>();
+    let old8 = |n: usize| B(vec![0xee; n]);
+    let old = |n: usize| B(vec![9; n]);
+    let old64 = |n: usize| B(vec![77; n]);
+
+    for file in [
+        vec![],
+        vec![0x6c],
+        vec![0x6c, 0x1b],
+        vec![0x6c, 0x1b, 0],
+        vec![0x6c, 0x1b, 1],
+        vec![0x6c, 0x1b, 2, 7],
+        vec![0x1b, 0x6c, 1],
+        vec![0x6c, 0x1c, 1],
+    ] {
+        add("open_and_check", vec![B(file)]);
+    }
+    for (a, b) in [
+        (0, 0),
+        (0, TOP),
+        (0, TOP + 1),
+        (1, 0),
+        (4, 1),
+        (5, 1),
+        (8, 3),
+        (9, 3),
+        (TOP, 0),
+        (TOP, 7),
+        (TOP, 8),
+        (TOP + 1, 0),
+        (u64::MAX, u64::MAX),
+        (4, TOP),
+        (8, TOP),
+        (9, TOP),
+        (5, TOP),
+        (1, u64::MAX),
+        (13, TOP / 2),
+        (4, u64::MAX - 3),
+    ] {
+        add("try_div_4", vec![N(a), N(b)]);
+    }
+    for (count, list) in [
+        (0, vec![]),
+        (0, vec![0]),
+        (0, vec![u64::MAX]),
+        (5, vec![neg(5)]),
+        (5, vec![4]),
+        (5, vec![neg(6)]),
+        (5, vec![5]),
+        (5, vec![0, 5, neg(6)]),
+        (40, vec![39, 8, neg(20)]),
+        (TOP, vec![TOP - 1, neg(TOP)]),
+        (TOP, vec![TOP]),
+        (TOP, vec![TOP + 1]),
+        (TOP + 1, vec![]),
+        (9, vec![3, 3, 4]),
+    ] {
+        add("byte_span", vec![N(count), B(list)]);
+    }
+    for (count, has_start, start, has_end, end) in [
+        (5, 0, 9, 0, 9),
+        (5, 1, 2, 0, 9),
+        (5, 0, 9, 1, 3),
+        (5, 1, 3, 1, 3),
+        (5, 1, 4, 1, 3),
+        (5, 1, 6, 0, 0),
+        (5, 1, 3, 1, 12),
+        (TOP, 0, 0, 0, 0),
+        (5, 1, TOP, 1, TOP),
+        (5, 1, TOP + 1, 1, TOP + 2),
+        (5, 1, 0, 1, TOP + 1),
+        (TOP + 1, 1, 0, 1, 0),
+        (5, 0, u64::MAX, 0, u64::MAX),
+    ] {
+        add("to_range", vec![N(count), N(has_start), N(start), N(has_end), N(end)]);
+        if end <= 16 {
+            add("index_range", vec![N(count), N(has_start), N(start), N(has_end), N(end), old64(10)]);
+            add("index_range", vec![N(count), N(has_start), N(start), N(has_end), N(end), old64(1)]);
+        }
+    }
+    add("index_range", vec![N(5), N(1), N(TOP + 1), N(1), N(TOP + 2), old64(1)]);
+
+    // Reading.
+    let mut large = vec![];
+    let mut read = |file: &[u64], iids: u64, sids: u64, iid_index: Vec<u64>, sid_index: Vec<u64>, places: usize| {
+        for choice in 0..4 {
+            let (flag, order) = (choice & 1, choice >> 1);
+            let head = vec![B(file.to_vec()), N(iids), N(sids), N(flag), B(iid_index.clone()), B(sid_index.clone())];
+            let with = |more: Vec<Arg>| head.iter().cloned().chain(more).collect::<Vec<Arg>>();
+            if choice == 1 || choice == 2 {
+                add("read_i8", with(vec![N(0x81), N(order), old8(places)]));
+                add("read_f64", with(vec![N(NAN), N(order), old(places)]));
+            }
+            if choice == 0 || choice == 3 {
+                add("read_standardised_f64", with(vec![N(order), old(places), old(2 * sid_index.len())]));
+            }
+        }
+    };
+    let mut f2 = F;
+    f2[6] = 0xf2;
+    read(&F, 5, 2, all(5), all(2), 10);
+    read(&f2, 5, 2, all(5), all(2), 10);
+    read(&F_BY_ANIMAL, 5, 2, all(5), all(2), 10);
+    read(&F, 5, 2, vec![neg(1), 0, 2, neg(5)], vec![1, neg(2), 1], 12);
+    read(&F_BY_ANIMAL, 5, 2, vec![neg(1), 0, 2, neg(5)], vec![1, neg(2), 1], 12);
+    read(&F, 5, 2, vec![], all(2), 0);
+    read(&F, 5, 2, all(5), vec![], 0);
+    read(&[0x6c, 0x1b, 1], 0, 9, vec![], all(9), 0);
+    read(&[0x6c, 0x1b, 1, 0], 0, 9, vec![], vec![], 0);
+    read(&[0x6c, 0x1b, 0], 9, 0, all(9), vec![], 0);
+    read(&[0x6c, 0x1b, 1], TOP, 0, vec![TOP - 1], vec![], 0);
+    read(&[0x6c, 0x1b, 1], 0, TOP, vec![], vec![TOP - 1], 0);
+    // 1, 2, 3, 4, 2, 5 and 6, and what comes first.
+    read(&[0x6c, 0x1b], 5, 2, vec![9], vec![9], 1);
+    read(&[0x6d, 0x1b, 9], 5, 2, vec![9], vec![9], 1);
+    read(&[0x6c, 0x1b, 2, 0xe4], 5, 2, vec![9], vec![9], 1);
+    read(&[0x6c, 0x1b, 1], TOP, 8, vec![], vec![], 0);
+    read(&[0x6c, 0x1b, 1], TOP, 7, vec![], vec![], 0);
+    read(&F[..6], 5, 2, vec![9], vec![9], 1);
+    read(&F, 5, 2, vec![0, 5, neg(6)], vec![0, 2], 6);
+    read(&F, 5, 2, vec![0], vec![2], 1);
+    read(&F, 5, 2, vec![0], vec![0, 2], 2);
+    read(&F, 5, 2, vec![0], vec![0, 2, 1], 3);
+    read(&F, 5, 2, vec![5, 6], vec![0], 2);
+    read(&F, 5, 2, vec![], vec![neg(3)], 0);
+    read(&F, 5, 2, vec![5], vec![], 0);
+    read(&F_BY_ANIMAL, 5, 2, vec![9], vec![0, 2, 3], 3);
+    read(&F_BY_ANIMAL, 5, 2, vec![0, 5], vec![0], 2);
+    read(&F_BY_ANIMAL, 5, 2, vec![5], vec![], 0);
+    read(&F, 5, 2, vec![0, 1], vec![0], 1);
+    read(&F, TOP + 1, 2, vec![0], vec![0], 1);
+    read(&F, 5, TOP + 1, vec![0], vec![0], 1);
+
+    // Seventeen markers or animals, one more than a power of two.
+    let drawn = |n: u64| (0..n).map(|k| (k * 37 + 11) % 256).collect::<Vec<u64>>();
+    for (mode, iids, sids) in [(0, 3, 17), (1, 3, 17), (0, 17, 3), (1, 17, 3)] {
+        let (within, blocks): (u64, u64) = if mode == 0 { (sids, iids) } else { (iids, sids) };
+        let file = [vec![0x6c, 0x1b, mode], drawn(within.div_ceil(4) * blocks)].concat();
+        read(&file, iids, sids, all(iids), all(sids), (iids * sids) as usize);
+        read(
+            &file,
+            iids,
+            sids,
+            all(iids).into_iter().rev().collect(),
+            all(sids).into_iter().map(|m| m.wrapping_sub(sids)).collect(),
+            (iids * sids) as usize,
+        );
+        large.push((file, iids, sids));
+    }
+
+    // Packing and writing.
+    for flag in 0..2 {
+        add("encode1_i8", vec![B(vec![0, 0x81, 1, 2, 2]), old8(2), N(flag), N(0x81)]);
+        add("encode1_i8", vec![B(vec![0, 1, 2, 2, 0, 3, 1]), old8(2), N(flag), N(0x81)]);
+        add("encode1_i8", vec![B(vec![0, 1, 2, 2, 0, 3, 1]), old8(3), N(flag), N(0x81)]);
+        add("encode1_i8", vec![B(vec![0, 1, 2]), old8(1), N(flag), N(1)]);
+        add("encode1_f64", vec![B(bits(&[0.0, -0.0, f64::NAN, 2.0, 1.0])), old8(2), N(flag), N(NAN)]);
+        add("encode1_f64", vec![B(bits(&[0.0, 1.0, 2.0, 2.0, f64::NAN])), old8(2), N(flag), N(3.0f64.to_bits())]);
+        add("encode1_f64", vec![B(bits(&[3.0, 0.0])), old8(1), N(flag), N(3.0f64.to_bits())]);
+        for order in 0..2 {
+            let tail = |missing: u64, n: usize| vec![N(order), N(flag), N(missing), old8(n)];
+            let mut write = |name: &str, val: Vec<u64>, iids: u64, sids: u64, missing: u64, n: usize| {
+                add(name, [vec![B(val), N(iids), N(sids)], tail(missing, n)].concat());
+            };
+            write("write_i8", vec![2, 0x81, 1, 0, 2, 0, 0, 1, 2, 1], 5, 2, 0x81, 7);
+            write("write_f64", bits(&[2.0, f64::NAN, 1.0, 0.0, 2.0, -0.0, 0.0, 1.0, 2.0, 1.0]), 5, 2, NAN, 7);
+            write("write_i8", vec![0, 1, 3, 0, 3, 3], 3, 2, 0x81, 5);
+            write("write_f64", bits(&[0.0, 1.0, 3.0, 0.0, 3.0, 3.0]), 3, 2, NAN, 5);
+            write("write_i8", vec![], 0, 9, 0x81, 3);
+            write("write_i8", vec![], 9, 0, 0x81, 3);
+            write("write_i8", vec![], 0, TOP, 0x81, 3);
+            write("write_f64", vec![], TOP, 0, NAN, 3);
+            write("write_i8", vec![], TOP, 8, 0x81, 3);
+            write("write_i8", vec![3], TOP + 1, 8, 0x81, 3);
+            write("write_f64", vec![3], 1, 2, NAN, 5);
+            write("write_i8", vec![3], 1, 1, 0x81, 4);
+            write("write_i8", vec![3], 1, 1, 0x81, 5);
+        }
+    }
+    add("encode1_i8", vec![B(vec![]), old8(0), N(0), N(0x81)]);
+    add("encode1_i8", vec![B(vec![]), old8(1), N(0), N(0x81)]);
+
+    // Canonical files.
+    for (file, iids, sids, n) in [
+        (F.to_vec(), 5, 2, 7),
+        (f2.to_vec(), 5, 2, 7),
+        (F_BY_ANIMAL.to_vec(), 5, 2, 7),
+        (F.to_vec(), 5, 2, 6),
+        (F[..6].to_vec(), 5, 2, 7),
+        (vec![0x6c, 0x1b, 1], 0, 9, 3),
+        (vec![0x6c, 0x1b, 0], 9, 0, 3),
+        (vec![0x6c, 0x1b, 1], 0, TOP, 3),
+        (vec![0x6c, 0x1b, 0], TOP, 0, 3),
+        (vec![0x6c, 0x1b, 0], 5, TOP, 3),
+        (vec![0x6c, 0x1b, 0], 9, TOP, 3),
+        (vec![0x6c, 0x1b, 3], 9, TOP, 3),
+        (vec![0x6c, 0x1b], 0, 0, 3),
+        (F.to_vec(), TOP + 1, 2, 7),
+        (vec![0x6c, 0x1b, 1], TOP, 8, 3),
+    ] {
+        add("canonical", vec![B(file), N(iids), N(sids), old8(n)]);
+    }
+
+    for (file, iids, sids) in large {
+        add("canonical", vec![B(file), N(iids), N(sids), old8(3 + (iids.div_ceil(4) * sids) as usize)]);
+        let values: Vec<u64> = (0..iids * sids).map(|k| [0, 2, 1, 0x81, 1][(k * k % 5) as usize]).collect();
+        let floats: Vec<u64> = values.iter().map(|&v| if v == 0x81 { NAN } else { (v as f64).to_bits() }).collect();
+        for order in 0..2 {
+            let out = 3 + (iids.div_ceil(4) * sids) as usize;
+            add("write_i8", vec![B(values.clone()), N(iids), N(sids), N(order), N(order), N(0x81), old8(out)]);
+            add("write_f64", vec![B(floats.clone()), N(iids), N(sids), N(order), N(1 - order), N(NAN), old8(out)]);
+            add("impute_and_zero_mean_snps_f64", vec![B(floats.clone()), N(iids), N(sids), N(order), N(1), N(0), old(2 * sids as usize)]);
+        }
+        add("encode1_i8", vec![B(values.clone()), old8(values.len().div_ceil(4)), N(1), N(0x81)]);
+        add("encode1_f64", vec![B(floats.clone()), old8(values.len().div_ceil(4)), N(0), N(NAN)]);
+    }
+
+    // Standardising.
+    for choice in 0..8 {
+        let mut impute = |val: &[f64], iids: u64, sids: u64, stats: &[f64]| {
+            add(
+                "impute_and_zero_mean_snps_f64",
+                vec![B(bits(val)), N(iids), N(sids), N(choice & 1), N(choice >> 1 & 1), N(choice >> 2), B(bits(stats))],
+            );
+        };
+        impute(&[0.0, 2.0, f64::NAN], 3, 1, &[1.5, 0.25]);
+        impute(&[1.0, 1.0], 2, 1, &[0.5, f64::NEG_INFINITY]);
+        impute(&[f64::NAN, f64::NAN], 2, 1, &[0.5, 0.75]);
+        impute(&[0.0, 2.0, f64::NAN, 1.0, f64::NAN, f64::NAN, 2.0, 0.1, f64::NAN], 3, 3, &[1.0, 2.0, 3.0, 4.0, 5.0, 0.0]);
+        impute(&[f64::INFINITY, 0.0, f64::NEG_INFINITY, 1.0], 2, 2, &[0.5, 0.75, -0.0, -1.0]);
+        impute(&[0.1, 0.2, 0.3, 0.7, 1e300, -1e300], 3, 2, &[f64::NAN, 0.75, f64::INFINITY, 1e-300]);
+        impute(&[1.0, 2.0], 1, 2, &[0.5, 0.75]);
+        impute(&[f64::NAN, f64::NAN], 1, 2, &[0.5, 0.75, 0.5, 0.75]);
+        impute(&[1.0], 1, 2, &[0.5, 0.75, 0.5, 0.75]);
+    }
+    add("impute_and_zero_mean_snps_f64", vec![B(vec![]), N(TOP), N(0), N(0), N(1), N(0), B(vec![])]);
+    add("impute_and_zero_mean_snps_f64", vec![B(vec![]), N(0), N(TOP), N(1), N(1), N(0), B(vec![])]);
+    add("impute_and_zero_mean_snps_f64", vec![B(vec![]), N(TOP + 1), N(0), N(1), N(1), N(0), B(vec![])]);
+    add("impute_and_zero_mean_snps_f64", vec![B(vec![]), N(0), N(2), N(0), N(1), N(0), old(4)]);
+
+    // Lists.
+    for (count, n) in [(0, 0), (1, 0), (3, 3), (3, 5), (TOP, 3), (TOP + 1, 3)] {
+        add("index_all", vec![N(count), old64(n)]);
+        add("index_one", vec![N(count), N(neg(7)), old64(n)]);
+        add("index_vec", vec![N(count), B(vec![9, neg(9)]), old64(n)]);
+        add("index_bool", vec![N(count), B(vec![1, 0, 255]), old64(n)]);
+    }
+    for (start, has_end, end, step) in [
+        (1, 1, 6, neg(2)),
+        (0, 0, 99, 1),
+        (0, 0, 99, neg(1)),
+        (0, 0, 99, 0),
+        (7, 1, 9, 0),
+        (7, 1, 9, 1),
+        (neg(7), 1, 9, 1),
+        (0, 1, 7, 1),
+        (0, 1, neg(7), 1),
+        (neg(6), 1, neg(1), 2),
+        (4, 1, 2, 1),
+        (3, 1, 3, neg(1)),
+        (1 << 63, 1, 2, 1),
+        (0, 1, 1 << 63, 1),
+        (0, 1, 6, 1 << 63),
+        (0, 1, 6, TOP),
+        (1, 1, 6, neg(TOP)),
+    ] {
+        add("index_slice", vec![N(6), N(start), N(has_end), N(end), N(step), old64(6)]);
+    }
+    add("index_slice", vec![N(6), N(0), N(0), N(0), N(1), old64(5)]);
+    add("index_slice", vec![N(TOP), N(0), N(0), N(0), N(1), old64(5)]);
+    add("index_slice", vec![N(TOP), N(0), N(0), N(0), N(TOP - 1), old64(5)]);
+    add("index_slice", vec![N(TOP), N(0), N(0), N(0), N(neg(TOP - 1)), old64(5)]);
+    add("index_slice", vec![N(TOP + 1), N(0), N(0), N(0), N(0), old64(5)]);
+
+    // Products: three rows and three columns after two bytes.
+    let values = [1.5, -2.0, 0.1, 3.0, 0.2, -0.0, 7.0, 1e300, f64::INFINITY];
+    let bytes: Vec<u64> = [9u8, 9].into_iter().chain(values.iter().flat_map(|v| v.to_le_bytes())).map(|b| b as u64).collect();
+    for name in ["file_ata_piece", "file_aat_piece"] {
+        let mut piece = |bytes: &[u64], offset: u64, rows: u64, cols: u64, start: u64, height: u64, width: u64, n: usize| {
+            add(name, vec![B(bytes.to_vec()), N(offset), N(rows), N(cols), N(start), N(height), N(width), old(n)]);
+        };
+        let (two, one) = (&bytes[..34], &bytes[2..10]);
+        piece(two, 2, 2, 2, 0, 2, 2, 4);
+        piece(two, 2, 2, 2, 0, 2, 1, 2);
+        piece(two, 2, 2, 2, 1, 1, 1, 1);
+        piece(&two[..33], 2, 2, 2, 0, 2, 2, 4);
+        piece(two, 3, 2, 2, 0, 2, 2, 4);
+        piece(two, 2, 2, 2, 2, 0, 1, 0);
+        piece(two, 2, 2, 2, 0, 1, 1, 1);
+        piece(two, 2, 2, 2, 1, 1, 2, 2);
+        piece(two, 2, 2, 2, 0, 2, 0, 0);
+        piece(two, 2, 2, 2, 0, 2, 2, 3);
+        piece(two, 2, 2, 2, 0, 1, 2, 3);
+        piece(&[], 5, 0, 3, 0, 3, 2, 6);
+        piece(&[], 5, 3, 0, 0, 3, 2, 6);
+        piece(&[], 1 << 63, 0, 1, 0, 1, 1, 1);
+        piece(&[], 1 << 63, 1, 0, 0, 1, 1, 1);
+        piece(one, neg(8), 1, 2, 1, 1, 1, 1);
+        piece(one, neg(8), 2, 1, 1, 1, 1, 1);
+        piece(one, 8, 1 << 61, 1, (1 << 61) - 1, 1, 1, 1);
+        piece(one, 0, 1, 1 << 61, (1 << 61) - 1, 1, 1, 1);
+        piece(one, 0, 1 << 61, 2, 1, 1, 1, 1);
+        piece(&[], 0, 1, 1, 0, 1, 1, 1);
+        piece(one, 0, 1, 2, 0, 2, 1, 2);
+        piece(&[], 0, 0, 1, 0, 1, 0, 0);
+        piece(one, 8, 1 << 61, TOP, (1 << 61) - 1, 1, 1, 1);
+        piece(one, 0, TOP, 1, 0, 1, 1, 1);
+        piece(one, 0, TOP, 1, 0, TOP, 0, 0);
+        piece(one, 0, TOP, TOP, 0, TOP, 0, 0);
+        piece(one, 0, TOP + 1, 1, 0, 1, 1, 1);
+        piece(one, 0, 1, 1, 0, 1, TOP + 1, 1);
+    }
+    for v in [0.0, -0.0, 1.0, 2.0, 0.25, -1.0, f64::INFINITY, f64::NEG_INFINITY, f64::NAN, f64::MIN_POSITIVE, 5e-324, f64::MAX, 0.1, 1.5e-310, 3.0] {
+        add("root_f64", vec![N(v.to_bits())]);
+    }
+    cases
+}
+
+/// What sorts cases of a call apart: the numbers that are flags, the file's mode, and which buffers are empty.
+fn features(case: &Case) -> Vec<u64> {
+    let of = |(i, arg): (usize, &Arg)| match arg {
+        B(b) if i == 0 && b.len() > 3 && b[0] == 0x6c => b[2].min(2),
+        N(n) if matches!(case.name(), "read_i8" | "read_f64") && (i == 3 || i == 7) => *n,
+        N(n) if case.name() == "read_standardised_f64" && (i == 3 || i == 6) => *n,
+        N(n) if case.name().starts_with("encode1") && i == 2 => *n,
+        N(n) if case.name().starts_with("write") && (i == 3 || i == 4) => *n,
+        N(n) if case.name().starts_with("impute") && (3..6).contains(&i) => *n,
+        N(n) if case.name().contains("range") && (i == 1 || i == 3) => *n,
+        N(n) if case.name() == "index_slice" && (i == 2 || i == 4) => (*n >> 63) | (*n == 0) as u64 * 2,
+        _ => 0,
+    };
+    case.args.iter().enumerate().map(of).collect()
+}
+
+/// The chosen cases, each once: those by hand, then of drawn ones the first of every sort.
+pub fn cases(seed: u64, folder: &Folder) -> Vec<Case> {
+    let mut all: BTreeMap<String, Case> = BTreeMap::new();
+    let mut order = vec![];
+    let mut put = |case: Case| {
+        let line = case.line();
+        if all.insert(line.clone(), case).is_none() {
+            order.push(line);
+        }
+    };
+    by_hand().into_iter().for_each(&mut put);
+    for (i, (name, _)) in CALLS.iter().enumerate() {
+        let mut rng = Rng(seed.wrapping_mul(1000).wrapping_add(i as u64));
+        let mut sorts: BTreeMap<_, Case> = BTreeMap::new();
+        for _ in 0..4000 {
+            let case = draw(name, &mut rng);
+            let small = case.args.iter().all(|a| matches!(a, N(_)) || matches!(a, B(b) if b.len() <= MOST));
+            if !small {
+                continue;
+            }
+            let want = want(&case, folder);
+            if let Some(outcome) = &want.outcome {
+                // A refusal once, an answer once for every sort.
+                let sort = if outcome.number == 0 { features(&case) } else { vec![] };
+                let length = case.line().len();
+                if length < 260 && (length >= 60 || CALLS[case.call].1.len() < 4) {
+                    sorts.entry((outcome.number, want.named, sort)).or_insert(case);
+                }
+            }
+        }
+        sorts.into_values().for_each(&mut put);
+    }
+    order.iter().map(|line| all[line].clone()).collect()
+}
+
+pub fn print(seed: u64, folder: &Folder) {
+    println!("# Answers of the original's own lines, for the program `replay`. The original (bed-reader at commit 0128fc7557) as published");
+    println!(
+        "# was not run: its kept functions, cut unchanged out of its source, were compiled over small stand-ins for the crates that could not be"
+    );
+    println!("# had, and run on one thread. What indexing, views, strides and iteration order give is the stand-ins'. tools/differential says how.");
+    println!("# Made by: differential list seed={seed}. A line is a case, in hexadecimal words: whose answer it is (0 the original's; 1 document 01's, at a");
+    println!("# difference that docs/DIFFERENCES.md names), the call, its parameters, the answer. tools/differential/README.md has the form.");
+    for case in cases(seed, folder) {
+        let want = want(&case, folder);
+        if let Some(outcome) = want.outcome {
+            println!("{} {} {}", want.named.is_some() as u8, case.line(), outcome.line());
+        }
+    }
+}
+
+/// The cases by hand at which document 01 names a difference, with what the original did.
+pub fn rows(folder: &Folder) {
+    for case in by_hand() {
+        let want = want(&case, folder);
+        if let (Some(name), Some(outcome)) = (want.named, want.outcome) {
+            println!("{}: {name}; the original: {}; document 01: {}; {}", case.name(), want.did, outcome.number, case.line());
+        }
+    }
+}
+
+/// A stored list, read back: each line's case and what stands for its answer.
+fn parse(line: &str) -> Option<(Case, String)> {
+    let words: Vec<u64> = line.split(' ').map(|w| u64::from_str_radix(w, 16).ok()).collect::<Option<_>>()?;
+    let call = (words[1] as usize).checked_sub(1)?;
+    let mut at = 2;
+    let mut args = vec![];
+    for par in CALLS.get(call)?.1 {
+        let n = *words.get(at)?;
+        at += 1;
+        args.push(match par {
+            Par::Num => N(n),
+            _ => {
+                let buffer = words.get(at..at + n as usize)?.to_vec();
+                at += n as usize;
+                B(buffer)
+            }
+        });
+    }
+    let answer = line.split(' ').skip(at).collect::<Vec<&str>>().join(" ");
+    Some((Case::new(CALLS[call].0, args), answer))
+}
+
+/// Runs a stored list against the library. Answers how many lines differ.
+pub fn check(text: &str) -> u64 {
+    let (mut same, mut different) = (0, 0);
+    for line in text.lines().filter(|line| !line.starts_with('#')) {
+        let (case, answer) = parse(line).unwrap_or_else(|| panic!("a line that is not a case: {line}"));
+        let got = crate::library::run(&case).line();
+        if got == answer {
+            same += 1;
+        } else {
+            different += 1;
+            println!("DIFFERENT: {line}\n    library: {got}");
+        }
+    }
+    println!("the stored list: {same} lines agree, {different} differ");
+    different
+}
