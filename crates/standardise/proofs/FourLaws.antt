@@ -1,5 +1,5 @@
 -- Four values more at once.
-use mathlib.Core.Path.{_≡_, refl, ap, _∙_}
+use mathlib.Core.Path.{_≡_, refl, sym, ap, _∙_}
 use mathlib.Core.Bool.{false}
 use mathlib.Core.List.{List}
 use Prim.Native.Nat.{ℕ, _+_}
@@ -48,15 +48,27 @@ accumulated-four f column n {a} {b} e s =
     let e3 = accumulated-more f column (n + 2) {a = counted f (counted f a (column n)) (column (n + 1))} {b = counted f (counted f (counted f a (column n)) (column (n + 1))) (column (n + 2))} refl e2 ∙ ap (accumulated f column) k3 in
     accumulated-more f column (n + 3) e e3 ∙ ap (accumulated f column) k4
 
--- the same of a column from a place on
-pub column-four :
-    (f : Format) (val : List Float) (start i : ℕ) {a b : Accumulator}
-    → b ≡ countedFour f a (getD val (start + i) nan) (getD val (start + i + 1) nan) (getD val (start + i + 2) nan) (getD val (start + i + 3) nan)
-    → a ≡ accumulated f (from val start) i → b ≡ accumulated f (from val start) (i + 4)
-column-four f val start i {a} {b} e s =
-    accumulated-four f (from val start) i {a = a} {b = b}
-    (e
-    ∙ ap (λ (x : ℕ). countedFour f a (getD val (start + i) nan) (getD val x nan) (getD val (start + i + 2) nan) (getD val (start + i + 3) nan)) (add-assoc start i 1)
-    ∙ ap (λ (x : ℕ). countedFour f a (getD val (start + i) nan) (getD val (start + (i + 1)) nan) (getD val x nan) (getD val (start + i + 3) nan)) (add-assoc start i 2)
-    ∙ ap (λ (x : ℕ). countedFour f a (getD val (start + i) nan) (getD val (start + (i + 1)) nan) (getD val (start + (i + 2)) nan) (getD val x nan)) (add-assoc start i 3))
-    s
+-- one value more, and four numbers more, of any column
+module _ (f : Format) (a : Accumulator) (i : ℕ) (v0 v1 v2 v3 : Float) where
+  pub one-passed :
+      (b : Accumulator) (j : ℕ) → j ≡ i + 1 → b ≡ counted f a v0
+      → (column : ℕ → Float) → v0 ≡ column i → v1 ≡ column (i + 1) → v2 ≡ column (i + 2) → v3 ≡ column (i + 3)
+      → a ≡ accumulated f column i → b ≡ accumulated f column j
+  one-passed b j k e column e0 e1 e2 e3 s = accumulated-more f column i (e ∙ ap (counted f a) e0) s ∙ ap (accumulated f column) (sym k)
+
+  pub four-passed :
+      ne v0 v0 ≡ false → ne v1 v1 ≡ false → ne v2 v2 ≡ false → ne v3 v3 ≡ false
+      → (column : ℕ → Float) → v0 ≡ column i → v1 ≡ column (i + 1) → v2 ≡ column (i + 2) → v3 ≡ column (i + 3)
+      → a ≡ accumulated f column i → more f (more f (more f (more f a v0) v1) v2) v3 ≡ accumulated f column (i + 4)
+  four-passed n0 n1 n2 n3 column e0 e1 e2 e3 s =
+      accumulated-four f column i {a = a} {b = more f (more f (more f (more f a v0) v1) v2) v3}
+      (four-counted f a v0 v1 v2 v3 n0 n1 n2 n3
+      ∙ ap (λ (x : Float). countedFour f a x v1 v2 v3) e0
+      ∙ ap (λ (x : Float). countedFour f a (column i) x v2 v3) e1
+      ∙ ap (λ (x : Float). countedFour f a (column i) (column (i + 1)) x v3) e2
+      ∙ ap (λ (x : Float). countedFour f a (column i) (column (i + 1)) (column (i + 2)) x) e3)
+      s
+
+-- a place of a column
+pub column-place : (val : List Float) (start i j : ℕ) → getD val (start + i + j) nan ≡ from val start (i + j)
+column-place val start i j = ap (λ (x : ℕ). getD val x nan) (add-assoc start i j)

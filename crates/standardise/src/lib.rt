@@ -4,9 +4,9 @@ use statistics::MarkerStats;
 use statistics::Stats;
 ghost use mathlib.Core.Path.{_≡_};
 ghost use mathlib.Core.Bool.{true, false, _&&_, cond};
-ghost use Prim.Native.Nat.{ℕ, _+_, _*_, _≤_, _<_};
+ghost use Prim.Native.Nat.{ℕ, _+_, _*_, _^_, _≤_, _<_};
 ghost use lib.ListN.{length, getD};
-ghost use lib.Ieee.{nan, binary64};
+ghost use lib.Ieee.{Float, nan, binary64};
 ghost use Rattle.genotype.specs.Answer.{isDone, ifDone};
 ghost use Rattle.statistics.specs.Statistics.{start, counted, accumulated, markerStats, foundFor, statsPerMarker, inPlaces, statsAt, standardised};
 ghost use Rattle.standardise.specs.Standardised.{value, standardiseSays, markerAnswer, lowestRefused, newStats, newValues, standardiseAnswer, laterStats, laterValues};
@@ -72,27 +72,46 @@ fn add_each(a: Accumulator, v0: f64, v1: f64, v2: f64, v3: f64) -> Accumulator
     statistics::add_value(a3, v3)
 }
 
-// The same, where mostly none is a NaN: the sums do not wait for the tests.
-fn add_four(a: Accumulator, v0: f64, v1: f64, v2: f64, v3: f64) -> Accumulator
-    ensures { λ r. ⌜ r ≡ countedFour binary64 a v0 v1 v2 v3 ⌝ }
+// An accumulator and how many animals it has passed.
+struct Passed {
+    a: Accumulator,
+    i: usize,
+}
+
+fn add_one(a: Accumulator, i: usize, v: f64) -> Passed
+    requires { ⌜ i + 1 < 2 ^ 64 ⌝ }
+    ensures { λ r. ⌜ (r .i ≡ i + 1) × (r .a ≡ counted binary64 a v) ⌝ }
+{
+    let more = statistics::add_value(a, v);
+    let next = i + 1;
+    Passed { a: more, i: next }
+}
+
+// Four values more where none is a NaN, so that no sum waits for a test; else one more.
+fn add_some(a: Accumulator, i: usize, v0: f64, v1: f64, v2: f64, v3: f64) -> Passed
+    requires { ⌜ i + 4 < 2 ^ 64 ⌝ }
+    ensures { λ r. ⌜ (i < r .i) × (r .i ≤ i + 4) × ((column : ℕ → Float) → v0 ≡ column i → v1 ≡ column (i + 1) → v2 ≡ column (i + 2) → v3 ≡ column (i + 3)
+        → a ≡ accumulated binary64 column i → r .a ≡ accumulated binary64 column (r .i)) ⌝ }
 {
     if v0 != v0 {
-        return add_each(a, v0, v1, v2, v3);
+        return add_one(a, i, v0);
     }
     if v1 != v1 {
-        return add_each(a, v0, v1, v2, v3);
+        return add_one(a, i, v0);
     }
     if v2 != v2 {
-        return add_each(a, v0, v1, v2, v3);
+        return add_one(a, i, v0);
     }
     if v3 != v3 {
-        return add_each(a, v0, v1, v2, v3);
+        return add_one(a, i, v0);
     }
-    Accumulator {
+    let four = Accumulator {
         count: a.count + 1.0 + 1.0 + 1.0 + 1.0,
         sum: a.sum + v0 + v1 + v2 + v3,
         squares: a.squares + v0 * v0 + v1 * v1 + v2 * v2 + v3 * v3,
-    }
+    };
+    let next = i + 4;
+    Passed { a: four, i: next }
 }
 
 // The statistics of the `iid_count` values from `start` on.
@@ -108,8 +127,9 @@ fn column_stats(val: &[f64], start: usize, iid_count: usize) -> MarkerStats
     let mut i = 0;
     while iid_count - i > 3 {
         let at = start + i;
-        a = add_four(a, val[at], val[at + 1], val[at + 2], val[at + 3]);
-        i += 4;
+        let passed = add_some(a, i, val[at], val[at + 1], val[at + 2], val[at + 3]);
+        a = passed.a;
+        i = passed.i;
     }
     while i < iid_count {
         a = statistics::add_value(a, val[start + i]);

@@ -1,6 +1,6 @@
 -- `column_stats`: the accumulator is that of the animals passed.
 use Prim.Native.Nat.{_-_, _≤_}
-use Rattle.standardise.proofs.FourLaws.{column-four}
+use Rattle.standardise.proofs.FourLaws.{column-place}
 use Rattle.standardise.specs.Steps.{from}
 use Rattle.statistics.proofs.CountLaws.{accumulated-more, column-found}
 use Rattle.statistics.specs.Statistics.{accumulated}
@@ -33,55 +33,58 @@ sub-loop c = omega arith
 add-at : tie.Need-add-at Inv-loop μ-loop Inv-loop2 μ-loop2
 add-at c = omega arith
 
-mul-add-four : tie.Need-mul-add-four Inv-loop μ-loop Inv-loop2 μ-loop2
-mul-add-four c = scaled-fits _ _ 8 (omega arith) (c .before .before .before .good .0 .1)
+mul-add-some : tie.Need-mul-add-some Inv-loop μ-loop Inv-loop2 μ-loop2
+mul-add-some c = scaled-fits _ _ 8 (omega arith) (c .before .before .before .good .0 .1)
 
-shared-slice-read-add-four : tie.Need-shared-slice-read-add-four Inv-loop μ-loop Inv-loop2 μ-loop2
-shared-slice-read-add-four c = omega arith
+shared-slice-read-add-some : tie.Need-shared-slice-read-add-some Inv-loop μ-loop Inv-loop2 μ-loop2
+shared-slice-read-add-some c = omega arith
 
-add-add-four : tie.Need-add-add-four Inv-loop μ-loop Inv-loop2 μ-loop2
-add-add-four c = omega arith
+add-add-some : tie.Need-add-add-some Inv-loop μ-loop Inv-loop2 μ-loop2
+add-add-some c = omega arith
 
-mul-add-four-2 : tie.Need-mul-add-four-2 Inv-loop μ-loop Inv-loop2 μ-loop2
-mul-add-four-2 c = scaled-fits _ _ 8 (omega arith) (c .before .before .before .before .good .0 .1)
+mul-add-some-2 : tie.Need-mul-add-some-2 Inv-loop μ-loop Inv-loop2 μ-loop2
+mul-add-some-2 c = scaled-fits _ _ 8 (omega arith) (c .before .before .before .before .good .0 .1)
 
-shared-slice-read-add-four-2 :
-    tie.Need-shared-slice-read-add-four-2 Inv-loop μ-loop Inv-loop2 μ-loop2
-shared-slice-read-add-four-2 c = omega arith
+shared-slice-read-add-some-2 :
+    tie.Need-shared-slice-read-add-some-2 Inv-loop μ-loop Inv-loop2 μ-loop2
+shared-slice-read-add-some-2 c = omega arith
 
-add-add-four-2 : tie.Need-add-add-four-2 Inv-loop μ-loop Inv-loop2 μ-loop2
-add-add-four-2 c = omega arith
+add-add-some-2 : tie.Need-add-add-some-2 Inv-loop μ-loop Inv-loop2 μ-loop2
+add-add-some-2 c = omega arith
 
-mul-add-four-3 : tie.Need-mul-add-four-3 Inv-loop μ-loop Inv-loop2 μ-loop2
-mul-add-four-3 c = scaled-fits _ _ 8 (omega arith) (c .before .before .before .before .before .good .0 .1)
+mul-add-some-3 : tie.Need-mul-add-some-3 Inv-loop μ-loop Inv-loop2 μ-loop2
+mul-add-some-3 c = scaled-fits _ _ 8 (omega arith) (c .before .before .before .before .before .good .0 .1)
 
-shared-slice-read-add-four-3 :
-    tie.Need-shared-slice-read-add-four-3 Inv-loop μ-loop Inv-loop2 μ-loop2
-shared-slice-read-add-four-3 c = omega arith
+shared-slice-read-add-some-3 :
+    tie.Need-shared-slice-read-add-some-3 Inv-loop μ-loop Inv-loop2 μ-loop2
+shared-slice-read-add-some-3 c = omega arith
 
-add-add-four-3 : tie.Need-add-add-four-3 Inv-loop μ-loop Inv-loop2 μ-loop2
-add-add-four-3 c = omega arith
+add-add-some-3 : tie.Need-add-add-some-3 Inv-loop μ-loop Inv-loop2 μ-loop2
+add-add-some-3 c = omega arith
 
-mul-add-four-4 : tie.Need-mul-add-four-4 Inv-loop μ-loop Inv-loop2 μ-loop2
-mul-add-four-4 c = scaled-fits _ _ 8 (omega arith) (c .before .before .before .before .before .before .good .0 .1)
+mul-add-some-4 : tie.Need-mul-add-some-4 Inv-loop μ-loop Inv-loop2 μ-loop2
+mul-add-some-4 c = scaled-fits _ _ 8 (omega arith) (c .before .before .before .before .before .before .good .0 .1)
 
-shared-slice-read-add-four-4 :
-    tie.Need-shared-slice-read-add-four-4 Inv-loop μ-loop Inv-loop2 μ-loop2
-shared-slice-read-add-four-4 c = omega arith
+shared-slice-read-add-some-4 :
+    tie.Need-shared-slice-read-add-some-4 Inv-loop μ-loop Inv-loop2 μ-loop2
+shared-slice-read-add-some-4 c = omega arith
 
-add-four-requires : tie.Need-add-four-requires Inv-loop μ-loop Inv-loop2 μ-loop2
-add-four-requires c κs = search needs
-
-add-i : tie.Need-add-i Inv-loop μ-loop Inv-loop2 μ-loop2
-add-i c = omega arith
+add-some-requires : tie.Need-add-some-requires Inv-loop μ-loop Inv-loop2 μ-loop2
+add-some-requires c κs = omega arith
 
 loop-less : tie.Need-loop-less Inv-loop μ-loop Inv-loop2 μ-loop2
-loop-less c = omega arith
+loop-less c = omega (arith, c .before .add-some .ensures .0, c .before .add-some .ensures .1, c .before .before .before .before .before .before .loop-test .taken)
 
 loop-again : tie.Need-loop-again Inv-loop μ-loop Inv-loop2 μ-loop2
 loop-again c =
-    let s = c .before .before .before .before .before .before .before .before in
-    (omega arith, column-four binary64 (s .args .val .now) (s .args .start) (c .before .before .before .before .before .before .loop .i) (c .add-four .ensures) (c .before .before .before .before .before .before .loop .inv .1))
+    let s = c .before .before .before .before .before .before .before .before .before in
+    let e = c .before .add-some .ensures in
+    let v = s .args .val .now in
+    let b = s .args .start in
+    let i = c .before .before .before .before .before .before .before .loop .i in (
+      omega (arith, e .1, c .before .before .before .before .before .before .loop-test .taken),
+      e .2 (from v b) refl (column-place v b i 1) (column-place v b i 2) (column-place v b i 3) (c .before .before .before .before .before .before .before .loop .inv .1),
+    )
 
 loop2-holds : tie.Need-loop2-holds Inv-loop μ-loop Inv-loop2 μ-loop2
 loop2-holds c = c .before .loop .inv
@@ -99,8 +102,8 @@ shared-slice-read-add-value c = omega arith
 add-value-requires : tie.Need-add-value-requires Inv-loop μ-loop Inv-loop2 μ-loop2
 add-value-requires c κs = search needs
 
-add-i-2 : tie.Need-add-i-2 Inv-loop μ-loop Inv-loop2 μ-loop2
-add-i-2 c = omega arith
+add-i : tie.Need-add-i Inv-loop μ-loop Inv-loop2 μ-loop2
+add-i c = omega arith
 
 loop2-less : tie.Need-loop2-less Inv-loop μ-loop Inv-loop2 μ-loop2
 loop2-less c = omega arith
@@ -130,19 +133,18 @@ column-stats-spec =
     loop-holds
     sub-loop
     add-at
-    mul-add-four
-    shared-slice-read-add-four
-    add-add-four
-    mul-add-four-2
-    shared-slice-read-add-four-2
-    add-add-four-2
-    mul-add-four-3
-    shared-slice-read-add-four-3
-    add-add-four-3
-    mul-add-four-4
-    shared-slice-read-add-four-4
-    add-four-requires
-    add-i
+    mul-add-some
+    shared-slice-read-add-some
+    add-add-some
+    mul-add-some-2
+    shared-slice-read-add-some-2
+    add-add-some-2
+    mul-add-some-3
+    shared-slice-read-add-some-3
+    add-add-some-3
+    mul-add-some-4
+    shared-slice-read-add-some-4
+    add-some-requires
     loop-less
     loop-again
     loop2-holds
@@ -150,7 +152,7 @@ column-stats-spec =
     mul-add-value
     shared-slice-read-add-value
     add-value-requires
-    add-i-2
+    add-i
     loop2-less
     loop2-again
     find-stats-requires
