@@ -5,3 +5,6 @@ pub mod ColumnLaws
 pub mod LineLaws
 pub mod TileLaws
 pub mod BufferLaws
+pub mod TableLaws
+pub mod AlongLaws
+pub mod HeldLaws

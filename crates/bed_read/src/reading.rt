@@ -2,11 +2,15 @@
 ghost use mathlib.Core.Path.{_≡_};
 ghost use mathlib.Core.Bool.{true, cond};
 ghost use mathlib.Core.List.{[]};
-ghost use Prim.Native.Nat.{_<_, _≤_};
-ghost use lib.ListN.{length};
+ghost use mathlib.Core.Option.{none};
+ghost use Prim.Native.Nat.{ℕ, _+_, _*_, _<_, _≤_};
+ghost use lib.Dec.{leb};
+ghost use lib.IntN.{pos};
+ghost use lib.ListN.{length, getD};
 ghost use Rattle.genotype.specs.Answer.{done, isDone};
 ghost use Rattle.genotype.specs.Code.{codeTable};
-ghost use Rattle.genotype.specs.Block.{blockWidth};
+ghost use Rattle.genotype.specs.Block.{blockWidth, fileLength};
+ghost use Rattle.genotype.specs.Entry.{firstBad, means};
 ghost use Rattle.bed_read.specs.File.{isMode1, items};
 ghost use Rattle.bed_read.specs.Calls.{callCode};
 ghost use Rattle.bed_read.specs.Reading.{checkLists, readAnswer};
@@ -198,16 +202,82 @@ fn inner_count(animal_order: bool, iids: usize, sids: usize) -> usize
     if animal_order { sids } else { iids }
 }
 
-// The end of the tile that starts at `from`: all that is left where the matrix goes along the blocks, and 16 values where it goes across them.
-fn tile_end(along: bool, from: usize, inner: usize) -> usize
+// The end of the tile that starts at `from`: 64 neighbouring values, or what is left.
+fn tile_end(from: usize, inner: usize) -> usize
     requires { ⌜ from < inner ⌝ }
     ensures { λ r. ⌜ (from < r) × (r ≤ inner) ⌝ }
 {
-    if along {
+    if inner - from < 64 {
         return inner;
     }
-    if inner - from < 16 {
-        return inner;
+    from + 64
+}
+
+// The item that an entry of the list within a block means: an animal in mode 1, a marker in mode 0.
+fn item_of(mode_1: bool, items: usize, entry: i64) -> usize
+    ensures { λ r. ⌜ r ≡ means items entry ⌝ }
+{
+    if mode_1 {
+        let iid = genotype::entries::iid_of(items, entry);
+        return iid.0;
     }
-    from + 16
+    let sid = genotype::entries::sid_of(items, entry);
+    sid.0
+}
+
+// The block that an entry of the other list means: a marker in mode 1, an animal in mode 0.
+fn block_of(mode_1: bool, blocks: usize, entry: i64) -> usize
+    ensures { λ r. ⌜ r ≡ means blocks entry ⌝ }
+{
+    if mode_1 {
+        let sid = genotype::entries::sid_of(blocks, entry);
+        return sid.0;
+    }
+    let iid = genotype::entries::iid_of(blocks, entry);
+    iid.0
+}
+
+// Whether a list within a block is 0, 1, 2 and so on.
+fn is_file_order(mode_1: bool, items: usize, item_index: &[i64]) -> bool
+    ensures { λ r. ⌜ (r ≡ true → (k : ℕ) → k < length (now («item_index» .entry)) → means items (getD (now («item_index» .entry)) k (pos 0)) ≡ k) ⌝ }
+{
+    let mut k = 0;
+    while k < item_index.len() {
+        if item_of(mode_1, items, item_index[k]) != k {
+            return false;
+        }
+        k += 1;
+    }
+    true
+}
+
+// Where the block that entry k means begins.
+fn block_start(
+    mode_1: bool,
+    width: usize,
+    items: usize,
+    blocks: usize,
+    block_index: &[i64],
+    k: usize,
+    file_len: usize,
+) -> usize
+    requires { ⌜ (width ≡ blockWidth items) × («file_len» ≡ fileLength items blocks) × (firstBad blocks (now «block_index») ≡ none) × (k < length (now «block_index»)) ⌝ }
+    ensures { λ r. ⌜ (r ≡ 3 + means blocks (getD (now («block_index» .entry)) k (pos 0)) * width) × (r + width ≤ «file_len») ⌝ }
+{
+    let b = block_of(mode_1, blocks, block_index[k]);
+    3 + b * width
+}
+
+// How many lines are read at once: one in file order, which is read a byte at a time, else four while there are four.
+fn lines_at_once(in_order: bool, left: usize) -> usize
+    requires { ⌜ 0 < left ⌝ }
+    ensures { λ r. ⌜ (r ≡ cond (leb 4 r) 4 1) × (r ≤ left) ⌝ }
+{
+    if in_order {
+        return 1;
+    }
+    if left < 4 {
+        return 1;
+    }
+    4
 }

@@ -57,3 +57,28 @@ code-chosen w flag missing v zer two r absent number nan one e0 e2 en eu ea t et
     (et ∙ ap (λ (x : ℕ). cond (w .same v (w .two)) x absent) e2
     ∙ ap (cond (w .same v (w .two)) (cond flag 0 3)) (ea ∙ ap (cond (w .same v missing) 1) (eu ∙ ap (cond (w .same v v) 4) en))))
     ∙ by-tests flag (w .same v (w .zero)) (w .same v (w .one)) (w .same v (w .two)) (w .same v missing) (w .same v v) (w .same missing missing)
+
+-- the same of a value that is known to have a code
+by-tests-good :
+    (flag a b c d : Bool)
+    → orFour (cond a (some (cond flag 3 0)) (cond b (some 2) (cond c (some (cond flag 0 3)) (cond d (some 1) none)))) < 4
+    → cond a (cond flag 3 0) (cond b 2 (cond c (cond flag 0 3) 1))
+    ≡ orFour (cond a (some (cond flag 3 0)) (cond b (some 2) (cond c (some (cond flag 0 3)) (cond d (some 1) none))))
+unfolding orFour
+by-tests-good flag true b c d h = refl
+by-tests-good flag false true c d h = refl
+by-tests-good flag false false true d h = refl
+by-tests-good flag false false false true h = refl
+by-tests-good flag false false false false h = absurd (omega arith)
+
+pub good-chosen :
+    (w : Width) (flag : Bool) (v : w .Value) (zer two r t one : ℕ)
+    → zer ≡ cond flag 3 0 → two ≡ cond flag 0 3
+    → t ≡ cond (w .same v (w .two)) two 1 → one ≡ cond (w .same v (w .one)) 2 t → r ≡ cond (w .same v (w .zero)) zer one
+    → (missing : w .Value) → orFour (codeOf w flag missing v) < 4 → r ≡ orFour (codeOf w flag missing v)
+unfolding codeOf sameOrNan
+good-chosen w flag v zer two r t one e0 e2 et eo er missing h =
+    er
+    ∙ ap (λ (x : ℕ). cond (w .same v (w .zero)) x one) e0
+    ∙ ap (cond (w .same v (w .zero)) (cond flag 3 0)) (eo ∙ ap (cond (w .same v (w .one)) 2) (et ∙ ap (λ (x : ℕ). cond (w .same v (w .two)) x 1) e2))
+    ∙ by-tests-good flag (w .same v (w .zero)) (w .same v (w .one)) (w .same v (w .two)) (sameOrNan w v missing) h

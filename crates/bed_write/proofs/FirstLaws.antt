@@ -116,6 +116,18 @@ getD-inside [] k d e h = absurd (omega arith)
 getD-inside (x ∷ l) zero d e h = refl
 getD-inside (x ∷ l) (suc k) d e h = getD-inside l k d e (omega arith)
 
+-- a code that is read, of a value that has one
+pub good-read :
+    (w : Width) (flag : Bool) (missing : w .Value) (vals : List (w .Value)) (k : ℕ) (d : w .Value) (r : ℕ) → k < length vals
+    → orFour (placeCode w flag missing vals k) < 4
+    → (orFour (codeOf w flag missing (getD vals k d)) < 4 → r ≡ orFour (codeOf w flag missing (getD vals k d)))
+    → r ≡ orFour (placeCode w flag missing vals k)
+unfolding placeCode
+good-read w flag missing vals k d r h g e =
+    let s : orFour (codeOf w flag missing (getD vals k d)) ≡ orFour (codeOf w flag missing (getD vals k missing)) =
+    ap (λ v. orFour (codeOf w flag missing v)) (getD-inside vals k d missing h) in
+    e (omega arith) ∙ s
+
 pub code-read : (w : Width) (flag : Bool) (missing : w .Value) (vals : List (w .Value)) (k : ℕ) (d : w .Value) (r : ℕ) → k < length vals → r ≡ orFour (codeOf w flag missing (getD vals k d)) → r ≡ orFour (placeCode w flag missing vals k)
 unfolding placeCode
 code-read w flag missing vals k d r h e = e ∙ ap (λ v. orFour (codeOf w flag missing v)) (getD-inside vals k d missing h)

@@ -229,6 +229,12 @@ module _ (number : ℕ → ℕ) (order : Bool) (iids sids : ℕ) where
         let p : matrixPlace order iids sids (4 * b + k) m < iids * sids = place-below iids sids (4 * b + k) m (omega arith) hm order in
         let q = walk k in omega arith
 
+    -- where no value is bad, no number of the group is
+    pub walk-good : firstOver iids sids (placed number order iids sids) ≡ none → (k : ℕ) → k < iids - 4 * b → number (start + k * stride) < 4
+    unfolding placed
+    walk-good good k h =
+        subst (λ (x : ℕ). number x < 4) (sym (walk k)) (none-over iids sids (placed number order iids sids) good (4 * b + k) m (omega arith) hm)
+
     -- the byte of a group without bad values
     module _ (good : firstOver iids sids (placed number order iids sids) ≡ none) (c0 c1 c2 c3 : ℕ)
         (q : Four (inGroup (iids - 4 * b) (λ j. number (start + j * stride))) c0 c1 c2 c3) where

@@ -6,9 +6,10 @@ ghost use mathlib.Core.Bool.{cond};
 ghost use lib.IntN.{pos};
 ghost use lib.Signed.{mag};
 ghost use lib.ListN.{length, getD};
+ghost use lib.Ieee.{Float};
 ghost use Rattle.bed_write.specs.Packing.{placeCode};
 ghost use Rattle.genotype.specs.Value.{float, codeOf};
-ghost use Rattle.bed_write.specs.Inner.{orFour, byteIndex, CodesOfBytes, byTable, inGroup, Four, FirstOfFour};
+ghost use Rattle.bed_write.specs.Inner.{orFour, byteIndex, CodesOfBytes, byTable, byTests, inGroup, Four, FirstOfFour};
 
 pub mod encode;
 pub mod write;
@@ -148,6 +149,51 @@ fn group_f64(
     let c1 = held_f64(val, start, stride, left, 1, is_a1_counted, missing);
     let c2 = held_f64(val, start, stride, left, 2, is_a1_counted, missing);
     let c3 = held_f64(val, start, stride, left, 3, is_a1_counted, missing);
+    Group { c0, c1, c2, c3 }
+}
+
+// The code of a value that is known not to be bad: what is none of 0, 1, 2 is missing.
+fn good_code_f64(value: f64, is_a1_counted: bool) -> u8
+    ensures { λ r. ⌜ ((missing : Float) → orFour (codeOf float «is_a1_counted» missing value) < 4 → r ≡ orFour (codeOf float «is_a1_counted» missing value)) ⌝ }
+{
+    let two = choose(value == 2.0, code_of_two(is_a1_counted), 1);
+    let one = choose(value == 1.0, 2, two);
+    choose(value == 0.0, code_of_zero(is_a1_counted), one)
+}
+
+// The code of place k of a group, and the codes of a whole group, of values that are known not to be bad.
+fn held_good_f64(
+    val: &[f64],
+    start: usize,
+    stride: usize,
+    left: usize,
+    k: usize,
+    is_a1_counted: bool,
+) -> u8
+    requires { ⌜ (k < left → start + k * stride < length (now val)) ⌝ }
+    ensures { λ r. ⌜ ((missing : Float) → (k < left → byTests «is_a1_counted» missing (now (val .entry)) (start + k * stride) < 4) → r ≡ inGroup left (λ j. orFour (placeCode float «is_a1_counted» missing (now (val .entry)) (start + j * stride))) k) ⌝ }
+{
+    if k < left {
+        let at = start + k * stride;
+        return good_code_f64(val[at], is_a1_counted);
+    }
+    PAD
+}
+
+fn group_good_f64(
+    val: &[f64],
+    start: usize,
+    stride: usize,
+    left: usize,
+    is_a1_counted: bool,
+) -> Group
+    requires { ⌜ ((k : ℕ) → k < left → k < 4 → start + k * stride < length (now val)) ⌝ }
+    ensures { λ r. ⌜ ((missing : Float) → ((k : ℕ) → k < left → k < 4 → byTests «is_a1_counted» missing (now (val .entry)) (start + k * stride) < 4) → Four (inGroup left (λ j. orFour (placeCode float «is_a1_counted» missing (now (val .entry)) (start + j * stride)))) (r .c0) (r .c1) (r .c2) (r .c3)) ⌝ }
+{
+    let c0 = held_good_f64(val, start, stride, left, 0, is_a1_counted);
+    let c1 = held_good_f64(val, start, stride, left, 1, is_a1_counted);
+    let c2 = held_good_f64(val, start, stride, left, 2, is_a1_counted);
+    let c3 = held_good_f64(val, start, stride, left, 3, is_a1_counted);
     Group { c0, c1, c2, c3 }
 }
 

@@ -2,6 +2,7 @@ pub mod StoreLaws
 pub mod CellLaws
 pub mod ChoiceLaws
 pub mod PassLaws
+pub mod FourLaws
 pub mod TileLaws
 pub mod ApplyLaws
 pub mod CallLaws

@@ -3,7 +3,7 @@ use mathlib.Core.Path.{_≡_, refl, sym, ap, subst, _∙_}
 use mathlib.Core.Bool.{Bool, true, false, cond}
 use mathlib.Core.List.{List}
 use Prim.Native.Nat.{ℕ, suc, _+_, _*_, _<_, _≤_}
-use native.Mathlib.Nat.{suc-mul, mul-le-mul-right, add-assoc, add-zero}
+use native.Mathlib.Nat.{suc-mul, mul-le-mul-right, add-assoc, add-zero, add-mul}
 use native.Mathlib.Omega.{arith}
 use lib.Dec.{ltb, eqb}
 use lib.ListN.{length, getD, set, length-set, replicate, getD-replicate}
@@ -17,9 +17,10 @@ use Rattle.statistics.specs.declared.Accumulator.{Accumulator}
 use Rattle.statistics.specs.declared.MarkerStats.{MarkerStats}
 use Rattle.statistics.specs.Statistics.{plusZero, start, counted, accumulated, foundFor, statsPerMarker}
 use Rattle.standardise.specs.Standardised.{value, found, markerAnswer}
-use Rattle.standardise.specs.Steps.{from, accumulatorAt, laterStat, written}
+use Rattle.standardise.specs.Steps.{from, countedFour, accumulatorAt, laterStat, written}
 use Rattle.statistics.specs.Statistics.{statsFrom}
 use Rattle.statistics.proofs.CountLaws.{accumulated-more, stats-from}
+use Rattle.standardise.proofs.FourLaws.{accumulated-four}
 use Rattle.standardise.proofs.PassLaws.{StatsPassed, stats-passed-more, oldStat}
 
 -- how many neighbouring markers are accumulated at a time
@@ -48,14 +49,14 @@ pub record AreLong (counts sums squares : List Float) : Type 0 where
   pub sums-long : length sums ≡ tileWidth
   pub squares-long : length squares ≡ tileWidth
 
--- ---- one animal: the first j of its values are counted
-module _ (f : Format) (row : ℕ → Float) (before : ℕ → Accumulator) where
+-- ---- one animal, or four: the accumulators of the first j markers have made their step
+module _ (step : ℕ → Accumulator → Accumulator) (before : ℕ → Accumulator) where
   pub record RowCounted (j : ℕ) (counts sums squares : List Float) : Type 0 where
     pub long : AreLong counts sums squares
-    pub each : (k : ℕ) → accumulatorAt counts sums squares k ≡ cond (ltb k j) (counted f (before k) (row k)) (before k)
+    pub each : (k : ℕ) → accumulatorAt counts sums squares k ≡ cond (ltb k j) (step k (before k)) (before k)
 
   pub row-more : (j : ℕ) (counts sums squares : List Float) (a : Accumulator) → j < tileWidth → RowCounted j counts sums squares
-      → a ≡ counted f (accumulatorAt counts sums squares j) (row j) → RowCounted (j + 1) (set counts j (a .count)) (set sums j (a .sum)) (set squares j (a .squares))
+      → a ≡ step j (accumulatorAt counts sums squares j) → RowCounted (j + 1) (set counts j (a .count)) (set sums j (a .sum)) (set squares j (a .squares))
   row-more j counts sums squares a h p e = record {
     long = record {
       counts-long = length-set counts j (a .count) ∙ p .long .counts-long;
@@ -65,36 +66,45 @@ module _ (f : Format) (row : ℕ → Float) (before : ℕ → Accumulator) where
     each = λ k. by-test (eqb k j) (λ t. same k (eqb-true k j t)) (λ t. other k (eqb-false k j t));
   }
     where
-      same : (k : ℕ) → k ≡ j → accumulatorAt (set counts j (a .count)) (set sums j (a .sum)) (set squares j (a .squares)) k ≡ cond (ltb k (j + 1)) (counted f (before k) (row k)) (before k)
+      same : (k : ℕ) → k ≡ j → accumulatorAt (set counts j (a .count)) (set sums j (a .sum)) (set squares j (a .squares)) k ≡ cond (ltb k (j + 1)) (step k (before k)) (before k)
       same k q =
           let l1 : length counts ≡ tileWidth = p .long .counts-long in
           let l2 : length sums ≡ tileWidth = p .long .sums-long in
           let l3 : length squares ≡ tileWidth = p .long .squares-long in
-          let old : accumulatorAt counts sums squares j ≡ before j = (p .each j ∙ ap (λ (b : Bool). cond b (counted f (before j) (row j)) (before j)) (le-ltb j j (omega arith))) in
+          let old : accumulatorAt counts sums squares j ≡ before j = (p .each j ∙ ap (λ (b : Bool). cond b (step j (before j)) (before j)) (le-ltb j j (omega arith))) in
           ap (accumulatorAt (set counts j (a .count)) (set sums j (a .sum)) (set squares j (a .squares))) q
           ∙ at-same counts sums squares j a (omega arith) (omega arith) (omega arith)
           ∙ e
-          ∙ ap (λ (x : Accumulator). counted f x (row j)) old
-          ∙ ap (λ (x : ℕ). counted f (before x) (row x)) (sym q)
-          ∙ sym (ap (λ (b : Bool). cond b (counted f (before k) (row k)) (before k)) (lt-ltb k (j + 1) (omega arith)))
+          ∙ ap (step j) old
+          ∙ ap (λ (x : ℕ). step x (before x)) (sym q)
+          ∙ sym (ap (λ (b : Bool). cond b (step k (before k)) (before k)) (lt-ltb k (j + 1) (omega arith)))
 
-      other : (k : ℕ) → (k ≡ j → ⊥) → accumulatorAt (set counts j (a .count)) (set sums j (a .sum)) (set squares j (a .squares)) k ≡ cond (ltb k (j + 1)) (counted f (before k) (row k)) (before k)
+      other : (k : ℕ) → (k ≡ j → ⊥) → accumulatorAt (set counts j (a .count)) (set sums j (a .sum)) (set squares j (a .squares)) k ≡ cond (ltb k (j + 1)) (step k (before k)) (before k)
       other k n =
           at-other counts sums squares j a k n
           ∙ p .each k
-          ∙ ap (λ (b : Bool). cond b (counted f (before k) (row k)) (before k)) (leb-both (suc k) j (suc k) (j + 1) (λ l. omega arith) (λ l. omega arith))
+          ∙ ap (λ (b : Bool). cond b (step k (before k)) (before k)) (leb-both (suc k) j (suc k) (j + 1) (λ l. omega arith) (λ l. omega arith))
 
   pub row-all : (j width : ℕ) (counts sums squares : List Float) → RowCounted j counts sums squares → width ≤ j
-      → (k : ℕ) → k < width → accumulatorAt counts sums squares k ≡ counted f (before k) (row k)
-  row-all j width counts sums squares p h k l = p .each k ∙ ap (λ (b : Bool). cond b (counted f (before k) (row k)) (before k)) (lt-ltb k j (omega arith))
+      → (k : ℕ) → k < width → accumulatorAt counts sums squares k ≡ step k (before k)
+  row-all j width counts sums squares p h k l = p .each k ∙ ap (λ (b : Bool). cond b (step k (before k)) (before k)) (lt-ltb k j (omega arith))
 
-pub row-none : (f : Format) (row : ℕ → Float) (counts sums squares : List Float) → AreLong counts sums squares → RowCounted f row (accumulatorAt counts sums squares) 0 counts sums squares
-row-none f row counts sums squares p = record { long = p; each = λ k. sym (ap (λ (b : Bool). cond b (counted f (accumulatorAt counts sums squares k) (row k)) (accumulatorAt counts sums squares k)) (le-ltb k 0 (omega arith))) }
+pub row-none : (step : ℕ → Accumulator → Accumulator) (counts sums squares : List Float) → AreLong counts sums squares → RowCounted step (accumulatorAt counts sums squares) 0 counts sums squares
+row-none step counts sums squares p = record { long = p; each = λ k. sym (ap (λ (b : Bool). cond b (step k (accumulatorAt counts sums squares k)) (accumulatorAt counts sums squares k)) (le-ltb k 0 (omega arith))) }
 
 -- ---- a part of a row of a matrix in animal order
 module _ (iids sids base width i : ℕ) (h : i < iids) (k : base + width ≤ sids) where
   pub row-inside : i * sids + base + width ≤ iids * sids
   row-inside = let d : suc i * sids ≤ iids * sids = mul-le-mul-right sids h in let e : suc i * sids ≡ i * sids + sids = suc-mul i sids in omega arith
+
+-- four neighbouring rows
+module _ (iids sids base width i : ℕ) (h : i + 4 ≤ iids) (k : base + width ≤ sids) where
+  pub rows-inside : i * sids + base + sids + sids + sids + width ≤ iids * sids
+  rows-inside =
+      let r : i + 3 < iids = omega arith in
+      let d : (i + 3) * sids + base + width ≤ iids * sids = row-inside iids sids base width (i + 3) r k in
+      let e : (i + 3) * sids ≡ i * sids + (sids + sids + sids) = add-mul i 3 sids ∙ ap (λ (x : ℕ). i * sids + x) (omega arith) in
+      omega arith
 
 -- ---- all animals below i are counted
 module _ (f : Format) (iids sids base width : ℕ) (val : List Float) where
@@ -116,6 +126,32 @@ module _ (f : Format) (iids sids base width : ℕ) (val : List Float) where
     long = l;
     each = λ j k. accumulated-more f (λ a. getD val (a * sids + (base + j)) nan) i
         (e j k ∙ ap (λ (x : ℕ). counted f (accumulatorAt counts sums squares j) (getD val x nan)) (add-assoc (i * sids) base j)) (p .each j k);
+  }
+
+  -- four animals more
+  pub tile-four : (i : ℕ) (counts sums squares counts′ sums′ squares′ : List Float) → i + 4 ≤ iids → TileCounted i counts sums squares → AreLong counts′ sums′ squares′
+      → ((j : ℕ) → j < width → accumulatorAt counts′ sums′ squares′ j ≡ countedFour f (accumulatorAt counts sums squares j) (from val (i * sids + base) j)
+      (from val (i * sids + base + sids) j) (from val (i * sids + base + sids + sids) j) (from val (i * sids + base + sids + sids + sids) j))
+      → TileCounted (i + 4) counts′ sums′ squares′
+  unfolding value matrixPlace
+  tile-four i counts sums squares counts′ sums′ squares′ h p l e = record {
+    within = omega arith;
+    long = l;
+    each = λ j k.
+        let m1 : (i + 1) * sids ≡ i * sids + sids = add-mul i 1 sids ∙ ap (λ (x : ℕ). i * sids + x) (omega arith) in
+        let m2 : (i + 2) * sids ≡ i * sids + (sids + sids) = add-mul i 2 sids ∙ ap (λ (x : ℕ). i * sids + x) (omega arith) in
+        let m3 : (i + 3) * sids ≡ i * sids + (sids + sids + sids) = add-mul i 3 sids ∙ ap (λ (x : ℕ). i * sids + x) (omega arith) in
+        let p0 : i * sids + base + j ≡ i * sids + (base + j) = omega arith in
+        let p1 : i * sids + base + sids + j ≡ (i + 1) * sids + (base + j) = omega arith in
+        let p2 : i * sids + base + sids + sids + j ≡ (i + 2) * sids + (base + j) = omega arith in
+        let p3 : i * sids + base + sids + sids + sids + j ≡ (i + 3) * sids + (base + j) = omega arith in
+        accumulated-four f (λ a. getD val (a * sids + (base + j)) nan) i
+        (e j k
+        ∙ ap (λ (x : ℕ). countedFour f (accumulatorAt counts sums squares j) (getD val x nan) (from val (i * sids + base + sids) j) (from val (i * sids + base + sids + sids) j) (from val (i * sids + base + sids + sids + sids) j)) p0
+        ∙ ap (λ (x : ℕ). countedFour f (accumulatorAt counts sums squares j) (getD val (i * sids + (base + j)) nan) (getD val x nan) (from val (i * sids + base + sids + sids) j) (from val (i * sids + base + sids + sids + sids) j)) p1
+        ∙ ap (λ (x : ℕ). countedFour f (accumulatorAt counts sums squares j) (getD val (i * sids + (base + j)) nan) (getD val ((i + 1) * sids + (base + j)) nan) (getD val x nan) (from val (i * sids + base + sids + sids + sids) j)) p2
+        ∙ ap (λ (x : ℕ). countedFour f (accumulatorAt counts sums squares j) (getD val (i * sids + (base + j)) nan) (getD val ((i + 1) * sids + (base + j)) nan) (getD val ((i + 2) * sids + (base + j)) nan) (getD val x nan)) p3)
+        (p .each j k);
   }
 
   pub tile-all : (i : ℕ) (counts sums squares : List Float) → TileCounted i counts sums squares → iids ≤ i

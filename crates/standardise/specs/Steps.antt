@@ -10,7 +10,7 @@ use Rattle.genotype.specs.Matrix.{matrix}
 use Rattle.statistics.specs.declared.Accumulator.{Accumulator}
 use Rattle.statistics.specs.declared.Stats.{Stats}
 use Rattle.statistics.specs.declared.MarkerStats.{MarkerStats}
-use Rattle.statistics.specs.Statistics.{one, statsAt, isInfinite, standardised, scaledBy}
+use Rattle.statistics.specs.Statistics.{one, counted, statsAt, isInfinite, standardised, scaledBy}
 use Rattle.standardise.specs.Standardised.{value, keptOrNew, applied}
 
 -- the later number of a marker's statistics, and the later value of one of its values, by the two choices
@@ -33,6 +33,10 @@ from xs start i = getD xs (start + i) nan
 
 abbrev pub changed : List Float → ℕ → ℕ → (Float → Float) → List Float
 changed xs start n change = written xs (λ i. start + i) (λ i. change (from xs start i)) n
+
+-- four values more
+unfoldable pub countedFour : Format → Accumulator → Float → Float → Float → Float → Accumulator
+countedFour f a v0 v1 v2 v3 = counted f (counted f (counted f (counted f a v0) v1) v2) v3
 
 -- the accumulator that stands at place j of three lists
 abbrev pub accumulatorAt : List Float → List Float → List Float → ℕ → Accumulator

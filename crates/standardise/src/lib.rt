@@ -4,13 +4,13 @@ use statistics::MarkerStats;
 use statistics::Stats;
 ghost use mathlib.Core.Path.{_≡_};
 ghost use mathlib.Core.Bool.{true, false, _&&_, cond};
-ghost use Prim.Native.Nat.{ℕ, _+_, _*_, _≤_, _<_};
+ghost use Prim.Native.Nat.{ℕ, _+_, _*_, _^_, _≤_, _<_};
 ghost use lib.ListN.{length, getD};
-ghost use lib.Ieee.{nan, binary64};
+ghost use lib.Ieee.{Float, nan, binary64};
 ghost use Rattle.genotype.specs.Answer.{isDone, ifDone};
 ghost use Rattle.statistics.specs.Statistics.{start, counted, accumulated, markerStats, foundFor, statsPerMarker, inPlaces, statsAt, standardised};
 ghost use Rattle.standardise.specs.Standardised.{value, standardiseSays, markerAnswer, lowestRefused, newStats, newValues, standardiseAnswer, laterStats, laterValues};
-ghost use Rattle.standardise.specs.Steps.{laterStat, laterValue, from, changed, written, accumulatorAt, scaledAt, IsLoaded, markersApplied, allApplied};
+ghost use Rattle.standardise.specs.Steps.{countedFour, laterStat, laterValue, from, changed, written, accumulatorAt, scaledAt, IsLoaded, markersApplied, allApplied};
 
 // How many numbers a marker has in the statistics buffer: mean, then deviation.
 pub const STATS_PER_MARKER: usize = 2;
@@ -62,6 +62,58 @@ fn put_found(stats: &mut [f64], m: usize, found: MarkerStats, use_stats: bool)
     }
 }
 
+// Four values more, each with its test.
+fn add_each(a: Accumulator, v0: f64, v1: f64, v2: f64, v3: f64) -> Accumulator
+    ensures { λ r. ⌜ r ≡ countedFour binary64 a v0 v1 v2 v3 ⌝ }
+{
+    let a1 = statistics::add_value(a, v0);
+    let a2 = statistics::add_value(a1, v1);
+    let a3 = statistics::add_value(a2, v2);
+    statistics::add_value(a3, v3)
+}
+
+// An accumulator and how many animals it has passed.
+struct Passed {
+    a: Accumulator,
+    i: usize,
+}
+
+fn add_one(a: Accumulator, i: usize, v: f64) -> Passed
+    requires { ⌜ i + 1 < 2 ^ 64 ⌝ }
+    ensures { λ r. ⌜ (r .i ≡ i + 1) × (r .a ≡ counted binary64 a v) ⌝ }
+{
+    let more = statistics::add_value(a, v);
+    let next = i + 1;
+    Passed { a: more, i: next }
+}
+
+// Four values more where none is a NaN, so that no sum waits for a test; else one more.
+fn add_some(a: Accumulator, i: usize, v0: f64, v1: f64, v2: f64, v3: f64) -> Passed
+    requires { ⌜ i + 4 < 2 ^ 64 ⌝ }
+    ensures { λ r. ⌜ (i < r .i) × (r .i ≤ i + 4) × ((column : ℕ → Float) → v0 ≡ column i → v1 ≡ column (i + 1) → v2 ≡ column (i + 2) → v3 ≡ column (i + 3)
+        → a ≡ accumulated binary64 column i → r .a ≡ accumulated binary64 column (r .i)) ⌝ }
+{
+    if v0 != v0 {
+        return add_one(a, i, v0);
+    }
+    if v1 != v1 {
+        return add_one(a, i, v0);
+    }
+    if v2 != v2 {
+        return add_one(a, i, v0);
+    }
+    if v3 != v3 {
+        return add_one(a, i, v0);
+    }
+    let four = Accumulator {
+        count: a.count + 1.0 + 1.0 + 1.0 + 1.0,
+        sum: a.sum + v0 + v1 + v2 + v3,
+        squares: a.squares + v0 * v0 + v1 * v1 + v2 * v2 + v3 * v3,
+    };
+    let next = i + 4;
+    Passed { a: four, i: next }
+}
+
 // The statistics of the `iid_count` values from `start` on.
 fn column_stats(val: &[f64], start: usize, iid_count: usize) -> MarkerStats
     requires { ⌜ start + «iid_count» ≤ length (now val) ⌝ }
@@ -73,6 +125,12 @@ fn column_stats(val: &[f64], start: usize, iid_count: usize) -> MarkerStats
         squares: 0.0,
     };
     let mut i = 0;
+    while iid_count - i > 3 {
+        let at = start + i;
+        let passed = add_some(a, i, val[at], val[at + 1], val[at + 2], val[at + 3]);
+        a = passed.a;
+        i = passed.i;
+    }
     while i < iid_count {
         a = statistics::add_value(a, val[start + i]);
         i += 1;
@@ -264,6 +322,53 @@ fn count_row(
     }
 }
 
+// The same of four neighbouring animals, whose values stand `stride` apart.
+fn count_four_rows(
+    val: &[f64],
+    start: usize,
+    stride: usize,
+    width: usize,
+    counts: &mut [f64; TILE],
+    sums: &mut [f64; TILE],
+    squares: &mut [f64; TILE],
+)
+    requires { ⌜ (start + stride + stride + stride + width ≤ length (now val)) × (width ≤ 1024)
+        × (length (now counts) ≡ 1024) × (length (now sums) ≡ 1024) × (length (now squares) ≡ 1024) ⌝ }
+    ensures { λ _. ⌜ (length (now (counts .exit)) ≡ 1024) × (length (now (sums .exit)) ≡ 1024) × (length (now (squares .exit)) ≡ 1024)
+        × ((j : ℕ) → j < width → accumulatorAt (now (counts .exit)) (now (sums .exit)) (now (squares .exit)) j
+        ≡ countedFour binary64 (accumulatorAt (now (counts .entry)) (now (sums .entry)) (now (squares .entry)) j) (from (now (val .entry)) start j)
+        (from (now (val .entry)) (start + stride) j) (from (now (val .entry)) (start + stride + stride) j) (from (now (val .entry)) (start + stride + stride + stride) j)) ⌝ }
+{
+    let start1 = start + stride;
+    let start2 = start1 + stride;
+    let start3 = start2 + stride;
+    let mut j = 0;
+    while j < width {
+        let count = counts[j];
+        let sum = sums[j];
+        let square_sum = squares[j];
+        let v0 = val[start + j];
+        let v1 = val[start1 + j];
+        let v2 = val[start2 + j];
+        let v3 = val[start3 + j];
+        let a = add_each(
+            Accumulator {
+                count,
+                sum,
+                squares: square_sum,
+            },
+            v0,
+            v1,
+            v2,
+            v3,
+        );
+        counts[j] = a.count;
+        sums[j] = a.sum;
+        squares[j] = a.squares;
+        j += 1;
+    }
+}
+
 // The accumulators of `width` neighbouring markers from marker `base` on, animal by animal.
 fn count_tile(
     val: &[f64],
@@ -282,6 +387,11 @@ fn count_tile(
         ≡ accumulated binary64 (λ i. value true «iid_count» «sid_count» (now (val .entry)) i (base + j)) «iid_count») ⌝ }
 {
     let mut i = 0;
+    while iid_count - i > 3 {
+        let four = i * sid_count + base;
+        count_four_rows(val, four, sid_count, width, counts, sums, squares);
+        i += 4;
+    }
     while i < iid_count {
         let at = i * sid_count + base;
         count_row(val, at, width, counts, sums, squares);

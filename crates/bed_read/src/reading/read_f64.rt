@@ -1,23 +1,276 @@
 // Reading values of type f64.
 ghost use mathlib.Core.Path.{_≡_};
-ghost use mathlib.Core.Bool.{cond};
+ghost use mathlib.Core.Bool.{true, cond};
 ghost use mathlib.Core.List.{map};
 ghost use mathlib.Core.Option.{none};
-ghost use Prim.Native.Nat.{ℕ, _+_, _-_, _*_, _<_, _≤_};
+ghost use Prim.Native.Nat.{ℕ, _+_, _-_, _*_, _/_, _%_, _<_, _≤_};
+ghost use lib.Dec.{leb};
+ghost use lib.IntN.{pos};
 ghost use lib.Ieee.{nan};
 ghost use lib.ListN.{length, getD};
-ghost use Rattle.genotype.specs.Code.{codeTable};
+ghost use Rattle.genotype.specs.Block.{blockWidth};
+ghost use Rattle.genotype.specs.Code.{codeTable, itemCode};
 ghost use Rattle.genotype.specs.Entry.{firstBad, means};
 ghost use Rattle.genotype.specs.Lists.{tabulate};
 ghost use Rattle.genotype.specs.Value.{float};
 ghost use Rattle.bed_read.specs.Calls.{callCode};
 ghost use Rattle.bed_read.specs.Reading.{readAnswer, codesRead, readBuffer};
-ghost use Rattle.bed_read.specs.Inner.{Shaped, lineValue};
+ghost use Rattle.bed_read.specs.Inner.{Shaped, Listed, lineValue, valueIn, ByCode, ofFour, heldValue};
 ghost use Rattle.bed_read.specs.Says.{readSays};
 use super::ReadAnswer;
 use super::Shape;
 use genotype::entries::IidIndex;
 use genotype::entries::SidIndex;
+
+// The value of the code of every byte and place.
+fn value_table(codes: &[u8; 1024], values: &[f64; 4]) -> [f64; 1024]
+    requires { ⌜ now codes ≡ codeTable ⌝ }
+    ensures { λ r. ⌜ r ≡ map (λ code. getD (now (values .entry)) code nan) codeTable ⌝ }
+{
+    let mut table = [0.0; 1024];
+    let mut i = 0;
+    while i < 1024 {
+        let code = super::wide(codes[i]);
+        table[i] = values[code];
+        i += 1;
+    }
+    table
+}
+
+// The value of one item of a block.
+fn item_value(block: &[u8], item: usize, table: &[f64; 1024]) -> f64
+    requires { ⌜ (item / 4 < length (now block)) × ByCode (now table) nan ⌝ }
+    ensures { λ r. ⌜ r ≡ valueIn (now (table .entry)) nan (itemCode (now (block .entry)) item) ⌝ }
+{
+    let at = super::wide(block[item / 4]) * 4 + item % 4;
+    table[at]
+}
+
+// The values of the first items of a block, four of a byte at a time.
+fn read_in_order(block: &[u8], table: &[f64; 1024], out: &mut [f64])
+    requires { ⌜ (length (now out) ≤ 4 * length (now block)) × ByCode (now table) nan ⌝ }
+    ensures { λ _. ⌜ now (out .exit) ≡ tabulate (length (now (out .entry))) (λ i. valueIn (now (table .entry)) nan (itemCode (now (block .entry)) i)) ⌝ }
+{
+    let whole = out.len() / 4;
+    let mut b = 0;
+    while b < whole {
+        let k = 4 * b;
+        let k1 = k + 1;
+        let k2 = k + 2;
+        let k3 = k + 3;
+        out[k] = item_value(block, k, table);
+        out[k1] = item_value(block, k1, table);
+        out[k2] = item_value(block, k2, table);
+        out[k3] = item_value(block, k3, table);
+        b += 1;
+    }
+    let mut i = 4 * whole;
+    while i < out.len() {
+        out[i] = item_value(block, i, table);
+        i += 1;
+    }
+}
+
+// The values of a list of items of one block.
+fn read_items(
+    block: &[u8],
+    mode_1: bool,
+    items: usize,
+    item_index: &[i64],
+    table: &[f64; 1024],
+    out: &mut [f64],
+)
+    requires { ⌜ (length (now block) ≡ blockWidth items) × (firstBad items (now «item_index») ≡ none) × ByCode (now table) nan × (length (now out) ≡ length (now «item_index»)) ⌝ }
+    ensures { λ _. ⌜ now (out .exit) ≡ tabulate (length (now («item_index» .entry))) (λ k. valueIn (now (table .entry)) nan (itemCode (now (block .entry)) (means items (getD (now («item_index» .entry)) k (pos 0))))) ⌝ }
+{
+    let mut k = 0;
+    while k < item_index.len() {
+        let item = super::item_of(mode_1, items, item_index[k]);
+        out[k] = item_value(block, item, table);
+        k += 1;
+    }
+}
+
+// The same of four blocks, one after the other.
+fn read_items_of_four(
+    block0: &[u8],
+    block1: &[u8],
+    block2: &[u8],
+    block3: &[u8],
+    mode_1: bool,
+    items: usize,
+    item_index: &[i64],
+    table: &[f64; 1024],
+    out: &mut [f64],
+)
+    requires { ⌜ (length (now block0) ≡ blockWidth items) × (length (now block1) ≡ blockWidth items) × (length (now block2) ≡ blockWidth items) × (length (now block3) ≡ blockWidth items) × (firstBad items (now «item_index») ≡ none) × ByCode (now table) nan × (length (now out) ≡ 4 * length (now «item_index»)) ⌝ }
+    ensures { λ _. ⌜ now (out .exit) ≡ tabulate (4 * length (now («item_index» .entry))) (λ p. valueIn (now (table .entry)) nan (itemCode (ofFour (now (block0 .entry)) (now (block1 .entry)) (now (block2 .entry)) (now (block3 .entry)) (p / length (now («item_index» .entry)))) (means items (getD (now («item_index» .entry)) (p % length (now («item_index» .entry))) (pos 0))))) ⌝ }
+{
+    let n = item_index.len();
+    let mut k = 0;
+    while k < n {
+        let item = super::item_of(mode_1, items, item_index[k]);
+        let k1 = n + k;
+        let k2 = n + n + k;
+        let k3 = n + n + n + k;
+        out[k] = item_value(block0, item, table);
+        out[k1] = item_value(block1, item, table);
+        out[k2] = item_value(block2, item, table);
+        out[k3] = item_value(block3, item, table);
+        k += 1;
+    }
+}
+
+// One line of a matrix that goes along the blocks: the block that entry o means.
+fn read_line_along(
+    file: &[u8],
+    mode_1: bool,
+    width: usize,
+    items: usize,
+    item_index: &[i64],
+    blocks: usize,
+    block_index: &[i64],
+    in_order: bool,
+    o: usize,
+    table: &[f64; 1024],
+    out: &mut [f64],
+)
+    requires { ⌜ Listed (now file) width items blocks (now «item_index») (now «block_index») × ByCode (now table) nan × («in_order» ≡ true → (k : ℕ) → k < length (now «item_index») → means items (getD (now «item_index») k (pos 0)) ≡ k) × (o < length (now «block_index»)) × (length (now out) ≡ length (now «item_index»)) ⌝ }
+    ensures { λ _. ⌜ now (out .exit) ≡ tabulate (length (now («item_index» .entry))) (λ t. heldValue (valueIn (now (table .entry)) nan) (now (file .entry)) items blocks (now («item_index» .entry)) (now («block_index» .entry)) o t) ⌝ }
+{
+    let start = super::block_start(mode_1, width, items, blocks, block_index, o, file.len());
+    let end = start + width;
+    if in_order {
+        read_in_order(&file[start..end], table, out);
+    } else {
+        read_items(&file[start..end], mode_1, items, item_index, table, out);
+    }
+}
+
+// Four such lines.
+fn read_four_along(
+    file: &[u8],
+    mode_1: bool,
+    width: usize,
+    items: usize,
+    item_index: &[i64],
+    blocks: usize,
+    block_index: &[i64],
+    o: usize,
+    table: &[f64; 1024],
+    out: &mut [f64],
+)
+    requires { ⌜ Listed (now file) width items blocks (now «item_index») (now «block_index») × ByCode (now table) nan × (o + 4 ≤ length (now «block_index»)) × (length (now out) ≡ 4 * length (now «item_index»)) ⌝ }
+    ensures { λ _. ⌜ now (out .exit) ≡ tabulate (4 * length (now («item_index» .entry))) (λ p. heldValue (valueIn (now (table .entry)) nan) (now (file .entry)) items blocks (now («item_index» .entry)) (now («block_index» .entry)) (o + p / length (now («item_index» .entry))) (p % length (now («item_index» .entry)))) ⌝ }
+{
+    let start0 = super::block_start(mode_1, width, items, blocks, block_index, o, file.len());
+    let start1 = super::block_start(mode_1, width, items, blocks, block_index, o + 1, file.len());
+    let start2 = super::block_start(mode_1, width, items, blocks, block_index, o + 2, file.len());
+    let start3 = super::block_start(mode_1, width, items, blocks, block_index, o + 3, file.len());
+    let end0 = start0 + width;
+    let end1 = start1 + width;
+    let end2 = start2 + width;
+    let end3 = start3 + width;
+    read_items_of_four(
+        &file[start0..end0],
+        &file[start1..end1],
+        &file[start2..end2],
+        &file[start3..end3],
+        mode_1,
+        items,
+        item_index,
+        table,
+        out,
+    );
+}
+
+// One such line, or four, from place o of the list of blocks on.
+fn read_lines_along(
+    file: &[u8],
+    mode_1: bool,
+    width: usize,
+    items: usize,
+    item_index: &[i64],
+    blocks: usize,
+    block_index: &[i64],
+    in_order: bool,
+    o: usize,
+    lines: usize,
+    table: &[f64; 1024],
+    out: &mut [f64],
+)
+    requires { ⌜ Listed (now file) width items blocks (now «item_index») (now «block_index») × ByCode (now table) nan × («in_order» ≡ true → (k : ℕ) → k < length (now «item_index») → means items (getD (now «item_index») k (pos 0)) ≡ k) × (lines ≡ cond (leb 4 lines) 4 1) × (o + lines ≤ length (now «block_index»)) × (length (now out) ≡ lines * length (now «item_index»)) ⌝ }
+    ensures { λ _. ⌜ now (out .exit) ≡ tabulate (lines * length (now («item_index» .entry))) (λ p. heldValue (valueIn (now (table .entry)) nan) (now (file .entry)) items blocks (now («item_index» .entry)) (now («block_index» .entry)) (o + p / length (now («item_index» .entry))) (p % length (now («item_index» .entry)))) ⌝ }
+{
+    if lines == 4 {
+        read_four_along(
+            file,
+            mode_1,
+            width,
+            items,
+            item_index,
+            blocks,
+            block_index,
+            o,
+            table,
+            out,
+        );
+    } else {
+        read_line_along(
+            file,
+            mode_1,
+            width,
+            items,
+            item_index,
+            blocks,
+            block_index,
+            in_order,
+            o,
+            table,
+            out,
+        );
+    }
+}
+
+// A whole matrix that goes along the blocks.
+fn read_along(
+    file: &[u8],
+    mode_1: bool,
+    width: usize,
+    items: usize,
+    item_index: &[i64],
+    blocks: usize,
+    block_index: &[i64],
+    table: &[f64; 1024],
+    val: &mut [f64],
+)
+    requires { ⌜ Listed (now file) width items blocks (now «item_index») (now «block_index») × ByCode (now table) nan × (length (now «block_index») * length (now «item_index») ≡ length (now val)) ⌝ }
+    ensures { λ _. ⌜ now (val .exit) ≡ tabulate (length (now («block_index» .entry)) * length (now («item_index» .entry))) (λ p. heldValue (valueIn (now (table .entry)) nan) (now (file .entry)) items blocks (now («item_index» .entry)) (now («block_index» .entry)) (p / length (now («item_index» .entry))) (p % length (now («item_index» .entry)))) ⌝ }
+{
+    let n = item_index.len();
+    let in_order = super::is_file_order(mode_1, items, item_index);
+    let mut o = 0;
+    while o < block_index.len() {
+        let lines = super::lines_at_once(in_order, block_index.len() - o);
+        let start = o * n;
+        let end = (o + lines) * n;
+        read_lines_along(
+            file,
+            mode_1,
+            width,
+            items,
+            item_index,
+            blocks,
+            block_index,
+            in_order,
+            o,
+            lines,
+            table,
+            &mut val[start..end],
+        );
+        o += lines;
+    }
+}
 
 // The values of a list of animals at one marker.
 fn read_iids(
@@ -105,8 +358,8 @@ fn read_line(
     }
 }
 
-// The whole matrix, tile by tile.
-fn read_matrix(
+// A whole matrix that goes across the blocks, tile by tile.
+fn read_tiles(
     file: &[u8],
     shape: Shape,
     iid_index: &[i64],
@@ -121,10 +374,9 @@ fn read_matrix(
 {
     let inner = super::inner_count(animal_order, iid_index.len(), sid_index.len());
     let outer = super::inner_count(animal_order, sid_index.len(), iid_index.len());
-    let along = shape.mode1 != animal_order;
     let mut from = 0;
     while from < inner {
-        let until = super::tile_end(along, from, inner);
+        let until = super::tile_end(from, inner);
         let mut o = 0;
         while o < outer {
             let start = o * inner + from;
@@ -146,6 +398,75 @@ fn read_matrix(
         }
         from = until;
     }
+}
+
+// The whole matrix.
+fn read_matrix(
+    file: &[u8],
+    shape: Shape,
+    iid_index: &[i64],
+    sid_index: &[i64],
+    animal_order: bool,
+    codes: &[u8; 1024],
+    values: &[f64; 4],
+    val: &mut [f64],
+)
+    requires { ⌜ Shaped (now file) (shape .mode1) (shape .width) (shape .iids) (shape .sids) × (firstBad (shape .iids) (now «iid_index») ≡ none) × (firstBad (shape .sids) (now «sid_index») ≡ none) × (now codes ≡ codeTable) × (length (now «iid_index») * length (now «sid_index») ≡ length (now val)) ⌝ }
+    ensures { λ _. ⌜ now (val .exit) ≡ map (λ code. getD (now (values .entry)) code nan) (codesRead «animal_order» (now (file .entry)) (shape .iids) (shape .sids) (now («iid_index» .entry)) (now («sid_index» .entry))) ⌝ }
+{
+    if shape.mode1 {
+        if animal_order {
+            read_tiles(
+                file,
+                shape,
+                iid_index,
+                sid_index,
+                animal_order,
+                codes,
+                values,
+                val,
+            );
+            return;
+        }
+        let table = value_table(codes, values);
+        read_along(
+            file,
+            true,
+            shape.width,
+            shape.iids,
+            iid_index,
+            shape.sids,
+            sid_index,
+            &table,
+            val,
+        );
+        return;
+    }
+    if animal_order {
+        let table = value_table(codes, values);
+        read_along(
+            file,
+            false,
+            shape.width,
+            shape.sids,
+            sid_index,
+            shape.iids,
+            iid_index,
+            &table,
+            val,
+        );
+        return;
+    }
+    read_tiles(
+        file,
+        shape,
+        iid_index,
+        sid_index,
+        animal_order,
+        codes,
+        values,
+        val,
+    );
 }
 
 // Reads the calls of a list of animals at a list of markers into a matrix in the order asked.

@@ -113,7 +113,7 @@ fn byte_at_f64(
         IidIndex(first),
         SidIndex(m),
     );
-    let g = crate::group_f64(val, start, stride, left, is_a1_counted, missing);
+    let g = crate::group_good_f64(val, start, stride, left, is_a1_counted);
     crate::byte_of(g)
 }
 

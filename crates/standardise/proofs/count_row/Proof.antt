@@ -3,19 +3,20 @@ use Prim.Native.Nat.{_-_, _≤_}
 use native.Mathlib.Omega.{arith}
 use borrow.Author.Needs.{needs, scaled-fits}
 use lib.Ieee.{binary64}
+use Rattle.statistics.specs.Statistics.{counted}
 use Rattle.standardise.specs.Steps.{from, accumulatorAt}
 use Rattle.standardise.proofs.TileLaws.{RowCounted, row-none, row-more, row-all}
 use Rattle.standardise.proofs.count_row.Statement.{statement}
 use Rattle.standardise.proofs.count_row.Tie as tie
 
 abbrev Inv-loop : tie.InvT-loop
-Inv-loop val start width counts₀ sums₀ squares₀ j₀ counts sums squares j = (j ≤ width) × RowCounted binary64 (from val start) (accumulatorAt counts₀ sums₀ squares₀) j counts sums squares
+Inv-loop val start width counts₀ sums₀ squares₀ j₀ counts sums squares j = (j ≤ width) × RowCounted (λ k a. counted binary64 a (from val start k)) (accumulatorAt counts₀ sums₀ squares₀) j counts sums squares
 
 abbrev μ-loop : tie.MeasureT-loop
 μ-loop val start width counts₀ sums₀ squares₀ j₀ counts sums squares j = width - j
 
 loop-holds : tie.Need-loop-holds Inv-loop μ-loop
-loop-holds c = let s = c .before in (omega arith, row-none binary64 (from (s .args .val .now) (s .args .start)) _ _ _ (record { counts-long = s .pre .2; sums-long = s .pre .3; squares-long = s .pre .4 }))
+loop-holds c = let s = c .before in (omega arith, row-none (λ k a. counted binary64 a (from (s .args .val .now) (s .args .start) k)) _ _ _ (record { counts-long = s .pre .2; sums-long = s .pre .3; squares-long = s .pre .4 }))
 
 mul-count : tie.Need-mul-count Inv-loop μ-loop
 mul-count c = omega arith
@@ -76,7 +77,7 @@ loop-again c =
     let s = c .before .before .before .before .before .before .before .before in
     let l = c .before .before .before .before .before .before .loop in (
       omega arith,
-      row-more binary64 (from (s .args .val .now) (s .args .start)) (accumulatorAt (s .args .counts .now) (s .args .sums .now) (s .args .squares .now)) (l .j) (l .counts) (l .sums)
+      row-more (λ k a. counted binary64 a (from (s .args .val .now) (s .args .start) k)) (accumulatorAt (s .args .counts .now) (s .args .sums .now) (s .args .squares .now)) (l .j) (l .counts) (l .sums)
           (l .squares) (c .add-value .result) (omega arith) (l .inv .1) (c .add-value .ensures),
     )
 
@@ -88,7 +89,7 @@ returns c =
       p .long .counts-long,
       p .long .sums-long,
       p .long .squares-long,
-      row-all binary64 (from (s .args .val .now) (s .args .start)) (accumulatorAt (s .args .counts .now) (s .args .sums .now) (s .args .squares .now)) (l .j) (s .args .width)
+      row-all (λ k a. counted binary64 a (from (s .args .val .now) (s .args .start) k)) (accumulatorAt (s .args .counts .now) (s .args .sums .now) (s .args .squares .now)) (l .j) (s .args .width)
           (l .counts) (l .sums) (l .squares) p (c .loop-test .left),
     )
 

@@ -1,0 +1,49 @@
+-- `item_value`: the table has the value of the code at the place of the byte.
+use Prim.Native.Nat.{ℕ, _+_, _-_, _*_, _/_, _%_, _<_, _≤_}
+use Rattle.bed_read.proofs.TableLaws.{item-value}
+use Rattle.bed_read.specs.Inner.{valueIn, ofFour, heldValue}
+use Rattle.genotype.specs.Code.{itemCode}
+use Rattle.genotype.specs.Entry.{means}
+use borrow.Author.Needs.{needs}
+use lib.Ieee.{Float, nan}
+use lib.IntN.{pos}
+use lib.ListN.{length, getD}
+use mathlib.Core.Path.{_≡_, refl, sym, ap, subst, _∙_}
+use native.Mathlib.Omega.{arith}
+use Rattle.bed_read.proofs.reading.read_f64.item_value.Statement.{statement}
+use Rattle.bed_read.proofs.reading.read_f64.item_value.Tie as tie
+
+shared-slice-read-wide : tie.Need-shared-slice-read-wide
+shared-slice-read-wide c = search needs
+
+wide-requires : tie.Need-wide-requires
+wide-requires c κs = search needs
+
+mul-at : tie.Need-mul-at
+mul-at c = search needs
+
+add-at : tie.Need-add-at
+add-at c = search needs
+
+mul-result : tie.Need-mul-result
+mul-result c = search needs
+
+element-copy-out-result : tie.Need-element-copy-out-result
+element-copy-out-result c = search needs
+
+returns : tie.Need-returns
+returns c =
+    let s = c .before .before .before .before in
+    item-value nan (s .args .table .now) (s .pre .1) (s .args .block .now) _ _ (s .args .item) (c .before .wide .ensures .0) (c .before .wide .ensures .1) refl
+
+pub item-value-spec : {M : Type 1} → statement M
+item-value-spec =
+    tie.close
+    (tie.spec
+    shared-slice-read-wide
+    wide-requires
+    mul-at
+    add-at
+    mul-result
+    element-copy-out-result
+    returns)
