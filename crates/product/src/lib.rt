@@ -172,7 +172,7 @@ fn add_four(x: &[f64], y: &[f64; 32], i: usize, sums: &mut [f64])
 }
 
 // Adds the products of places 0 to n - 1 to each sum, upward.
-fn add_all(x: &[f64], y: &[f64; 32], n: usize, sums: &mut [f64])
+fn add_many(x: &[f64], y: &[f64; 32], n: usize, sums: &mut [f64])
     requires { ⌜ (n ≤ 32) × (length (now x) ≡ 2048) × (length (now sums) ≤ 64) ⌝ }
     ensures { λ _. ⌜ now (sums .exit) ≡ tabulate (length (now (sums .entry))) (λ j. sumMore binary64 (getD (now (sums .entry)) j nan) (λ i. getD (now (y .entry)) i nan) (λ i. getD (now (x .entry)) (i * 64 + j) nan) n) ⌝ }
 {
@@ -185,6 +185,32 @@ fn add_all(x: &[f64], y: &[f64; 32], n: usize, sums: &mut [f64])
         add_one(x, y, i, sums);
         i += 1;
     }
+}
+
+// The same of one sum, which stays at hand.
+fn add_line(x: &[f64], y: &[f64; 32], n: usize, sum: f64) -> f64
+    requires { ⌜ (n ≤ 32) × (length (now x) ≡ 2048) ⌝ }
+    ensures { λ r. ⌜ r ≡ sumMore binary64 sum (λ i. getD (now (y .entry)) i nan) (λ i. getD (now (x .entry)) (i * 64) nan) n ⌝ }
+{
+    let mut total = sum;
+    let mut i = 0;
+    while i < n {
+        total = total + y[i] * x[i * 64];
+        i += 1;
+    }
+    total
+}
+
+// One sum, or many.
+fn add_all(x: &[f64], y: &[f64; 32], n: usize, sums: &mut [f64])
+    requires { ⌜ (n ≤ 32) × (length (now x) ≡ 2048) × (length (now sums) ≤ 64) ⌝ }
+    ensures { λ _. ⌜ now (sums .exit) ≡ tabulate (length (now (sums .entry))) (λ j. sumMore binary64 (getD (now (sums .entry)) j nan) (λ i. getD (now (y .entry)) i nan) (λ i. getD (now (x .entry)) (i * 64 + j) nan) n) ⌝ }
+{
+    if sums.len() == 1 {
+        sums[0] = add_line(x, y, n, sums[0]);
+        return;
+    }
+    add_many(x, y, n, sums);
 }
 
 // Adds terms k to k + n - 1 to the sums of columns c to c + m - 1, in each row as far as the diagonal.
