@@ -1,0 +1,260 @@
+// Replays the stored list of answers, data/answers.txt: a line is a call with its lent buffers, the answer, and the buffers afterwards.
+// tools/differential says how the list was made, and its form. A line that breaks the form, and a call that is not known, differ.
+mod buffers;
+mod calls;
+mod line;
+mod shape;
+
+use mungkelas::BedAnswer;
+
+fn say(text: &[u8]) {
+    io::write_all(1, text);
+}
+
+fn say_name(call: u64) {
+    match call {
+        1 => say(b"open_and_check"),
+        2 => say(b"try_div_4"),
+        3 => say(b"byte_span"),
+        4 => say(b"to_range"),
+        5 => say(b"read_i8"),
+        6 => say(b"read_f64"),
+        7 => say(b"encode1_i8"),
+        8 => say(b"encode1_f64"),
+        9 => say(b"write_i8"),
+        10 => say(b"write_f64"),
+        11 => say(b"canonical"),
+        12 => say(b"impute_and_zero_mean_snps_f64"),
+        13 => say(b"read_standardised_f64"),
+        14 => say(b"index_all"),
+        15 => say(b"index_one"),
+        16 => say(b"index_vec"),
+        17 => say(b"index_bool"),
+        18 => say(b"index_range"),
+        19 => say(b"index_slice"),
+        20 => say(b"file_ata_piece"),
+        21 => say(b"file_aat_piece"),
+        22 => say(b"root_f64"),
+        _ => say(b"unknown"),
+    }
+}
+
+fn same_answer(words: &[u64; 512], at: usize, answer: BedAnswer) -> bool {
+    if answer.number != line::word(words, at) {
+        return false;
+    }
+    if answer.first != line::signed(line::word(words, line::skip(at, 1))) {
+        return false;
+    }
+    answer.second == line::signed(line::word(words, line::skip(at, 2)))
+}
+
+// Whether the library answers and leaves what a line says, in lent buffers of the line's lengths.
+fn agrees_in(
+    call: u64,
+    words: &[u64; 512],
+    answer_at: usize,
+    numbers: &[u64; 8],
+    places: &[usize; 16],
+    bytes: &mut [u8],
+    out: &mut [u8],
+    index: &mut [i64],
+    list: &mut [i64],
+    i8s: &mut [i8],
+    f64s: &mut [f64],
+    stats: &mut [f64],
+) -> bool {
+    buffers::bytes_at(words, places[0], bytes);
+    buffers::bytes_at(words, places[1], out);
+    buffers::i64s_at(words, places[2], index);
+    buffers::i64s_at(words, places[3], list);
+    buffers::i8s_at(words, places[4], i8s);
+    buffers::f64s_at(words, places[5], f64s);
+    buffers::f64s_at(words, places[6], stats);
+    let answer = calls::answer_of(call, numbers, bytes, out, index, list, i8s, f64s, stats);
+    same_answer(words, answer_at, answer)
+        && buffers::same_bytes(words, places[9], out)
+        && buffers::same_i64s(words, places[11], list)
+        && buffers::same_i8s(words, places[12], i8s)
+        && buffers::same_f64s(words, places[13], f64s)
+        && buffers::same_f64s(words, places[14], stats)
+}
+
+// Whether the library agrees with a line of so many words.
+fn agrees(call: u64, words: &[u64; 512], count: usize) -> bool {
+    let mut numbers = [0u64; 8];
+    let mut places = [1024usize; 16];
+    let walk = shape::walk_call(call, words, &mut numbers, &mut places);
+    if walk.at != count {
+        return false;
+    }
+    let bytes_len = line::length(words, places[0]);
+    let out_len = line::length(words, places[1]);
+    let index_len = line::length(words, places[2]);
+    let list_len = line::length(words, places[3]);
+    let i8s_len = line::length(words, places[4]);
+    let f64s_len = line::length(words, places[5]);
+    let stats_len = line::length(words, places[6]);
+    let mut bytes = [0u8; 64];
+    let mut out = [0u8; 64];
+    let mut index = [0i64; 64];
+    let mut list = [0i64; 64];
+    let mut i8s = [0i8; 64];
+    let mut f64s = [0.0f64; 64];
+    let mut stats = [0.0f64; 64];
+    agrees_in(
+        call,
+        words,
+        walk.answer,
+        &numbers,
+        &places,
+        &mut bytes[0..bytes_len],
+        &mut out[0..out_len],
+        &mut index[0..index_len],
+        &mut list[0..list_len],
+        &mut i8s[0..i8s_len],
+        &mut f64s[0..f64s_len],
+        &mut stats[0..stats_len],
+    )
+}
+
+fn more(n: u64) -> u64 {
+    if n < 1000000 { n + 1 } else { n }
+}
+
+// The line that is being read, and how many lines were read and how many of them differ.
+struct Run {
+    line: line::Line,
+    lines: u64,
+    differ: u64,
+}
+
+// Counts a line at its call, under the original's answers or document 01's; or says that it differs.
+fn count_line(
+    words: &[u64; 512],
+    count: usize,
+    lines: u64,
+    original: &mut [u64; 23],
+    document: &mut [u64; 23],
+) -> bool {
+    let whose = line::word(words, 0);
+    let call = line::word(words, 1);
+    if whose < 2 && call < 23 && agrees(call, words, count) {
+        let place = call as usize;
+        if whose == 0 {
+            original[place] = more(original[place]);
+        } else {
+            document[place] = more(document[place]);
+        }
+        return true;
+    }
+    say(b"case ");
+    io::print_decimal(1, lines);
+    say(b", ");
+    say_name(call);
+    say(b": DIFFERS\n");
+    false
+}
+
+// Reads one byte of the list.
+fn step(
+    run: Run,
+    byte: u8,
+    words: &mut [u64; 512],
+    original: &mut [u64; 23],
+    document: &mut [u64; 23],
+) -> Run {
+    let before = run.line;
+    let line = line::step(before, byte, words);
+    let mut lines = run.lines;
+    let mut differ = run.differ;
+    if line.ended {
+        lines = more(lines);
+        let count = if line.is_bad { 0 } else { line.words };
+        if !count_line(words, count, lines, original, document) {
+            differ = more(differ);
+        }
+    }
+    Run {
+        line,
+        lines,
+        differ,
+    }
+}
+
+fn read_part(
+    run: Run,
+    bytes: &[u8],
+    words: &mut [u64; 512],
+    original: &mut [u64; 23],
+    document: &mut [u64; 23],
+) -> Run {
+    let mut out = run;
+    let mut i = 0;
+    while i < bytes.len() {
+        out = step(out, bytes[i], words, original, document);
+        i += 1;
+    }
+    out
+}
+
+// Reads some of the list.
+fn read_some(
+    run: Run,
+    fd: i32,
+    words: &mut [u64; 512],
+    original: &mut [u64; 23],
+    document: &mut [u64; 23],
+) -> Run {
+    let mut buf = io::buffer();
+    let n = io::read_full(fd, &mut buf);
+    read_part(run, &buf[..n], words, original, document)
+}
+
+fn read_list(
+    fd: i32,
+    words: &mut [u64; 512],
+    original: &mut [u64; 23],
+    document: &mut [u64; 23],
+) -> u64 {
+    let mut run = Run {
+        line: line::start(),
+        lines: 0,
+        differ: 0,
+    };
+    let mut turns = 1000u64;
+    while turns > 0 {
+        run = read_some(run, fd, words, original, document);
+        turns -= 1;
+    }
+    run.differ
+}
+
+fn say_counts(original: &[u64; 23], document: &[u64; 23]) {
+    let mut call = 1usize;
+    while call < 23 {
+        say_name(call as u64);
+        say(b": ");
+        io::print_decimal(1, original[call]);
+        say(b" of the original's answers, ");
+        io::print_decimal(1, document[call]);
+        say(b" of document 01's\n");
+        call += 1;
+    }
+}
+
+fn main() {
+    let fd = os::open_read(b"answers.txt");
+    if fd < 0 {
+        say(b"answers.txt cannot be opened\n");
+        return;
+    }
+    let mut words = [0u64; 512];
+    let mut original = [0u64; 23];
+    let mut document = [0u64; 23];
+    let differ = read_list(fd, &mut words, &mut original, &mut document);
+    libc::close(fd);
+    say_counts(&original, &document);
+    io::print_decimal(1, differ);
+    say(b" differ\n");
+}
