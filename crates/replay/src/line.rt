@@ -63,8 +63,11 @@ pub fn step(line: Line, byte: u8, words: &mut [u64; 512]) -> Line {
         out.is_word = true;
         return out;
     }
+    if !out.is_word {
+        out.is_bad = true;
+    }
     let at = out.words;
-    if out.is_word && at < 512 {
+    if at < 512 {
         words[at] = out.word;
         out.words = at + 1;
     } else {
