@@ -39,6 +39,27 @@ fn say_name(call: u64) {
     }
 }
 
+// Fills the lent buffers from a line.
+fn fill(
+    words: &[u64; 512],
+    places: &[usize; 16],
+    bytes: &mut [u8],
+    out: &mut [u8],
+    index: &mut [i64],
+    list: &mut [i64],
+    i8s: &mut [i8],
+    f64s: &mut [f64],
+    stats: &mut [f64],
+) {
+    buffers::bytes_at(words, places[0], bytes);
+    buffers::bytes_at(words, places[1], out);
+    buffers::i64s_at(words, places[2], index);
+    buffers::i64s_at(words, places[3], list);
+    buffers::i8s_at(words, places[4], i8s);
+    buffers::f64s_at(words, places[5], f64s);
+    buffers::f64s_at(words, places[6], stats);
+}
+
 fn same_answer(words: &[u64; 512], at: usize, answer: BedAnswer) -> bool {
     if answer.number != line::word(words, at) {
         return false;
@@ -49,7 +70,27 @@ fn same_answer(words: &[u64; 512], at: usize, answer: BedAnswer) -> bool {
     answer.second == line::signed(line::word(words, line::skip(at, 2)))
 }
 
-// Whether the library answers and leaves what a line says, in lent buffers of the line's lengths.
+// Whether an answer and the buffers afterwards are a line's.
+fn same(
+    words: &[u64; 512],
+    answer_at: usize,
+    answer: BedAnswer,
+    places: &[usize; 16],
+    out: &[u8],
+    list: &[i64],
+    i8s: &[i8],
+    f64s: &[f64],
+    stats: &[f64],
+) -> bool {
+    same_answer(words, answer_at, answer)
+        && buffers::same_bytes(words, places[9], out)
+        && buffers::same_i64s(words, places[11], list)
+        && buffers::same_i8s(words, places[12], i8s)
+        && buffers::same_f64s(words, places[13], f64s)
+        && buffers::same_f64s(words, places[14], stats)
+}
+
+// Whether the library agrees with a line, in lent buffers of the line's lengths.
 fn agrees_in(
     call: u64,
     words: &[u64; 512],
@@ -64,20 +105,19 @@ fn agrees_in(
     f64s: &mut [f64],
     stats: &mut [f64],
 ) -> bool {
-    buffers::bytes_at(words, places[0], bytes);
-    buffers::bytes_at(words, places[1], out);
-    buffers::i64s_at(words, places[2], index);
-    buffers::i64s_at(words, places[3], list);
-    buffers::i8s_at(words, places[4], i8s);
-    buffers::f64s_at(words, places[5], f64s);
-    buffers::f64s_at(words, places[6], stats);
+    fill(words, places, bytes, out, index, list, i8s, f64s, stats);
     let answer = calls::answer_of(call, numbers, bytes, out, index, list, i8s, f64s, stats);
-    same_answer(words, answer_at, answer)
-        && buffers::same_bytes(words, places[9], out)
-        && buffers::same_i64s(words, places[11], list)
-        && buffers::same_i8s(words, places[12], i8s)
-        && buffers::same_f64s(words, places[13], f64s)
-        && buffers::same_f64s(words, places[14], stats)
+    same(
+        words,
+        answer_at,
+        answer,
+        places,
+        out,
+        list,
+        i8s,
+        f64s,
+        stats,
+    )
 }
 
 // Whether the library agrees with a line of so many words.
@@ -139,14 +179,17 @@ fn count_line(
 ) -> bool {
     let whose = line::word(words, 0);
     let call = line::word(words, 1);
-    if whose < 2 && call < 23 && agrees(call, words, count) {
-        let place = call as usize;
-        if whose == 0 {
-            original[place] = more(original[place]);
-        } else {
-            document[place] = more(document[place]);
+    let is_same = whose < 2 && agrees(call, words, count);
+    let place = call as usize;
+    if is_same {
+        if place < 23 {
+            if whose == 0 {
+                original[place] = more(original[place]);
+            } else {
+                document[place] = more(document[place]);
+            }
+            return true;
         }
-        return true;
     }
     say(b"case ");
     io::print_decimal(1, lines);
