@@ -90,7 +90,36 @@ fn same(
         && buffers::same_f64s(words, places[14], stats)
 }
 
-// Whether the library agrees with a line, in lent buffers of the line's lengths.
+// Whether the library agrees with a line, in filled buffers.
+fn agrees_filled(
+    call: u64,
+    words: &[u64; 512],
+    answer_at: usize,
+    numbers: &[u64; 8],
+    places: &[usize; 16],
+    bytes: &[u8],
+    out: &mut [u8],
+    index: &[i64],
+    list: &mut [i64],
+    i8s: &mut [i8],
+    f64s: &mut [f64],
+    stats: &mut [f64],
+) -> bool {
+    let answer = calls::answer_of(call, numbers, bytes, out, index, list, i8s, f64s, stats);
+    same(
+        words,
+        answer_at,
+        answer,
+        places,
+        out,
+        list,
+        i8s,
+        f64s,
+        stats,
+    )
+}
+
+// Whether the library agrees with a line, in buffers of the line's lengths.
 fn agrees_in(
     call: u64,
     words: &[u64; 512],
@@ -106,13 +135,15 @@ fn agrees_in(
     stats: &mut [f64],
 ) -> bool {
     fill(words, places, bytes, out, index, list, i8s, f64s, stats);
-    let answer = calls::answer_of(call, numbers, bytes, out, index, list, i8s, f64s, stats);
-    same(
+    agrees_filled(
+        call,
         words,
         answer_at,
-        answer,
+        numbers,
         places,
+        bytes,
         out,
+        index,
         list,
         i8s,
         f64s,
