@@ -11,6 +11,34 @@ fn say(text: &[u8]) {
     io::write_all(1, text);
 }
 
+// The names of the calls.
+fn say_last(call: u64) {
+    match call {
+        16 => say(b"index_vec"),
+        17 => say(b"index_bool"),
+        18 => say(b"index_range"),
+        19 => say(b"index_slice"),
+        20 => say(b"file_ata_piece"),
+        21 => say(b"file_aat_piece"),
+        22 => say(b"root_f64"),
+        _ => say(b"unknown"),
+    }
+}
+
+fn say_middle(call: u64) {
+    match call {
+        8 => say(b"encode1_f64"),
+        9 => say(b"write_i8"),
+        10 => say(b"write_f64"),
+        11 => say(b"canonical"),
+        12 => say(b"impute_and_zero_mean_snps_f64"),
+        13 => say(b"read_standardised_f64"),
+        14 => say(b"index_all"),
+        15 => say(b"index_one"),
+        _ => say_last(call),
+    }
+}
+
 fn say_name(call: u64) {
     match call {
         1 => say(b"open_and_check"),
@@ -20,22 +48,7 @@ fn say_name(call: u64) {
         5 => say(b"read_i8"),
         6 => say(b"read_f64"),
         7 => say(b"encode1_i8"),
-        8 => say(b"encode1_f64"),
-        9 => say(b"write_i8"),
-        10 => say(b"write_f64"),
-        11 => say(b"canonical"),
-        12 => say(b"impute_and_zero_mean_snps_f64"),
-        13 => say(b"read_standardised_f64"),
-        14 => say(b"index_all"),
-        15 => say(b"index_one"),
-        16 => say(b"index_vec"),
-        17 => say(b"index_bool"),
-        18 => say(b"index_range"),
-        19 => say(b"index_slice"),
-        20 => say(b"file_ata_piece"),
-        21 => say(b"file_aat_piece"),
-        22 => say(b"root_f64"),
-        _ => say(b"unknown"),
+        _ => say_middle(call),
     }
 }
 

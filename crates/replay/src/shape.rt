@@ -1,9 +1,37 @@
 // Where a call's line has what. A shape has a letter for each parameter: n a number, t a truth value, and for a buffer its kind; then `=`
-// for the three fields of the answer; then the kinds of the buffers as they are afterwards.
+// for the three fields of the answer; then the kinds of the buffers as they are afterwards; then spaces.
 ghost use Prim.Native.Nat.{_<_};
 use crate::line::after;
 use crate::line::skip;
 use crate::line::word;
+
+fn shape(call: u64) -> [u8; 12] {
+    match call {
+        1 => *b"b=          ",
+        2 => *b"nn=         ",
+        3 => *b"ni=         ",
+        4 => *b"ntntn=      ",
+        5 => *b"bnntilntv=v ",
+        6 => *b"bnntilntd=d ",
+        7 => *b"votn=o      ",
+        8 => *b"dotn=o      ",
+        9 => *b"vnnttno=o   ",
+        10 => *b"dnnttno=o   ",
+        11 => *b"bnno=o      ",
+        12 => *b"dnnttts=ds  ",
+        13 => *b"bnntiltds=ds",
+        14 => *b"nl=l        ",
+        15 => *b"nnl=l       ",
+        16 => *b"nil=l       ",
+        17 => *b"nbl=l       ",
+        18 => *b"ntntnl=l    ",
+        19 => *b"nntnnl=l    ",
+        20 => *b"bnnnnnnd=d  ",
+        21 => *b"bnnnnnnd=d  ",
+        22 => *b"n=          ",
+        _ => *b"            ",
+    }
+}
 
 // How far a line was walked along: the present place, the numbers before it, and where the answer is.
 pub struct Walk {
@@ -36,6 +64,9 @@ fn step(
     numbers: &mut [u64; 8],
     places: &mut [usize; 16],
 ) -> Walk {
+    if letter == b' ' {
+        return walk;
+    }
     let mut out = walk;
     let at = out.at;
     if letter == b'=' {
@@ -66,25 +97,6 @@ fn step(
     out
 }
 
-fn walk_shape(
-    shape: &[u8],
-    words: &[u64; 512],
-    numbers: &mut [u64; 8],
-    places: &mut [usize; 16],
-) -> Walk {
-    let mut out = Walk {
-        at: 2,
-        numbers: 0,
-        answer: 0,
-    };
-    let mut i = 0;
-    while i < shape.len() {
-        out = step(out, shape[i], words, numbers, places);
-        i += 1;
-    }
-    out
-}
-
 // Walks along a call's line.
 pub fn walk_call(
     call: u64,
@@ -92,29 +104,16 @@ pub fn walk_call(
     numbers: &mut [u64; 8],
     places: &mut [usize; 16],
 ) -> Walk {
-    match call {
-        1 => walk_shape(b"b=", words, numbers, places),
-        2 => walk_shape(b"nn=", words, numbers, places),
-        3 => walk_shape(b"ni=", words, numbers, places),
-        4 => walk_shape(b"ntntn=", words, numbers, places),
-        5 => walk_shape(b"bnntilntv=v", words, numbers, places),
-        6 => walk_shape(b"bnntilntd=d", words, numbers, places),
-        7 => walk_shape(b"votn=o", words, numbers, places),
-        8 => walk_shape(b"dotn=o", words, numbers, places),
-        9 => walk_shape(b"vnnttno=o", words, numbers, places),
-        10 => walk_shape(b"dnnttno=o", words, numbers, places),
-        11 => walk_shape(b"bnno=o", words, numbers, places),
-        12 => walk_shape(b"dnnttts=ds", words, numbers, places),
-        13 => walk_shape(b"bnntiltds=ds", words, numbers, places),
-        14 => walk_shape(b"nl=l", words, numbers, places),
-        15 => walk_shape(b"nnl=l", words, numbers, places),
-        16 => walk_shape(b"nil=l", words, numbers, places),
-        17 => walk_shape(b"nbl=l", words, numbers, places),
-        18 => walk_shape(b"ntntnl=l", words, numbers, places),
-        19 => walk_shape(b"nntnnl=l", words, numbers, places),
-        20 => walk_shape(b"bnnnnnnd=d", words, numbers, places),
-        21 => walk_shape(b"bnnnnnnd=d", words, numbers, places),
-        22 => walk_shape(b"n=", words, numbers, places),
-        _ => walk_shape(b"", words, numbers, places),
+    let letters = shape(call);
+    let mut out = Walk {
+        at: 2,
+        numbers: 0,
+        answer: 0,
+    };
+    let mut i = 0;
+    while i < 12 {
+        out = step(out, letters[i], words, numbers, places);
+        i += 1;
     }
+    out
 }
