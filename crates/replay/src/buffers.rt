@@ -44,7 +44,7 @@ pub fn same_bytes(words: &[u64; 512], at: usize, got: &[u8]) -> bool {
     let mut i = 0;
     while i < got.len() {
         let word = line::element(words, at, i);
-        if got[i] != line::low_byte(word) {
+        if word > 255 || got[i] != line::low_byte(word) {
             return false;
         }
         i += 1;
@@ -59,7 +59,7 @@ pub fn same_i8s(words: &[u64; 512], at: usize, got: &[i8]) -> bool {
     let mut i = 0;
     while i < got.len() {
         let word = line::element(words, at, i);
-        if got[i] != line::signed8(word) {
+        if word > 255 || got[i] != line::signed8(word) {
             return false;
         }
         i += 1;

@@ -220,6 +220,47 @@ fn unknown() -> BedAnswer {
     }
 }
 
+// What it answers to the calls that make lists, and to those on numbers alone.
+fn list_answer(
+    call: u64,
+    n: &[u64; 8],
+    bytes: &[u8],
+    index: &[i64],
+    list: &mut [i64],
+) -> BedAnswer {
+    match call {
+        2 => try_div_4(n),
+        3 => byte_span(n, index),
+        4 => to_range(n),
+        14 => index_all(n, list),
+        15 => index_one(n, list),
+        16 => index_vec(n, index, list),
+        17 => index_bool(n, bytes, list),
+        18 => index_range(n, list),
+        19 => index_slice(n, list),
+        22 => root_f64(n),
+        _ => unknown(),
+    }
+}
+
+// What it answers to the calls that write bytes.
+fn writing_answer(
+    call: u64,
+    n: &[u64; 8],
+    bytes: &[u8],
+    out: &mut [u8],
+    i8s: &[i8],
+    f64s: &[f64],
+) -> BedAnswer {
+    match call {
+        7 => encode1_i8(n, i8s, out),
+        8 => encode1_f64(n, f64s, out),
+        9 => write_i8(n, i8s, out),
+        10 => write_f64(n, f64s, out),
+        _ => canonical(n, bytes, out),
+    }
+}
+
 // What the library answers.
 pub fn answer_of(
     call: u64,
@@ -234,27 +275,13 @@ pub fn answer_of(
 ) -> BedAnswer {
     match call {
         1 => mungkelas::reading::bed_open_and_check(bytes),
-        2 => try_div_4(n),
-        3 => byte_span(n, index),
-        4 => to_range(n),
         5 => read_i8(n, bytes, index, list, i8s),
         6 => read_f64(n, bytes, index, list, f64s),
-        7 => encode1_i8(n, i8s, out),
-        8 => encode1_f64(n, f64s, out),
-        9 => write_i8(n, i8s, out),
-        10 => write_f64(n, f64s, out),
-        11 => canonical(n, bytes, out),
+        7..=11 => writing_answer(call, n, bytes, out, i8s, f64s),
         12 => impute_and_zero_mean_snps_f64(n, f64s, stats),
         13 => read_standardised_f64(n, bytes, index, list, f64s, stats),
-        14 => index_all(n, list),
-        15 => index_one(n, list),
-        16 => index_vec(n, index, list),
-        17 => index_bool(n, bytes, list),
-        18 => index_range(n, list),
-        19 => index_slice(n, list),
         20 => file_ata_piece(n, bytes, f64s),
         21 => file_aat_piece(n, bytes, f64s),
-        22 => root_f64(n),
-        _ => unknown(),
+        _ => list_answer(call, n, bytes, index, list),
     }
 }

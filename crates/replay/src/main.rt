@@ -235,7 +235,7 @@ fn count_line(
             return true;
         }
     }
-    say(b"case ");
+    say(b"line ");
     io::print_decimal(1, lines);
     say(b", ");
     say_name(call);
@@ -255,8 +255,10 @@ fn step(
     let line = line::step(before, byte, words);
     let mut lines = run.lines;
     let mut differ = run.differ;
-    if line.ended {
+    if byte == b'\n' {
         lines = more(lines);
+    }
+    if line.ended {
         let count = if line.is_bad { 0 } else { line.words };
         if !count_line(words, count, lines, original, document) {
             differ = more(differ);

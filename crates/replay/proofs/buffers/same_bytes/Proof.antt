@@ -23,8 +23,8 @@ loop-holds c = search needs
 element-requires : tie.Need-element-requires Inv-loop μ-loop
 element-requires c κs = search needs
 
-shared-slice-read-if2 : tie.Need-shared-slice-read-if2 Inv-loop μ-loop
-shared-slice-read-if2 c = search needs
+shared-slice-read-if3 : tie.Need-shared-slice-read-if3 Inv-loop μ-loop
+shared-slice-read-if3 c = search needs
 
 low-byte-requires : tie.Need-low-byte-requires Inv-loop μ-loop
 low-byte-requires c κs = search needs
@@ -54,7 +54,7 @@ same-bytes-spec =
     returns
     loop-holds
     element-requires
-    shared-slice-read-if2
+    shared-slice-read-if3
     low-byte-requires
     returns-2
     add-i

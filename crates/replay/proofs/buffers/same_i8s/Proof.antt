@@ -23,8 +23,8 @@ loop-holds c = search needs
 element-requires : tie.Need-element-requires Inv-loop μ-loop
 element-requires c κs = search needs
 
-shared-slice-copy-out-if2 : tie.Need-shared-slice-copy-out-if2 Inv-loop μ-loop
-shared-slice-copy-out-if2 c = search needs
+shared-slice-copy-out-if3 : tie.Need-shared-slice-copy-out-if3 Inv-loop μ-loop
+shared-slice-copy-out-if3 c = search needs
 
 signed8-requires : tie.Need-signed8-requires Inv-loop μ-loop
 signed8-requires c κs = search needs
@@ -54,7 +54,7 @@ same-i8s-spec =
     returns
     loop-holds
     element-requires
-    shared-slice-copy-out-if2
+    shared-slice-copy-out-if3
     signed8-requires
     returns-2
     add-i
