@@ -5,26 +5,20 @@ use crate::line::signed;
 use crate::line::signed8;
 use mungkelas::BedAnswer;
 
-fn try_div_4(n: &[u64; 8]) -> BedAnswer {
-    mungkelas::lists::bed_try_div_4(n[0] as usize, n[1] as usize)
+fn try_div_4(n: &[usize; 8]) -> BedAnswer {
+    mungkelas::lists::bed_try_div_4(n[0], n[1])
 }
 
-fn byte_span(n: &[u64; 8], index: &[i64]) -> BedAnswer {
-    mungkelas::lists::bed_byte_span(n[0] as usize, index)
+fn byte_span(n: &[usize; 8], index: &[i64]) -> BedAnswer {
+    mungkelas::lists::bed_byte_span(n[0], index)
 }
 
-fn to_range(n: &[u64; 8]) -> BedAnswer {
-    mungkelas::lists::bed_to_range(
-        n[0] as usize,
-        n[1] == 1,
-        n[2] as usize,
-        n[3] == 1,
-        n[4] as usize,
-    )
+fn to_range(n: &[usize; 8]) -> BedAnswer {
+    mungkelas::lists::bed_to_range(n[0], n[1] == 1, n[2], n[3] == 1, n[4])
 }
 
 fn read_i8(
-    n: &[u64; 8],
+    n: &[usize; 8],
     file: &[u8],
     iid_index: &[i64],
     sid_index: &[i64],
@@ -32,8 +26,8 @@ fn read_i8(
 ) -> BedAnswer {
     mungkelas::reading::read_i8::bed_read_i8(
         file,
-        n[0] as usize,
-        n[1] as usize,
+        n[0],
+        n[1],
         n[2] == 1,
         iid_index,
         sid_index,
@@ -44,7 +38,7 @@ fn read_i8(
 }
 
 fn read_f64(
-    n: &[u64; 8],
+    n: &[usize; 8],
     file: &[u8],
     iid_index: &[i64],
     sid_index: &[i64],
@@ -52,8 +46,8 @@ fn read_f64(
 ) -> BedAnswer {
     mungkelas::reading::read_f64::bed_read_f64(
         file,
-        n[0] as usize,
-        n[1] as usize,
+        n[0],
+        n[1],
         n[2] == 1,
         iid_index,
         sid_index,
@@ -63,11 +57,11 @@ fn read_f64(
     )
 }
 
-fn encode1_i8(n: &[u64; 8], in_vector: &[i8], out_vector: &mut [u8]) -> BedAnswer {
+fn encode1_i8(n: &[usize; 8], in_vector: &[i8], out_vector: &mut [u8]) -> BedAnswer {
     mungkelas::writing::encode_i8::bed_encode1_i8(in_vector, out_vector, n[0] == 1, signed8(n[1]))
 }
 
-fn encode1_f64(n: &[u64; 8], in_vector: &[f64], out_vector: &mut [u8]) -> BedAnswer {
+fn encode1_f64(n: &[usize; 8], in_vector: &[f64], out_vector: &mut [u8]) -> BedAnswer {
     mungkelas::writing::encode_f64::bed_encode1_f64(
         in_vector,
         out_vector,
@@ -76,11 +70,11 @@ fn encode1_f64(n: &[u64; 8], in_vector: &[f64], out_vector: &mut [u8]) -> BedAns
     )
 }
 
-fn write_i8(n: &[u64; 8], val: &[i8], out: &mut [u8]) -> BedAnswer {
+fn write_i8(n: &[usize; 8], val: &[i8], out: &mut [u8]) -> BedAnswer {
     mungkelas::writing::write_i8::bed_write_i8(
         val,
-        n[0] as usize,
-        n[1] as usize,
+        n[0],
+        n[1],
         n[2] == 1,
         n[3] == 1,
         signed8(n[4]),
@@ -88,11 +82,11 @@ fn write_i8(n: &[u64; 8], val: &[i8], out: &mut [u8]) -> BedAnswer {
     )
 }
 
-fn write_f64(n: &[u64; 8], val: &[f64], out: &mut [u8]) -> BedAnswer {
+fn write_f64(n: &[usize; 8], val: &[f64], out: &mut [u8]) -> BedAnswer {
     mungkelas::writing::write_f64::bed_write_f64(
         val,
-        n[0] as usize,
-        n[1] as usize,
+        n[0],
+        n[1],
         n[2] == 1,
         n[3] == 1,
         float_of(n[4]),
@@ -100,15 +94,15 @@ fn write_f64(n: &[u64; 8], val: &[f64], out: &mut [u8]) -> BedAnswer {
     )
 }
 
-fn canonical(n: &[u64; 8], file: &[u8], out: &mut [u8]) -> BedAnswer {
-    mungkelas::reading::bed_canonical(file, n[0] as usize, n[1] as usize, out)
+fn canonical(n: &[usize; 8], file: &[u8], out: &mut [u8]) -> BedAnswer {
+    mungkelas::reading::bed_canonical(file, n[0], n[1], out)
 }
 
-fn impute_and_zero_mean_snps_f64(n: &[u64; 8], val: &mut [f64], stats: &mut [f64]) -> BedAnswer {
+fn impute_and_zero_mean_snps_f64(n: &[usize; 8], val: &mut [f64], stats: &mut [f64]) -> BedAnswer {
     mungkelas::numbers::bed_impute_and_zero_mean_snps_f64(
         val,
-        n[0] as usize,
-        n[1] as usize,
+        n[0],
+        n[1],
         n[2] == 1,
         n[3] == 1,
         n[4] == 1,
@@ -117,7 +111,7 @@ fn impute_and_zero_mean_snps_f64(n: &[u64; 8], val: &mut [f64], stats: &mut [f64
 }
 
 fn read_standardised_f64(
-    n: &[u64; 8],
+    n: &[usize; 8],
     file: &[u8],
     iid_index: &[i64],
     sid_index: &[i64],
@@ -126,8 +120,8 @@ fn read_standardised_f64(
 ) -> BedAnswer {
     mungkelas::reading::bed_read_standardised_f64(
         file,
-        n[0] as usize,
-        n[1] as usize,
+        n[0],
+        n[1],
         n[2] == 1,
         iid_index,
         sid_index,
@@ -137,36 +131,29 @@ fn read_standardised_f64(
     )
 }
 
-fn index_all(n: &[u64; 8], list: &mut [i64]) -> BedAnswer {
-    mungkelas::lists::bed_index_all(n[0] as usize, list)
+fn index_all(n: &[usize; 8], list: &mut [i64]) -> BedAnswer {
+    mungkelas::lists::bed_index_all(n[0], list)
 }
 
-fn index_one(n: &[u64; 8], list: &mut [i64]) -> BedAnswer {
-    mungkelas::lists::bed_index_one(n[0] as usize, signed(n[1]), list)
+fn index_one(n: &[usize; 8], list: &mut [i64]) -> BedAnswer {
+    mungkelas::lists::bed_index_one(n[0], signed(n[1]), list)
 }
 
-fn index_vec(n: &[u64; 8], vec: &[i64], list: &mut [i64]) -> BedAnswer {
-    mungkelas::lists::bed_index_vec(n[0] as usize, vec, list)
+fn index_vec(n: &[usize; 8], vec: &[i64], list: &mut [i64]) -> BedAnswer {
+    mungkelas::lists::bed_index_vec(n[0], vec, list)
 }
 
-fn index_bool(n: &[u64; 8], marks: &[u8], list: &mut [i64]) -> BedAnswer {
-    mungkelas::lists::bed_index_bool(n[0] as usize, marks, list)
+fn index_bool(n: &[usize; 8], marks: &[u8], list: &mut [i64]) -> BedAnswer {
+    mungkelas::lists::bed_index_bool(n[0], marks, list)
 }
 
-fn index_range(n: &[u64; 8], list: &mut [i64]) -> BedAnswer {
-    mungkelas::lists::bed_index_range(
-        n[0] as usize,
-        n[1] == 1,
-        n[2] as usize,
-        n[3] == 1,
-        n[4] as usize,
-        list,
-    )
+fn index_range(n: &[usize; 8], list: &mut [i64]) -> BedAnswer {
+    mungkelas::lists::bed_index_range(n[0], n[1] == 1, n[2], n[3] == 1, n[4], list)
 }
 
-fn index_slice(n: &[u64; 8], list: &mut [i64]) -> BedAnswer {
+fn index_slice(n: &[usize; 8], list: &mut [i64]) -> BedAnswer {
     mungkelas::lists::bed_index_slice(
-        n[0] as usize,
+        n[0],
         signed(n[1]),
         n[2] == 1,
         signed(n[3]),
@@ -175,34 +162,16 @@ fn index_slice(n: &[u64; 8], list: &mut [i64]) -> BedAnswer {
     )
 }
 
-fn file_ata_piece(n: &[u64; 8], bytes: &[u8], piece: &mut [f64]) -> BedAnswer {
-    mungkelas::products::bed_file_ata_piece(
-        bytes,
-        n[0],
-        n[1] as usize,
-        n[2] as usize,
-        n[3] as usize,
-        n[4] as usize,
-        n[5] as usize,
-        piece,
-    )
+fn file_ata_piece(n: &[usize; 8], bytes: &[u8], piece: &mut [f64]) -> BedAnswer {
+    mungkelas::products::bed_file_ata_piece(bytes, n[0] as u64, n[1], n[2], n[3], n[4], n[5], piece)
 }
 
-fn file_aat_piece(n: &[u64; 8], bytes: &[u8], piece: &mut [f64]) -> BedAnswer {
-    mungkelas::products::bed_file_aat_piece(
-        bytes,
-        n[0],
-        n[1] as usize,
-        n[2] as usize,
-        n[3] as usize,
-        n[4] as usize,
-        n[5] as usize,
-        piece,
-    )
+fn file_aat_piece(n: &[usize; 8], bytes: &[u8], piece: &mut [f64]) -> BedAnswer {
+    mungkelas::products::bed_file_aat_piece(bytes, n[0] as u64, n[1], n[2], n[3], n[4], n[5], piece)
 }
 
 // The root's bits are in the place of the first number.
-fn root_f64(n: &[u64; 8]) -> BedAnswer {
+fn root_f64(n: &[usize; 8]) -> BedAnswer {
     let root = mungkelas::numbers::bed_root_f64(float_of(n[0]));
     BedAnswer {
         number: 0,
@@ -222,8 +191,8 @@ fn unknown() -> BedAnswer {
 
 // What it answers to the calls that make lists, and to those on numbers alone.
 fn list_answer(
-    call: u64,
-    n: &[u64; 8],
+    call: usize,
+    n: &[usize; 8],
     bytes: &[u8],
     index: &[i64],
     list: &mut [i64],
@@ -245,8 +214,8 @@ fn list_answer(
 
 // What it answers to the calls that write bytes.
 fn writing_answer(
-    call: u64,
-    n: &[u64; 8],
+    call: usize,
+    n: &[usize; 8],
     bytes: &[u8],
     out: &mut [u8],
     i8s: &[i8],
@@ -263,8 +232,8 @@ fn writing_answer(
 
 // What the library answers.
 pub fn answer_of(
-    call: u64,
-    n: &[u64; 8],
+    call: usize,
+    n: &[usize; 8],
     bytes: &[u8],
     out: &mut [u8],
     index: &[i64],

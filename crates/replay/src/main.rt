@@ -12,7 +12,7 @@ fn say(text: &[u8]) {
 }
 
 // The names of the calls.
-fn say_last(call: u64) {
+fn say_last(call: usize) {
     match call {
         16 => say(b"index_vec"),
         17 => say(b"index_bool"),
@@ -25,7 +25,7 @@ fn say_last(call: u64) {
     }
 }
 
-fn say_middle(call: u64) {
+fn say_middle(call: usize) {
     match call {
         8 => say(b"encode1_f64"),
         9 => say(b"write_i8"),
@@ -39,7 +39,7 @@ fn say_middle(call: u64) {
     }
 }
 
-fn say_name(call: u64) {
+fn say_name(call: usize) {
     match call {
         1 => say(b"open_and_check"),
         2 => say(b"try_div_4"),
@@ -54,7 +54,7 @@ fn say_name(call: u64) {
 
 // Fills the lent buffers from a line.
 fn fill(
-    words: &[u64; 512],
+    words: &[usize; 512],
     places: &[usize; 16],
     bytes: &mut [u8],
     out: &mut [u8],
@@ -73,8 +73,8 @@ fn fill(
     buffers::f64s_at(words, places[6], stats);
 }
 
-fn same_answer(words: &[u64; 512], at: usize, answer: BedAnswer) -> bool {
-    if answer.number != line::word(words, at) {
+fn same_answer(words: &[usize; 512], at: usize, answer: BedAnswer) -> bool {
+    if answer.number != line::word(words, at) as u64 {
         return false;
     }
     if answer.first != line::signed(line::word(words, line::skip(at, 1))) {
@@ -85,7 +85,7 @@ fn same_answer(words: &[u64; 512], at: usize, answer: BedAnswer) -> bool {
 
 // Whether an answer and the buffers afterwards are a line's.
 fn same(
-    words: &[u64; 512],
+    words: &[usize; 512],
     answer_at: usize,
     answer: BedAnswer,
     places: &[usize; 16],
@@ -105,10 +105,10 @@ fn same(
 
 // Whether the library agrees with a line, in filled buffers.
 fn agrees_filled(
-    call: u64,
-    words: &[u64; 512],
+    call: usize,
+    words: &[usize; 512],
     answer_at: usize,
-    numbers: &[u64; 8],
+    numbers: &[usize; 8],
     places: &[usize; 16],
     bytes: &[u8],
     out: &mut [u8],
@@ -134,10 +134,10 @@ fn agrees_filled(
 
 // Whether the library agrees with a line, in buffers of the line's lengths.
 fn agrees_in(
-    call: u64,
-    words: &[u64; 512],
+    call: usize,
+    words: &[usize; 512],
     answer_at: usize,
-    numbers: &[u64; 8],
+    numbers: &[usize; 8],
     places: &[usize; 16],
     bytes: &mut [u8],
     out: &mut [u8],
@@ -165,8 +165,8 @@ fn agrees_in(
 }
 
 // Whether the library agrees with a line of so many words.
-fn agrees(call: u64, words: &[u64; 512], count: usize) -> bool {
-    let mut numbers = [0u64; 8];
+fn agrees(call: usize, words: &[usize; 512], count: usize) -> bool {
+    let mut numbers = [0usize; 8];
     let mut places = [1024usize; 16];
     let walk = shape::walk_call(call, words, &mut numbers, &mut places);
     if walk.at != count {
@@ -202,86 +202,73 @@ fn agrees(call: u64, words: &[u64; 512], count: usize) -> bool {
     )
 }
 
-fn more(n: u64) -> u64 {
-    if n < 1000000 { n + 1 } else { n }
-}
-
-// The line that is being read, and how many lines were read and how many of them differ.
-struct Run {
-    line: line::Line,
-    lines: u64,
-    differ: u64,
-}
-
-// Counts a line at its call, under the original's answers or document 01's; or says that it differs.
-fn count_line(
-    words: &[u64; 512],
-    count: usize,
-    lines: u64,
-    original: &mut [u64; 23],
-    document: &mut [u64; 23],
-) -> bool {
-    let whose = line::word(words, 0);
-    let call = line::word(words, 1);
-    let is_same = whose < 2 && agrees(call, words, count);
-    let place = call as usize;
-    if is_same {
-        if place < 23 {
-            if whose == 0 {
-                original[place] = more(original[place]);
-            } else {
-                document[place] = more(document[place]);
-            }
-            return true;
+// Counts one more at a place. The places of counts: a call's for the original's answers, 24 further on for document 01's; 0 for the lines that
+// differ, 24 for all lines.
+fn count(counts: &mut [u64; 48], place: usize) {
+    if place < 48 {
+        let n = counts[place];
+        if n < 1000000 {
+            counts[place] = n + 1;
         }
     }
+}
+
+fn place_of(whose: usize, call: usize) -> usize {
+    if whose == 0 {
+        call % 24
+    } else {
+        24 + call % 24
+    }
+}
+
+fn say_differs(call: usize, lines: u64) {
     say(b"line ");
     io::print_decimal(1, lines);
     say(b", ");
     say_name(call);
     say(b": DIFFERS\n");
-    false
+}
+
+// Counts a line of so many words, or says that it differs.
+fn count_line(words: &[usize; 512], length: usize, counts: &mut [u64; 48]) {
+    let whose = line::word(words, 0);
+    let call = line::word(words, 1);
+    if whose < 2 && agrees(call, words, length) {
+        count(counts, place_of(whose, call));
+    } else {
+        count(counts, 0);
+        say_differs(call, counts[24]);
+    }
 }
 
 // Reads one byte of the list.
 fn step(
-    run: Run,
+    line: line::Line,
     byte: u8,
-    words: &mut [u64; 512],
-    original: &mut [u64; 23],
-    document: &mut [u64; 23],
-) -> Run {
-    let before = run.line;
-    let line = line::step(before, byte, words);
-    let mut lines = run.lines;
-    let mut differ = run.differ;
+    words: &mut [usize; 512],
+    counts: &mut [u64; 48],
+) -> line::Line {
+    let out = line::step(line, byte, words);
     if byte == b'\n' {
-        lines = more(lines);
+        count(counts, 24);
     }
-    if line.ended {
-        let count = if line.is_bad { 0 } else { line.words };
-        if !count_line(words, count, lines, original, document) {
-            differ = more(differ);
-        }
+    if out.ended {
+        let length = if out.is_bad { 0 } else { out.words };
+        count_line(words, length, counts);
     }
-    Run {
-        line,
-        lines,
-        differ,
-    }
+    out
 }
 
 fn read_part(
-    run: Run,
+    line: line::Line,
     bytes: &[u8],
-    words: &mut [u64; 512],
-    original: &mut [u64; 23],
-    document: &mut [u64; 23],
-) -> Run {
-    let mut out = run;
+    words: &mut [usize; 512],
+    counts: &mut [u64; 48],
+) -> line::Line {
+    let mut out = line;
     let mut i = 0;
     while i < bytes.len() {
-        out = step(out, bytes[i], words, original, document);
+        out = step(out, bytes[i], words, counts);
         i += 1;
     }
     out
@@ -289,61 +276,49 @@ fn read_part(
 
 // Reads some of the list.
 fn read_some(
-    run: Run,
+    line: line::Line,
     fd: i32,
-    words: &mut [u64; 512],
-    original: &mut [u64; 23],
-    document: &mut [u64; 23],
-) -> Run {
+    words: &mut [usize; 512],
+    counts: &mut [u64; 48],
+) -> line::Line {
     let mut buf = io::buffer();
     let n = io::read_full(fd, &mut buf);
-    read_part(run, &buf[..n], words, original, document)
+    read_part(line, &buf[..n], words, counts)
 }
 
-fn read_list(
-    fd: i32,
-    words: &mut [u64; 512],
-    original: &mut [u64; 23],
-    document: &mut [u64; 23],
-) -> u64 {
-    let mut run = Run {
-        line: line::start(),
-        lines: 0,
-        differ: 0,
-    };
+fn read_list(fd: i32, counts: &mut [u64; 48]) {
+    let mut words = [0usize; 512];
+    let mut line = line::start();
     let mut turns = 1000u64;
     while turns > 0 {
-        run = read_some(run, fd, words, original, document);
+        line = read_some(line, fd, &mut words, counts);
         turns -= 1;
     }
-    run.differ
 }
 
-fn say_counts(original: &[u64; 23], document: &[u64; 23]) {
+fn say_counts(counts: &[u64; 48]) {
     let mut call = 1usize;
     while call < 23 {
-        say_name(call as u64);
+        say_name(call);
         say(b": ");
-        io::print_decimal(1, original[call]);
+        io::print_decimal(1, counts[call]);
         say(b" of the original's answers, ");
-        io::print_decimal(1, document[call]);
+        io::print_decimal(1, counts[24 + call]);
         say(b" of document 01's\n");
         call += 1;
     }
+    io::print_decimal(1, counts[0]);
+    say(b" differ\n");
 }
 
 fn main() {
     let fd = os::open_read(b"answers.txt");
     if fd < 0 {
-        say(b"answers.txt cannot be opened\n");
+        say(b"no list\n");
         return;
     }
-    let mut words = [0u64; 512];
-    let mut original = [0u64; 23];
-    let mut document = [0u64; 23];
-    let differ = read_list(fd, &mut words, &mut original, &mut document);
+    let mut counts = [0u64; 48];
+    read_list(fd, &mut counts);
     libc::close(fd);
-    say_counts(&original, &document);
-    io::print_decimal(1, differ);
-    say(b" differ\n");
+    say_counts(&counts);
 }

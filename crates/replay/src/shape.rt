@@ -5,7 +5,7 @@ use crate::line::after;
 use crate::line::skip;
 use crate::line::word;
 
-fn shape(call: u64) -> [u8; 12] {
+fn shape(call: usize) -> [u8; 12] {
     match call {
         1 => *b"b=          ",
         2 => *b"nn=         ",
@@ -60,8 +60,8 @@ fn kind(letter: u8) -> usize
 fn step(
     walk: Walk,
     letter: u8,
-    words: &[u64; 512],
-    numbers: &mut [u64; 8],
+    words: &[usize; 512],
+    numbers: &mut [usize; 8],
     places: &mut [usize; 16],
 ) -> Walk {
     if letter == b' ' {
@@ -99,9 +99,9 @@ fn step(
 
 // Walks along a call's line.
 pub fn walk_call(
-    call: u64,
-    words: &[u64; 512],
-    numbers: &mut [u64; 8],
+    call: usize,
+    words: &[usize; 512],
+    numbers: &mut [usize; 8],
     places: &mut [usize; 16],
 ) -> Walk {
     let letters = shape(call);

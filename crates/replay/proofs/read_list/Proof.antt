@@ -5,10 +5,10 @@ use Rattle.replay.proofs.read_list.Statement.{statement}
 use Rattle.replay.proofs.read_list.Tie as tie
 
 abbrev Inv-loop : tie.InvT-loop
-Inv-loop fd words₀ original₀ document₀ run₀ turns₀ words original document run turns = turns ≤ 1000
+Inv-loop fd counts₀ words₀ line₀ turns₀ counts words line turns = turns ≤ 1000
 
 abbrev μ-loop : tie.MeasureT-loop
-μ-loop fd words₀ original₀ document₀ run₀ turns₀ words original document run turns = turns
+μ-loop fd counts₀ words₀ line₀ turns₀ counts words line turns = turns
 
 start-requires : tie.Need-start-requires Inv-loop μ-loop
 start-requires c κs = search needs

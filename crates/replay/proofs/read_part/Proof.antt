@@ -6,10 +6,10 @@ use Rattle.replay.proofs.read_part.Statement.{statement}
 use Rattle.replay.proofs.read_part.Tie as tie
 
 abbrev Inv-loop : tie.InvT-loop
-Inv-loop bytes words₀ original₀ document₀ out₀ i₀ words original document out i = i ≤ length bytes
+Inv-loop bytes words₀ counts₀ out₀ i₀ words counts out i = i ≤ length bytes
 
 abbrev μ-loop : tie.MeasureT-loop
-μ-loop bytes words₀ original₀ document₀ out₀ i₀ words original document out i = length bytes - i
+μ-loop bytes words₀ counts₀ out₀ i₀ words counts out i = length bytes - i
 
 loop-holds : tie.Need-loop-holds Inv-loop μ-loop
 loop-holds c = search needs

@@ -5,10 +5,10 @@ use Rattle.replay.proofs.say_counts.Statement.{statement}
 use Rattle.replay.proofs.say_counts.Tie as tie
 
 abbrev Inv-loop : tie.InvT-loop
-Inv-loop original document call₀ t4 t5 t6 call = call ≤ 23
+Inv-loop counts call₀ t3 t4 t5 t6 call = call ≤ 23
 
 abbrev μ-loop : tie.MeasureT-loop
-μ-loop original document call₀ t4 t5 t6 call = 23 - call
+μ-loop counts call₀ t3 t4 t5 t6 call = 23 - call
 
 loop-holds : tie.Need-loop-holds Inv-loop μ-loop
 loop-holds c = search needs
@@ -37,6 +37,9 @@ slice-aggregate-say-2 c = search needs
 say-requires-2 : tie.Need-say-requires-2 Inv-loop μ-loop
 say-requires-2 c κs = search needs
 
+add-print-decimal : tie.Need-add-print-decimal Inv-loop μ-loop
+add-print-decimal c = search needs
+
 mul-print-decimal-2 : tie.Need-mul-print-decimal-2 Inv-loop μ-loop
 mul-print-decimal-2 c = search needs
 
@@ -61,6 +64,18 @@ loop-less c = search needs
 loop-again : tie.Need-loop-again Inv-loop μ-loop
 loop-again c = search needs
 
+element-copy-out-print-decimal-3 : tie.Need-element-copy-out-print-decimal-3 Inv-loop μ-loop
+element-copy-out-print-decimal-3 c = search needs
+
+print-decimal-requires-3 : tie.Need-print-decimal-requires-3 Inv-loop μ-loop
+print-decimal-requires-3 c κs = search needs
+
+slice-aggregate-say-4 : tie.Need-slice-aggregate-say-4 Inv-loop μ-loop
+slice-aggregate-say-4 c = search needs
+
+say-requires-4 : tie.Need-say-requires-4 Inv-loop μ-loop
+say-requires-4 c κs = search needs
+
 returns : tie.Need-returns Inv-loop μ-loop
 returns c = search needs
 
@@ -79,6 +94,7 @@ say-counts-spec =
     print-decimal-requires
     slice-aggregate-say-2
     say-requires-2
+    add-print-decimal
     mul-print-decimal-2
     element-copy-out-print-decimal-2
     print-decimal-requires-2
@@ -87,4 +103,8 @@ say-counts-spec =
     add-call
     loop-less
     loop-again
+    element-copy-out-print-decimal-3
+    print-decimal-requires-3
+    slice-aggregate-say-4
+    say-requires-4
     returns)
