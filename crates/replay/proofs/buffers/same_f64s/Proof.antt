@@ -1,0 +1,75 @@
+-- The places stay inside.
+use Prim.Native.Nat.{_≤_, _-_}
+use lib.ListN.{length}
+use borrow.Author.Needs.{needs}
+use Rattle.replay.proofs.buffers.same_f64s.Statement.{statement}
+use Rattle.replay.proofs.buffers.same_f64s.Tie as tie
+
+abbrev Inv-loop : tie.InvT-loop
+Inv-loop words at got i₀ i = i ≤ length got
+
+abbrev μ-loop : tie.MeasureT-loop
+μ-loop words at got i₀ i = length got - i
+
+length-requires : tie.Need-length-requires Inv-loop μ-loop
+length-requires c κs = search needs
+
+returns : tie.Need-returns Inv-loop μ-loop
+returns c = search needs
+
+loop-holds : tie.Need-loop-holds Inv-loop μ-loop
+loop-holds c = search needs
+
+element-requires : tie.Need-element-requires Inv-loop μ-loop
+element-requires c κs = search needs
+
+float-of-requires : tie.Need-float-of-requires Inv-loop μ-loop
+float-of-requires c κs = search needs
+
+mul-bits-of : tie.Need-mul-bits-of Inv-loop μ-loop
+mul-bits-of c = search needs
+
+shared-slice-read-bits-of : tie.Need-shared-slice-read-bits-of Inv-loop μ-loop
+shared-slice-read-bits-of c = search needs
+
+bits-of-requires : tie.Need-bits-of-requires Inv-loop μ-loop
+bits-of-requires c κs = search needs
+
+bits-of-requires-2 : tie.Need-bits-of-requires-2 Inv-loop μ-loop
+bits-of-requires-2 c κs = search needs
+
+returns-2 : tie.Need-returns-2 Inv-loop μ-loop
+returns-2 c = search needs
+
+add-i : tie.Need-add-i Inv-loop μ-loop
+add-i c = search needs
+
+loop-less : tie.Need-loop-less Inv-loop μ-loop
+loop-less c = search needs
+
+loop-again : tie.Need-loop-again Inv-loop μ-loop
+loop-again c = search needs
+
+returns-3 : tie.Need-returns-3 Inv-loop μ-loop
+returns-3 c = search needs
+
+pub same-f64s-spec : {M : Type 1} → statement M
+same-f64s-spec =
+    tie.close
+    (tie.spec
+    Inv-loop
+    μ-loop
+    length-requires
+    returns
+    loop-holds
+    element-requires
+    float-of-requires
+    mul-bits-of
+    shared-slice-read-bits-of
+    bits-of-requires
+    bits-of-requires-2
+    returns-2
+    add-i
+    loop-less
+    loop-again
+    returns-3)
