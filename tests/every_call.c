@@ -439,6 +439,21 @@ static void same_list(bed_answer got, uint64_t number) {
     if (memcmp(list, later, sizeof list)) fail("the list");
 }
 
+/* A range's bounds, what they mean, and the number of its refusal. */
+struct bounds {
+    size_t count, start, stop, from, to;
+    bool has_start, has_stop;
+    uint64_t number;
+};
+
+static struct bounds draw_bounds(void) {
+    struct bounds b = {.count = draw_count(), .has_start = draw(3), .has_stop = draw(3)};
+    b.start = draw(30) ? draw(12) : TOO_LARGE - draw(2), b.stop = draw(30) ? draw(20) : TOO_LARGE - draw(2);
+    b.from = b.has_start ? b.start : 0, b.to = b.has_stop ? b.stop : b.count;
+    b.number = b.count >= TOO_LARGE || b.from >= TOO_LARGE || b.to >= TOO_LARGE ? 18 : b.from > b.to ? 12 : 0;
+    return b;
+}
+
 static void lists(void) {
     begin("bed_index_all");
     for (int i = 0; i < 2000; i++) {
@@ -483,23 +498,18 @@ static void lists(void) {
 
     begin("bed_index_range");
     for (int i = 0; i < 4000; i++) {
-        size_t count = draw_count(), start = draw(30) ? draw(12) : TOO_LARGE - draw(2), stop = draw(30) ? draw(20) : TOO_LARGE - draw(2);
-        bool has_start = draw(3), has_stop = draw(3);
-        size_t from = has_start ? start : 0, to = has_stop ? stop : count;
-        uint64_t number = count >= TOO_LARGE || from >= TOO_LARGE || to >= TOO_LARGE ? 18 : from > to ? 12 : 0;
+        struct bounds b = draw_bounds();
         fresh();
-        for (size_t k = from; k < to && wanted_len < 60; k++) want_entry((int64_t)k);
-        same_list(bed_index_range(count, has_start, start, has_stop, stop, list, room), number);
+        for (size_t k = b.from; k < b.to && wanted_len < 60; k++) want_entry((int64_t)k);
+        same_list(bed_index_range(b.count, b.has_start, b.start, b.has_stop, b.stop, list, room), b.number);
     }
     end();
 
     begin("bed_to_range");
     for (int i = 0; i < 4000; i++) {
-        size_t count = draw_count(), start = draw(30) ? draw(12) : TOO_LARGE - draw(2), stop = draw(30) ? draw(20) : TOO_LARGE - draw(2);
-        bool has_start = draw(3), has_stop = draw(3);
-        size_t from = has_start ? start : 0, to = has_stop ? stop : count;
-        uint64_t number = count >= TOO_LARGE || from >= TOO_LARGE || to >= TOO_LARGE ? 18 : from > to ? 12 : 0;
-        same(bed_to_range(count, has_start, start, has_stop, stop), number ? answer(number, 0, 0) : answer(0, (int64_t)from, (int64_t)to));
+        struct bounds b = draw_bounds();
+        same(bed_to_range(b.count, b.has_start, b.start, b.has_stop, b.stop),
+             b.number ? answer(b.number, 0, 0) : answer(0, (int64_t)b.from, (int64_t)b.to));
     }
     end();
 
