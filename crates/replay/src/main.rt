@@ -11,7 +11,7 @@ fn say(text: &[u8]) {
     io::write_all(1, text);
 }
 
-// The names of the calls.
+// The names of the calls, in three parts as well.
 fn say_last(call: usize) {
     match call {
         16 => say(b"index_vec"),

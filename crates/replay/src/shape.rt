@@ -5,6 +5,34 @@ use crate::line::after;
 use crate::line::skip;
 use crate::line::word;
 
+// In three parts, which are proved sooner than one.
+fn last_shape(call: usize) -> [u8; 12] {
+    match call {
+        16 => *b"nil=l       ",
+        17 => *b"nbl=l       ",
+        18 => *b"ntntnl=l    ",
+        19 => *b"nntnnl=l    ",
+        20 => *b"bnnnnnnd=d  ",
+        21 => *b"bnnnnnnd=d  ",
+        22 => *b"n=          ",
+        _ => *b"            ",
+    }
+}
+
+fn middle_shape(call: usize) -> [u8; 12] {
+    match call {
+        8 => *b"dotn=o      ",
+        9 => *b"vnnttno=o   ",
+        10 => *b"dnnttno=o   ",
+        11 => *b"bnno=o      ",
+        12 => *b"dnnttts=ds  ",
+        13 => *b"bnntiltds=ds",
+        14 => *b"nl=l        ",
+        15 => *b"nnl=l       ",
+        _ => last_shape(call),
+    }
+}
+
 fn shape(call: usize) -> [u8; 12] {
     match call {
         1 => *b"b=          ",
@@ -14,22 +42,7 @@ fn shape(call: usize) -> [u8; 12] {
         5 => *b"bnntilntv=v ",
         6 => *b"bnntilntd=d ",
         7 => *b"votn=o      ",
-        8 => *b"dotn=o      ",
-        9 => *b"vnnttno=o   ",
-        10 => *b"dnnttno=o   ",
-        11 => *b"bnno=o      ",
-        12 => *b"dnnttts=ds  ",
-        13 => *b"bnntiltds=ds",
-        14 => *b"nl=l        ",
-        15 => *b"nnl=l       ",
-        16 => *b"nil=l       ",
-        17 => *b"nbl=l       ",
-        18 => *b"ntntnl=l    ",
-        19 => *b"nntnnl=l    ",
-        20 => *b"bnnnnnnd=d  ",
-        21 => *b"bnnnnnnd=d  ",
-        22 => *b"n=          ",
-        _ => *b"            ",
+        _ => middle_shape(call),
     }
 }
 
