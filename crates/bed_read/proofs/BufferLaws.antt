@@ -15,7 +15,7 @@ use Rattle.genotype.specs.Matrix.{matrix}
 use Rattle.genotype.specs.Value.{Width, values, valueOf}
 use Rattle.genotype.proofs.AnswerLaws.{new-if-done, old-if-not}
 use Rattle.genotype.proofs.Tabulate.{tabulate-ext, map-tabulate}
-use Rattle.bed_read.specs.File.{isMode1, items, blocks}
+use Rattle.bed_file.specs.File.{isMode1, items, blocks}
 use Rattle.bed_read.specs.Reading.{readCode, readAnswer, codesRead, valuesRead, readBuffer}
 use Rattle.bed_read.specs.Inner.{Shaped}
 use Rattle.bed_read.proofs.CallLaws.{call-below}

@@ -11,7 +11,7 @@ use lib.Seq.{getD-take, getD-drop}
 use Rattle.genotype.specs.Block.{blockWidth, fileLength}
 use Rattle.genotype.specs.Code.{codeAt, itemCode, codeTable}
 use Rattle.genotype.proofs.CodeLaws.{table-at, item-below, width-room}
-use Rattle.bed_read.specs.File.{isMode1, items, blocks}
+use Rattle.bed_file.specs.File.{isMode1, items, blocks}
 use Rattle.bed_read.specs.Calls.{block, codeIn, callCode}
 use Rattle.bed_read.specs.Inner.{Shaped}
 

@@ -17,7 +17,7 @@ use Rattle.genotype.proofs.CodeLaws.{width-room}
 use Rattle.genotype.proofs.EntryLaws.{means-below}
 use Rattle.genotype.proofs.SpanLaws.{all-good}
 use Rattle.genotype.proofs.Tabulate.{tabulate-ext, map-tabulate}
-use Rattle.bed_read.specs.File.{isMode1, items, blocks}
+use Rattle.bed_file.specs.File.{isMode1, items, blocks}
 use Rattle.bed_read.specs.Calls.{block, codeIn, callCode}
 use Rattle.bed_read.specs.Reading.{readCode, codesRead}
 use Rattle.bed_read.specs.Inner.{Shaped, Listed, ofFour, heldValue}

@@ -1,4 +1,3 @@
-pub mod FileLaws
 pub mod CallLaws
 pub mod ReadLaws
 pub mod ColumnLaws

@@ -18,7 +18,7 @@ use Rattle.genotype.specs.Lists.{tabulate}
 use Rattle.genotype.proofs.SpanLaws.{all-good, none-bad, still-means}
 use Rattle.genotype.proofs.Tabulate.{is-tabulate}
 use Rattle.genotype.specs.Block.{blockWidth}
-use Rattle.bed_read.specs.File.{isMode1, items}
+use Rattle.bed_file.specs.File.{isMode1, items}
 use Rattle.bed_read.specs.Calls.{callCode}
 use Rattle.bed_read.specs.Reading.{readCode}
 use Rattle.bed_read.specs.Inner.{lineValue}

@@ -17,9 +17,9 @@ use Rattle.genotype.specs.Answer.{Answer, done, refused, check, checkCount, che
 use Rattle.genotype.specs.Entry.{firstBad}
 use Rattle.genotype.proofs.AnswerLaws.{check-passes, check-refuses, count-passes, count-refuses, entry-passes, entry-refuses, check-done, count-done, entry-done, Stage, heard, stays, before-later}
 use Rattle.genotype.specs.Block.{fileLength}
-use Rattle.bed_read.specs.File.{isMode1, items, blocks, checkFile, acceptAnswer}
+use Rattle.bed_file.specs.File.{isMode1, items, blocks, checkFile, acceptAnswer}
 use Rattle.bed_read.specs.Reading.{checkLists, readAnswer}
-use Rattle.bed_read.proofs.FileLaws.{Accepted, accepted, accept-file, file-stage, file-long, file-mode, file-length}
+use Rattle.bed_file.proofs.FileLaws.{Accepted, accepted, accept-file, file-stage, file-long, file-mode, file-length}
 
 -- ---- 5 and 6, by the first bad entries
 module _ (items blocks : ℕ) (within outside : List ℤ) where

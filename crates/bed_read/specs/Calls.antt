@@ -5,7 +5,7 @@ use Prim.Native.Nat.{ℕ, _+_, _*_}
 use lib.ListN.{take, drop}
 use Rattle.genotype.specs.Block.{blockWidth}
 use Rattle.genotype.specs.Code.{itemCode}
-use Rattle.bed_read.specs.File.{isMode1}
+use Rattle.bed_file.specs.File.{isMode1}
 
 -- "Its blocks stand in order from byte 3.": block b, of blocks for a number of items
 unfoldable pub block : List ℕ → ℕ → ℕ → List ℕ

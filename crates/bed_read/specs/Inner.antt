@@ -10,7 +10,7 @@ use Rattle.genotype.specs.Block.{blockWidth, fileLength}
 use Rattle.genotype.specs.Code.{codeTable, itemCode}
 use Rattle.genotype.specs.Entry.{firstBad, means}
 use Rattle.bed_read.specs.Calls.{block}
-use Rattle.bed_read.specs.File.{isMode1, items, blocks}
+use Rattle.bed_file.specs.File.{isMode1, items, blocks}
 use Rattle.bed_read.specs.Reading.{readCode}
 
 -- the mode, the width and the counts are those of an accepted file

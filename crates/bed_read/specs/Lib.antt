@@ -1,5 +1,4 @@
--- What reading says: the file's own checks, the lists' checks, the calls, and the matrix that is read.
-pub mod File
+-- What reading says: the lists' checks, the calls, and the matrix that is read.
 pub mod Calls
 pub mod Reading
 pub mod Says

@@ -9,7 +9,7 @@ use Rattle.genotype.specs.Answer.{Answer, done, check, checkCount, checkEntry, 
 use Rattle.genotype.specs.Entry.{firstBad, means}
 use Rattle.genotype.specs.Value.{Width, valueOf}
 use Rattle.genotype.specs.Matrix.{matrix}
-use Rattle.bed_read.specs.File.{isMode1, checkFile}
+use Rattle.bed_file.specs.File.{isMode1, checkFile}
 use Rattle.bed_read.specs.Calls.{callCode}
 
 -- 5: "first bad entry of the within-block list; carries it"; 6: "first bad entry of the block list; carries it". In mode 1 the animal list

@@ -11,7 +11,7 @@ ghost use Rattle.genotype.specs.Answer.{done, isDone};
 ghost use Rattle.genotype.specs.Code.{codeTable};
 ghost use Rattle.genotype.specs.Block.{blockWidth, fileLength};
 ghost use Rattle.genotype.specs.Entry.{firstBad, means};
-ghost use Rattle.bed_read.specs.File.{isMode1, items};
+ghost use Rattle.bed_file.specs.File.{isMode1, items};
 ghost use Rattle.bed_read.specs.Calls.{callCode};
 ghost use Rattle.bed_read.specs.Reading.{checkLists, readAnswer};
 ghost use Rattle.bed_read.specs.Inner.{Shaped};
@@ -20,7 +20,7 @@ ghost use Rattle.bed_read.specs.Says.{readSays};
 pub mod read_f64;
 pub mod read_i8;
 
-use crate::file::AcceptAnswer;
+use bed_file::AcceptAnswer;
 use genotype::entries::FirstBad;
 use genotype::entries::IidIndex;
 use genotype::entries::SidIndex;
@@ -91,7 +91,7 @@ fn check_read(
         return ReadAnswer::CountTooLarge;
     }
     if genotype::blocks::product_is(iid_index.len(), sid_index.len(), val_len) {
-        match crate::file::accept(file, iid_count, sid_count) {
+        match bed_file::accept(file, iid_count, sid_count) {
             AcceptAnswer::Accepted => check_lists(
                 file[2] == 1,
                 iid_count,

@@ -22,10 +22,10 @@ use Rattle.genotype.proofs.MatrixLaws.{length-matrix, getD-matrix, place-below}
 use Rattle.genotype.proofs.SpanLaws.{none-bad}
 use Rattle.genotype.proofs.Tabulate.{length-tabulate, getD-tabulate}
 use Rattle.genotype.proofs.Tests.{by-lt}
-use Rattle.bed_read.specs.File.{isMode1, items, blocks, checkMode, checkLength, checkFile, acceptAnswer}
+use Rattle.bed_file.specs.File.{isMode1, items, blocks, checkMode, checkLength, checkFile, acceptAnswer}
 use Rattle.bed_read.specs.Calls.{codeIn, callCode}
 use Rattle.bed_read.specs.Reading.{checkLists, readAnswer, readCode, codesRead, valuesRead, readBuffer}
-use Rattle.bed_read.proofs.FileLaws.{Accepted, accepted, open-good}
+use Rattle.bed_file.proofs.FileLaws.{Accepted, accepted, open-good}
 use Rattle.bed_read.proofs.CallLaws.{code-in-byte}
 use Rattle.bed_write.specs.Writing.{bedFile}
 use Rattle.canonical.specs.Canonical.{fileOrder}

@@ -15,10 +15,10 @@ use Rattle.genotype.specs.Code.{packedByte}
 use Rattle.genotype.specs.Lists.{tabulate}
 use Rattle.genotype.proofs.AnswerLaws.{Stage, check-stage, count-stage, then-stage, heard, stays, check-passes, check-refuses, check-done, count-done, count-passes, new-if-done, old-if-not, before-later}
 use Rattle.genotype.proofs.Widths.{Sized, width-given}
-use Rattle.bed_read.specs.File.{isMode1, items, blocks, checkFile, acceptAnswer}
+use Rattle.bed_file.specs.File.{isMode1, items, blocks, checkFile, acceptAnswer}
 use Rattle.bed_read.specs.Calls.{callCode}
 use Rattle.bed_read.specs.Inner.{Shaped}
-use Rattle.bed_read.proofs.FileLaws.{Accepted, accepted, file-stage}
+use Rattle.bed_file.proofs.FileLaws.{Accepted, accepted, file-stage}
 use Rattle.bed_read.proofs.CallLaws.{call-below}
 use Rattle.bed_write.specs.Packing.{orZero}
 use Rattle.canonical.specs.Canonical.{canonicalAnswer, canonicalFile, canonicalBuffer}

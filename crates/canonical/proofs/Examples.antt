@@ -16,10 +16,10 @@ use Rattle.genotype.specs.Matrix.{matrixPlace}
 use Rattle.genotype.specs.Value.{i8, codeOf, sameInt, sameOrNan}
 use Rattle.genotype.proofs.AnswerLaws.{count-passes, check-passes, check-refuses}
 use Rattle.genotype.proofs.ValueLaws.{i8-numbers, NoNumber}
-use Rattle.bed_read.specs.File.{isMode1, items, blocks, checkFile, checkMode, checkLength, acceptAnswer}
+use Rattle.bed_file.specs.File.{isMode1, items, blocks, checkFile, checkMode, checkLength, acceptAnswer}
 use Rattle.bed_read.specs.Calls.{block, codeIn, callCode}
 use Rattle.bed_read.specs.Reading.{readBuffer}
-use Rattle.bed_read.proofs.FileLaws.{open-good}
+use Rattle.bed_file.proofs.FileLaws.{open-good}
 use Rattle.bed_write.specs.Packing.{placeCode, orZero, packedCodes, firstOf, ifBad}
 use Rattle.bed_write.specs.Writing.{joined, bedFile, valueCode, firstBadCall, checkCall, checkBuffers, writeAnswer, writeBuffer}
 use Rattle.canonical.specs.Canonical.{canonicalAnswer, canonicalFile, fileOrder}

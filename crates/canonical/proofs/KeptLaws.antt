@@ -9,7 +9,7 @@ use lib.ListN.{length, getD, List·getD-eq-default}
 use Rattle.genotype.specs.Code.{codeAt, packedByte}
 use Rattle.genotype.specs.Lists.{tabulate}
 use Rattle.genotype.proofs.Tabulate.{length-tabulate, getD-tabulate}
-use Rattle.bed_read.specs.File.{items, blocks}
+use Rattle.bed_file.specs.File.{items, blocks}
 use Rattle.bed_read.specs.Calls.{codeIn, callCode}
 use Rattle.bed_read.specs.Inner.{Shaped}
 use Rattle.bed_read.proofs.CallLaws.{byte-inside, code-in-byte}

@@ -15,11 +15,11 @@ use Rattle.genotype.specs.Matrix.{matrixPlace}
 use Rattle.genotype.specs.Value.{Width, float, valueOf, codeOf, sameOrNan}
 use Rattle.genotype.proofs.AnswerLaws.{check-passes, count-passes, new-if-done, heard, before-later}
 use Rattle.genotype.proofs.ValueLaws.{decode-encode, encode-decode, Numbers, float-numbers, NoNumber}
-use Rattle.bed_read.specs.File.{acceptAnswer}
+use Rattle.bed_file.specs.File.{acceptAnswer}
 use Rattle.bed_read.specs.Calls.{callCode}
 use Rattle.bed_read.specs.Reading.{readAnswer, readBuffer}
 use Rattle.bed_read.proofs.CallLaws.{call-below}
-use Rattle.bed_read.proofs.FileLaws.{accepted}
+use Rattle.bed_file.proofs.FileLaws.{accepted}
 use Rattle.bed_write.specs.Packing.{placeCode, orZero, firstOf, ifBad}
 use Rattle.bed_write.specs.Writing.{valueCode, firstBadCall, checkCall, checkBuffers, writeAnswer, bedFile, writeBuffer}
 use Rattle.canonical.specs.Canonical.{canonicalAnswer, canonicalFile, canonicalBuffer, fileOrder}

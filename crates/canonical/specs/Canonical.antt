@@ -7,7 +7,7 @@ use lib.ListN.{length}
 use Rattle.genotype.specs.Answer.{Answer, done, check, checkCount, ifDone}
 use Rattle.genotype.specs.Block.{fileLength, checkSize}
 use Rattle.genotype.specs.Lists.{tabulate}
-use Rattle.bed_read.specs.File.{checkFile}
+use Rattle.bed_file.specs.File.{checkFile}
 use Rattle.bed_read.specs.Calls.{callCode}
 use Rattle.bed_write.specs.Writing.{bedFile}
 

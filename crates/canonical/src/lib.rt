@@ -7,14 +7,14 @@ ghost use Rattle.genotype.specs.Answer.{isDone};
 ghost use Rattle.genotype.specs.Block.{blockWidth};
 ghost use Rattle.genotype.specs.Code.{codeTable, packedByte};
 ghost use Rattle.genotype.specs.Lists.{tabulate};
-ghost use Rattle.bed_read.specs.File.{items};
+ghost use Rattle.bed_file.specs.File.{items};
 ghost use Rattle.bed_read.specs.Calls.{callCode};
 ghost use Rattle.bed_read.specs.Inner.{Shaped};
 ghost use Rattle.canonical.specs.Canonical.{canonicalAnswer, canonicalFile, canonicalBuffer};
 ghost use Rattle.bed_write.specs.Inner.{inGroup};
 ghost use Rattle.canonical.specs.Inner.{writtenAnswer};
 ghost use Rattle.canonical.specs.Says.{canonicalSays};
-use bed_read::file::AcceptAnswer;
+use bed_file::AcceptAnswer;
 use genotype::blocks::DivAnswer;
 use genotype::entries::IidIndex;
 use genotype::entries::SidIndex;
@@ -65,7 +65,7 @@ fn check_canonical(
 ) -> CanonicalAnswer
     ensures { λ r. ⌜ canonicalSays r ≡ canonicalAnswer (now (file .entry)) «iid_count» «sid_count» «out_len» ⌝ }
 {
-    match bed_read::file::accept(file, iid_count, sid_count) {
+    match bed_file::accept(file, iid_count, sid_count) {
         AcceptAnswer::Accepted => check_written(iid_count, sid_count, out_len),
         AcceptAnswer::CountTooLarge => CanonicalAnswer::CountTooLarge,
         AcceptAnswer::ReadError => CanonicalAnswer::ReadError,

@@ -24,7 +24,7 @@ use Rattle.index.specs.declared.SliceEnd.the-variants as SliceEnd
 use Rattle.index.specs.declared.Index.the-variants as Index
 use Rattle.index.specs.Numbers.{boundOr, indexList}
 use Rattle.index.specs.Checks.{checkBound, checkRange, checkEnd, checkSlice, checkIndex, listAnswer, indexAnswer, rangeAnswer}
-use Rattle.bed_read.specs.File.{isMode1, items, blocks, checkOpen, checkMode, checkLength, checkFile}
+use Rattle.bed_file.specs.File.{isMode1, items, blocks, checkOpen, checkMode, checkLength, checkFile}
 use Rattle.bed_read.specs.Reading.{checkLists}
 use Rattle.bed_write.specs.Packing.{firstOf, orElse, ifBad, firstBadAnimal, checkAnimal, encodeAnswer}
 use Rattle.bed_write.specs.Writing.{firstBadCall, checkCall, checkBuffers, writeAnswer}

@@ -4,7 +4,8 @@ ghost use Prim.Native.Nat.{_^_, _<_};
 ghost use lib.IntN.{ℤ, pos};
 ghost use Rattle.genotype.specs.Says.{divSays, spanSays};
 ghost use Rattle.index.specs.Says.{listSays, rangeSays};
-ghost use Rattle.bed_read.specs.Says.{openSays, readSays};
+ghost use Rattle.bed_file.specs.Says.{openSays};
+ghost use Rattle.bed_read.specs.Says.{readSays};
 ghost use Rattle.bed_write.specs.Says.{encodeSays, writeSays};
 ghost use Rattle.canonical.specs.Says.{canonicalSays};
 ghost use Rattle.standardise.specs.Standardised.{standardiseSays};
@@ -19,7 +20,7 @@ pub mod products;
 pub mod reading;
 pub mod writing;
 
-use bed_read::file::OpenAnswer;
+use bed_file::OpenAnswer;
 use bed_read::reading::ReadAnswer;
 use bed_write::encode::EncodeAnswer;
 use bed_write::write::WriteAnswer;

@@ -2,7 +2,7 @@
 ghost use mathlib.Core.Path.{_≡_};
 ghost use lib.Ieee.{binary64};
 ghost use lib.ListN.{length};
-ghost use Rattle.bed_read.specs.File.{openAnswer};
+ghost use Rattle.bed_file.specs.File.{openAnswer};
 ghost use Rattle.canonical.specs.Canonical.{canonicalAnswer, canonicalBuffer};
 ghost use Rattle.read_standardised.specs.Joined.{joinedAnswer, joinedValues, joinedStats};
 ghost use Rattle.mungkelas.specs.Interface.{bedAnswer};
@@ -16,7 +16,7 @@ use super::BedAnswer;
 pub extern "C" fn bed_open_and_check(file: &[u8]) -> BedAnswer
     ensures { λ r. ⌜ r ≡ bedAnswer (openAnswer (now (file .entry))) ⌝ }
 {
-    let answer = bed_read::file::open_and_check(file);
+    let answer = bed_file::open_and_check(file);
     super::of_open(answer)
 }
 

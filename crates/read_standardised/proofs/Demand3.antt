@@ -10,7 +10,7 @@ use lib.ListN.{length}
 use lib.Ieee.{Float, binary64, prec}
 use Rattle.genotype.specs.Answer.{done, isDone}
 use Rattle.genotype.specs.Block.{fileLength}
-use Rattle.bed_read.specs.File.{acceptAnswer}
+use Rattle.bed_file.specs.File.{acceptAnswer}
 use Rattle.bed_read.specs.Reading.{readAnswer}
 use Rattle.canonical.specs.Canonical.{fileOrder, canonicalAnswer, canonicalBuffer}
 use Rattle.statistics.specs.Calls.{FewEnough}

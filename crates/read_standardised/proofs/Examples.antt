@@ -19,7 +19,7 @@ use Rattle.statistics.specs.Statistics.{noValue, markerStats, foundFor}
 use Rattle.standardise.specs.Standardised.{value, markerAnswer, markersAnswer, found, lowestRefused}
 use Rattle.bed_read.specs.Calls.{block, codeIn, callCode}
 use Rattle.bed_read.specs.Reading.{checkLists, readCode, codesRead, valuesRead}
-use Rattle.bed_read.specs.File.{isMode1, items, blocks, checkFile, acceptAnswer}
+use Rattle.bed_file.specs.File.{isMode1, items, blocks, checkFile, acceptAnswer}
 use Rattle.read_standardised.specs.Demand.{IsAccepted, CallsAgree, GoodList, meant, NamesEachOnce, RightLengths, Way, inTurn, joinedCall, answersOf, valuesOf, statsOf}
 use Rattle.read_standardised.specs.Joined.{joinedChecks, readNan, joinedAnswer}
 use Rattle.read_standardised.specs.SmallHerds.{F, lastByteF2, inMode0}

@@ -15,9 +15,9 @@ use Rattle.genotype.proofs.Tests.{by-test}
 use Rattle.genotype.proofs.AnswerLaws.{check-passes, check-refuses, count-passes, count-refuses, check-stage, count-stage, entry-stage, then-stage, Stage, lets, refuses, heard, new-if-done, old-if-not}
 use Rattle.genotype.proofs.MatrixLaws.{length-matrix}
 use Rattle.genotype.specs.Entry.{firstBad}
-use Rattle.bed_read.specs.File.{isMode1, checkFile}
+use Rattle.bed_file.specs.File.{isMode1, checkFile}
 use Rattle.bed_read.specs.Reading.{checkLists, readAnswer, readCode, codesRead, valuesRead, readBuffer}
-use Rattle.bed_read.proofs.FileLaws.{file-stage}
+use Rattle.bed_file.proofs.FileLaws.{file-stage}
 use Rattle.bed_read.proofs.ReadLaws.{readable}
 use Rattle.statistics.specs.Statistics.{statsPerMarker}
 use Rattle.standardise.specs.Standardised.{bufferChecks, lowestRefused, newStats, newValues, standardiseAnswer, laterStats, laterValues}

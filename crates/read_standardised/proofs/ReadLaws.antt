@@ -21,10 +21,10 @@ use Rattle.genotype.proofs.EntryLaws.{means-below}
 use Rattle.genotype.proofs.SpanLaws.{all-good}
 use Rattle.genotype.proofs.Tabulate.{length-tabulate, getD-tabulate, tabulate-ext, map-tabulate}
 use Rattle.genotype.proofs.MatrixLaws.{length-matrix, getD-matrix}
-use Rattle.bed_read.specs.File.{isMode1, checkFile, acceptAnswer}
+use Rattle.bed_file.specs.File.{isMode1, checkFile, acceptAnswer}
 use Rattle.bed_read.specs.Calls.{callCode}
 use Rattle.bed_read.specs.Reading.{checkLists, readAnswer, readCode, codesRead, valuesRead}
-use Rattle.bed_read.proofs.FileLaws.{accepted}
+use Rattle.bed_file.proofs.FileLaws.{accepted}
 use Rattle.statistics.specs.Calls.{IsCall, isZero, isOne, isTwo, isMissing}
 use Rattle.standardise.specs.Standardised.{value}
 use Rattle.canonical.specs.Canonical.{fileOrder}

@@ -10,7 +10,7 @@ use lib.Ieee.{Float, nan, Format}
 use Rattle.genotype.specs.Answer.{Answer, done}
 use Rattle.genotype.specs.Entry.{means, firstBad}
 use Rattle.genotype.specs.Value.{float}
-use Rattle.bed_read.specs.File.{acceptAnswer}
+use Rattle.bed_file.specs.File.{acceptAnswer}
 use Rattle.bed_read.specs.Calls.{callCode}
 use Rattle.bed_read.specs.Reading.{readAnswer, readBuffer}
 use Rattle.statistics.specs.Statistics.{statsPerMarker}

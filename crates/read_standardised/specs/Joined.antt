@@ -8,7 +8,7 @@ use lib.ListN.{length}
 use lib.Ieee.{Float, nan, Format}
 use Rattle.genotype.specs.Answer.{Answer, done, check, checkCount, ifDone}
 use Rattle.genotype.specs.Value.{float}
-use Rattle.bed_read.specs.File.{isMode1, checkFile}
+use Rattle.bed_file.specs.File.{isMode1, checkFile}
 use Rattle.bed_read.specs.Reading.{checkLists, valuesRead}
 use Rattle.statistics.specs.Statistics.{statsPerMarker}
 use Rattle.standardise.specs.Standardised.{lowestRefused, newStats, newValues}

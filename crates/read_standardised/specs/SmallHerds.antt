@@ -12,7 +12,7 @@ use Rattle.genotype.specs.Value.{Width, i8}
 use Rattle.index.specs.declared.Index.the-variants as Index
 use Rattle.index.specs.declared.SliceEnd.the-variants as SliceEnd
 use Rattle.index.specs.Checks.{indexBuffer}
-use Rattle.bed_read.specs.File.{acceptAnswer}
+use Rattle.bed_file.specs.File.{acceptAnswer}
 use Rattle.bed_read.specs.Reading.{readBuffer}
 use Rattle.canonical.specs.Canonical.{fileOrder, canonicalAnswer, canonicalBuffer}
 use Rattle.bed_write.specs.Packing.{placeCode, encodeBuffer}

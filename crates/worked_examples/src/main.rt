@@ -1,7 +1,7 @@
 // The worked examples of document 01 that are not marked P, PLINK's published example, one marker's block, and calls whose counts nothing lent
 // backs.
 // Each line says where it comes from and what that asks for, then what was seen; the file `stdout` beside src/ has them all.
-use bed_read::file::AcceptAnswer;
+use bed_file::AcceptAnswer;
 use bed_read::reading::ReadAnswer;
 use bed_write::write::WriteAnswer;
 use block::decode::CodeAnswer;
@@ -364,7 +364,7 @@ fn bounded() {
     say(
         b"document 01, nothing in a block: length 3 for any block count, 0 animals and 2^63 - 1 markers: saw accepted",
     );
-    say_number(accept_number(bed_read::file::accept(header, 0, many)));
+    say_number(accept_number(bed_file::accept(header, 0, many)));
     let none = [0i64; 0];
     let mut val = [9i8; 1];
     let a = bed_read::reading::read_i8::read_no_alloc_i8(

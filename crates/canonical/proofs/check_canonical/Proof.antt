@@ -1,6 +1,6 @@
 -- `check_canonical`: what `accept` says, then the length to be written.
 use mathlib.Core.Path.{sym, ap, _∙_}
-use Rattle.bed_read.specs.Says.{acceptSays}
+use Rattle.bed_file.specs.Says.{acceptSays}
 use Rattle.canonical.proofs.CanonicalLaws.{canonical-refused, canonical-accepted}
 use borrow.Author.Needs.{needs}
 use Rattle.canonical.proofs.check_canonical.Statement.{statement}

@@ -1,6 +1,6 @@
 -- `read_width`, by the mode.
 use mathlib.Core.Bool.{true, false}
-use Rattle.bed_read.specs.File.{items}
+use Rattle.bed_file.specs.File.{items}
 use Rattle.canonical.proofs.CanonicalLaws.{mode-width}
 use borrow.Author.Needs.{needs}
 use Rattle.canonical.proofs.read_width.Statement.{statement}

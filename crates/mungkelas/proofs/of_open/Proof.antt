@@ -1,5 +1,5 @@
 -- `of_open`, case by case.
-use Rattle.bed_read.specs.Says.{openSays}
+use Rattle.bed_file.specs.Says.{openSays}
 use Rattle.mungkelas.specs.Interface.{bedAnswer, numberOf, valuesOf}
 use Rattle.mungkelas.proofs.AnswerLaws.{told}
 use borrow.Author.Needs.{needs}

@@ -2,9 +2,9 @@
 use mathlib.Core.Path.{refl, sym, ap, _∙_}
 use native.Mathlib.Omega.{arith}
 use Rattle.genotype.specs.Answer.{isDone}
-use Rattle.bed_read.specs.File.{isMode1}
-use Rattle.bed_read.specs.Says.{acceptSays}
-use Rattle.bed_read.proofs.FileLaws.{accepted}
+use Rattle.bed_file.specs.File.{isMode1}
+use Rattle.bed_file.specs.Says.{acceptSays}
+use Rattle.bed_file.proofs.FileLaws.{accepted}
 use Rattle.bed_read.proofs.ReadLaws.{read-first, read-second, read-mismatch, read-not-accepted, read-lists}
 use borrow.Author.Needs.{needs}
 use Rattle.bed_read.proofs.reading.check_read.Statement.{statement}

@@ -2,10 +2,10 @@
 use mathlib.Core.Path.{sym, ap, _∙_}
 use native.Mathlib.Omega.{arith}
 use Rattle.genotype.specs.Says.{divSays}
-use Rattle.bed_read.proofs.FileLaws.{length-refused, product-fits, length-right, length-wrong}
+use Rattle.bed_file.proofs.FileLaws.{length-refused, product-fits, length-right, length-wrong}
 use borrow.Author.Needs.{needs}
-use Rattle.bed_read.proofs.file.check_length.Statement.{statement}
-use Rattle.bed_read.proofs.file.check_length.Tie as tie
+use Rattle.bed_file.proofs.check_length.Statement.{statement}
+use Rattle.bed_file.proofs.check_length.Tie as tie
 
 try-div-4-requires : tie.Need-try-div-4-requires
 try-div-4-requires c κs = search needs

@@ -1,10 +1,10 @@
 -- `accept`: 18, the header by `open_and_check`, then the mode, then the length.
 use mathlib.Core.Path.{sym, ap, _∙_}
-use Rattle.bed_read.specs.Says.{openSays}
-use Rattle.bed_read.proofs.FileLaws.{accept-first, accept-second, accept-not-open, accept-bad-mode, accept-mode-1, accept-mode-0}
+use Rattle.bed_file.specs.Says.{openSays}
+use Rattle.bed_file.proofs.FileLaws.{accept-first, accept-second, accept-not-open, accept-bad-mode, accept-mode-1, accept-mode-0}
 use borrow.Author.Needs.{needs}
-use Rattle.bed_read.proofs.file.accept.Statement.{statement}
-use Rattle.bed_read.proofs.file.accept.Tie as tie
+use Rattle.bed_file.proofs.accept.Statement.{statement}
+use Rattle.bed_file.proofs.accept.Tie as tie
 
 returns : tie.Need-returns
 returns c = accept-first _ _ _ (c .if1 .taken)

@@ -1,8 +1,8 @@
 -- `open_and_check`: each test is one of the first two checks.
-use Rattle.bed_read.proofs.FileLaws.{opens-short, opens-first, opens-second, opens-good}
+use Rattle.bed_file.proofs.FileLaws.{opens-short, opens-first, opens-second, opens-good}
 use borrow.Author.Needs.{needs}
-use Rattle.bed_read.proofs.file.open_and_check.Statement.{statement}
-use Rattle.bed_read.proofs.file.open_and_check.Tie as tie
+use Rattle.bed_file.proofs.open_and_check.Statement.{statement}
+use Rattle.bed_file.proofs.open_and_check.Tie as tie
 
 returns : tie.Need-returns
 returns c = opens-short _ (c .if1 .taken)

@@ -12,7 +12,7 @@ use Rattle.genotype.specs.Answer.{Answer, done, refused, check, checkCount, cou
 use Rattle.genotype.specs.Block.{blockWidth, fileLength, checkSize, divAnswer}
 use Rattle.genotype.proofs.AnswerLaws.{check-passes, check-refuses, count-passes, count-refuses, check-done, count-done, Stage, check-stage, count-stage, then-stage, heard, stays}
 use Rattle.genotype.proofs.Widths.{Sized, width-given}
-use Rattle.bed_read.specs.File.{checkOpen, openAnswer, checkMode, isMode1, items, blocks, checkLength, lengthAnswer, checkFile, acceptAnswer}
+use Rattle.bed_file.specs.File.{checkOpen, openAnswer, checkMode, isMode1, items, blocks, checkLength, lengthAnswer, checkFile, acceptAnswer}
 
 -- ---- 1 and 2, by the tests in order
 module _ (file : List ℕ) (later : Answer) where

@@ -1,7 +1,7 @@
 // Header and length.
 ghost use mathlib.Core.Path.{_≡_};
-ghost use Rattle.bed_read.specs.File.{openAnswer, lengthAnswer, acceptAnswer};
-ghost use Rattle.bed_read.specs.Says.{openSays, acceptSays};
+ghost use Rattle.bed_file.specs.File.{openAnswer, lengthAnswer, acceptAnswer};
+ghost use Rattle.bed_file.specs.Says.{openSays, acceptSays};
 use genotype::blocks::DivAnswer;
 
 // Byte 2, or 1, or 2.
