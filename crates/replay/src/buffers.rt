@@ -1,7 +1,7 @@
 // Buffers filled from a line, and compared with it.
 use crate::line;
 
-pub fn bytes_at(words: &[usize; 512], at: usize, out: &mut [u8]) {
+pub(crate) fn bytes_at(words: &[usize; 512], at: usize, out: &mut [u8]) {
     let mut i = 0;
     while i < out.len() {
         let word = line::element(words, at, i);
@@ -10,7 +10,7 @@ pub fn bytes_at(words: &[usize; 512], at: usize, out: &mut [u8]) {
     }
 }
 
-pub fn i8s_at(words: &[usize; 512], at: usize, out: &mut [i8]) {
+pub(crate) fn i8s_at(words: &[usize; 512], at: usize, out: &mut [i8]) {
     let mut i = 0;
     while i < out.len() {
         let word = line::element(words, at, i);
@@ -19,7 +19,7 @@ pub fn i8s_at(words: &[usize; 512], at: usize, out: &mut [i8]) {
     }
 }
 
-pub fn i64s_at(words: &[usize; 512], at: usize, out: &mut [i64]) {
+pub(crate) fn i64s_at(words: &[usize; 512], at: usize, out: &mut [i64]) {
     let mut i = 0;
     while i < out.len() {
         let word = line::element(words, at, i);
@@ -28,7 +28,7 @@ pub fn i64s_at(words: &[usize; 512], at: usize, out: &mut [i64]) {
     }
 }
 
-pub fn f64s_at(words: &[usize; 512], at: usize, out: &mut [f64]) {
+pub(crate) fn f64s_at(words: &[usize; 512], at: usize, out: &mut [f64]) {
     let mut i = 0;
     while i < out.len() {
         let word = line::element(words, at, i);
@@ -37,7 +37,7 @@ pub fn f64s_at(words: &[usize; 512], at: usize, out: &mut [f64]) {
     }
 }
 
-pub fn same_bytes(words: &[usize; 512], at: usize, got: &[u8]) -> bool {
+pub(crate) fn same_bytes(words: &[usize; 512], at: usize, got: &[u8]) -> bool {
     if got.len() != line::length(words, at) {
         return false;
     }
@@ -52,7 +52,7 @@ pub fn same_bytes(words: &[usize; 512], at: usize, got: &[u8]) -> bool {
     true
 }
 
-pub fn same_i8s(words: &[usize; 512], at: usize, got: &[i8]) -> bool {
+pub(crate) fn same_i8s(words: &[usize; 512], at: usize, got: &[i8]) -> bool {
     if got.len() != line::length(words, at) {
         return false;
     }
@@ -67,7 +67,7 @@ pub fn same_i8s(words: &[usize; 512], at: usize, got: &[i8]) -> bool {
     true
 }
 
-pub fn same_i64s(words: &[usize; 512], at: usize, got: &[i64]) -> bool {
+pub(crate) fn same_i64s(words: &[usize; 512], at: usize, got: &[i64]) -> bool {
     if got.len() != line::length(words, at) {
         return false;
     }
@@ -82,7 +82,7 @@ pub fn same_i64s(words: &[usize; 512], at: usize, got: &[i64]) -> bool {
     true
 }
 
-pub fn same_f64s(words: &[usize; 512], at: usize, got: &[f64]) -> bool {
+pub(crate) fn same_f64s(words: &[usize; 512], at: usize, got: &[f64]) -> bool {
     if got.len() != line::length(words, at) {
         return false;
     }

@@ -231,7 +231,7 @@ fn writing_answer(
 }
 
 // What the library answers.
-pub fn answer_of(
+pub(crate) fn answer_of(
     call: usize,
     n: &[usize; 8],
     bytes: &[u8],

@@ -2,16 +2,16 @@
 ghost use Prim.Native.Nat.{_≤_};
 
 // How far a line was read: the words before, the word so far, and whether the line is a comment, breaks the form, has ended.
-pub struct Line {
-    pub words: usize,
-    pub word: usize,
-    pub is_word: bool,
-    pub is_comment: bool,
-    pub is_bad: bool,
-    pub ended: bool,
+pub(crate) struct Line {
+    pub(crate) words: usize,
+    pub(crate) word: usize,
+    pub(crate) is_word: bool,
+    pub(crate) is_comment: bool,
+    pub(crate) is_bad: bool,
+    pub(crate) ended: bool,
 }
 
-pub fn start() -> Line {
+pub(crate) fn start() -> Line {
     Line {
         words: 0,
         word: 0,
@@ -39,7 +39,7 @@ fn shifted(word: usize, digit: usize) -> usize {
 }
 
 // Reads one byte.
-pub fn step(line: Line, byte: u8, words: &mut [usize; 512]) -> Line {
+pub(crate) fn step(line: Line, byte: u8, words: &mut [usize; 512]) -> Line {
     let mut out = line;
     if out.ended {
         out = start();
@@ -80,12 +80,12 @@ pub fn step(line: Line, byte: u8, words: &mut [usize; 512]) -> Line {
 }
 
 // The word at a place of a line, or 0 past the end.
-pub fn word(words: &[usize; 512], at: usize) -> usize {
+pub(crate) fn word(words: &[usize; 512], at: usize) -> usize {
     if at < 512 { words[at] } else { 0 }
 }
 
 // A place further on; 1024 is past every line.
-pub fn skip(at: usize, more: usize) -> usize {
+pub(crate) fn skip(at: usize, more: usize) -> usize {
     if at < 512 {
         if more < 512 {
             return at + more;
@@ -95,7 +95,7 @@ pub fn skip(at: usize, more: usize) -> usize {
 }
 
 // The length of the buffer at a place, at most 64.
-pub fn length(words: &[usize; 512], at: usize) -> usize
+pub(crate) fn length(words: &[usize; 512], at: usize) -> usize
     ensures { λ r. ⌜ r ≤ 64 ⌝ }
 {
     let n = word(words, at);
@@ -103,7 +103,7 @@ pub fn length(words: &[usize; 512], at: usize) -> usize
 }
 
 // The place after a buffer, or past every line if the buffer is too long.
-pub fn after(words: &[usize; 512], at: usize) -> usize {
+pub(crate) fn after(words: &[usize; 512], at: usize) -> usize {
     if word(words, at) > 64 {
         return 1024;
     }
@@ -111,16 +111,16 @@ pub fn after(words: &[usize; 512], at: usize) -> usize {
 }
 
 // Element i of the buffer at a place.
-pub fn element(words: &[usize; 512], at: usize, i: usize) -> usize {
+pub(crate) fn element(words: &[usize; 512], at: usize, i: usize) -> usize {
     word(words, skip(skip(at, 1), i))
 }
 
-pub fn low_byte(word: usize) -> u8 {
+pub(crate) fn low_byte(word: usize) -> u8 {
     (word % 256) as u8
 }
 
 // Two's complement of 64 bits, and of 8.
-pub fn signed(word: usize) -> i64 {
+pub(crate) fn signed(word: usize) -> i64 {
     if word < 9223372036854775808 {
         word as i64
     } else {
@@ -128,7 +128,7 @@ pub fn signed(word: usize) -> i64 {
     }
 }
 
-pub fn signed8(word: usize) -> i8 {
+pub(crate) fn signed8(word: usize) -> i8 {
     let byte = word % 256;
     if byte < 128 {
         byte as i8
@@ -138,7 +138,7 @@ pub fn signed8(word: usize) -> i8 {
 }
 
 // The f64 of a bit pattern; every NaN pattern is NaN.
-pub fn float_of(word: usize) -> f64 {
+pub(crate) fn float_of(word: usize) -> f64 {
     if word % 9223372036854775808 > 9218868437227405312 {
         return 0.0 / 0.0;
     }
@@ -146,7 +146,7 @@ pub fn float_of(word: usize) -> f64 {
 }
 
 // The bit pattern of an f64; every NaN has the one that stands for it in the list.
-pub fn bits_of(v: f64) -> usize {
+pub(crate) fn bits_of(v: f64) -> usize {
     if v != v {
         return 9221120237041090560;
     }

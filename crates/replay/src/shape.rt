@@ -47,10 +47,10 @@ fn shape(call: usize) -> [u8; 12] {
 }
 
 // How far a line was walked along: the present place, the numbers before it, and where the answer is.
-pub struct Walk {
-    pub at: usize,
-    pub numbers: usize,
-    pub answer: usize,
+pub(crate) struct Walk {
+    pub(crate) at: usize,
+    pub(crate) numbers: usize,
+    pub(crate) answer: usize,
 }
 
 // b: bytes; o: bytes, written; i: i64; l: i64, a second list or written; v: i8; d: f64; s: f64, statistics.
@@ -111,7 +111,7 @@ fn step(
 }
 
 // Walks along a call's line.
-pub fn walk_call(
+pub(crate) fn walk_call(
     call: usize,
     words: &[usize; 512],
     numbers: &mut [usize; 8],
