@@ -2,16 +2,18 @@
 use mathlib.Core.Path.{_≡_, refl, sym, ap, _∙_, subst}
 use mathlib.Core.Bool.{Bool, true, false, not}
 use mathlib.Core.List.{List, [], _∷_, _++_}
-use Prim.Native.Nat.{ℕ, suc, _+_, _*_, _^_, _%_, _≤_, _<_}
+use mathlib.Core.Logic.{⊎-elim}
+use Prim.Native.Nat.{ℕ, suc, _+_, _*_, _/_, _^_, _%_, _≤_, _<_}
 use native.Mathlib.Nat.{pow-suc, add-zero}
 use native.Mathlib.Omega.{arith}
 use lib.ListN.{length, take, drop, getD, length-drop}
 use lib.Seq.{take-add, drop-drop, drop-cons, length-take-le}
 use lib.Dec.{T}
-use lib.Ieee.{Float, nan, inf, fin, Format, ones, hid, top, isNan, nanBits, ofBits}
+use lib.Ieee.{Float, nan, inf, fin, Format, ones, hid, top, isNan, nanBits, ofBits, binary64}
 use lib.Ieee.Bits.{nanBits-is, nanBits-above}
 use borrow.Author.Tests.{lt-ltb, le-ltb}
-use Rattle.product.specs.Values.{leNumber}
+use Rattle.product.specs.Values.{leNumber, floatAt}
+use Rattle.product.proofs.Parts.{below-or}
 
 le-append : (xs ys : List ℕ) → leNumber (xs ++ ys) ≡ leNumber xs + 256 ^ length xs * leNumber ys
 unfolding leNumber
@@ -48,3 +50,25 @@ pattern-nan f n h = nan-only (ofBits f n) (sym (nanBits-is f n) ∙ nanBits-abov
 
 pub pattern-number : (f : Format) (n : ℕ) → n % top f ≤ ones f * hid f → T (not (nanBits f n))
 pattern-number f n h = subst (λ (b : Bool). T (not b)) (sym (nanBits-above f n ∙ le-ltb (ones f * hid f) (n % top f) h)) tt
+
+-- the first n values from a place on are no NaN's patterns
+abbrev pub Finite : List ℕ → ℕ → ℕ → Type 0
+Finite bytes at n = (i : ℕ) → i < n → leNumber (take 8 (drop (at + 8 * i) bytes)) % 9223372036854775808 ≤ 9218868437227405312
+
+-- one more, seen from the carry of its exponent
+pub finite-more :
+    (bytes : List ℕ) (at i others bits : ℕ) → bits ≡ leNumber (take 8 (drop (at + 8 * i) bytes)) → (others ≡ 0 → Finite bytes at i)
+    → others + (bits % 9223372036854775808 + 4503599627370496) / 9223372036854775808 ≡ 0
+    → Finite bytes at (i + 1)
+finite-more bytes at i others bits e h z j b =
+    ⊎-elim (λ d. h (omega arith) j d)
+    (λ d. let q : i ≡ j = omega arith in subst (λ (x : ℕ). leNumber (take 8 (drop (at + 8 * x) bytes)) % 9223372036854775808 ≤ 9218868437227405312) q (subst (λ (x : ℕ). x % 9223372036854775808 ≤ 9218868437227405312) e (omega arith)))
+    (below-or j i)
+
+pub number-of :
+    (bytes : List ℕ) (at j bits n : ℕ) → bits ≡ leNumber (take 8 (drop (at + 8 * j) bytes)) → Finite bytes at n → j < n → T (not (nanBits binary64 bits))
+number-of bytes at j bits n e h b = pattern-number binary64 bits (subst (λ (x : ℕ). x % 9223372036854775808 ≤ 9218868437227405312) (sym e) (h j b))
+
+pub float-of : (bytes : List ℕ) (at bits : ℕ) → bits ≡ leNumber (take 8 (drop at bytes)) → ofBits binary64 bits ≡ floatAt bytes at
+unfolding floatAt
+float-of bytes at bits e = ap (ofBits binary64) e

@@ -1,7 +1,7 @@
 pub mod Bytes
 pub mod InPlace
 pub mod Sums
-pub mod OneSum
+pub mod Columns
 pub mod Rows
 pub mod Parts
 pub mod Tile

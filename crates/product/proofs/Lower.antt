@@ -4,15 +4,17 @@ use mathlib.Core.Bool.{Bool, cond}
 use mathlib.Core.List.{List}
 use mathlib.Core.Logic.{⊎-elim}
 use Prim.Native.Nat.{ℕ, _+_, _-_, _*_, _/_, _%_, _≤_, _<_}
+use native.Mathlib.Nat.{div-add-mod', mod-lt}
 use native.Mathlib.Omega.{arith}
 use lib.Dec.{leb}
 use lib.ListN.{length, take, drop, getD}
+use lib.Arith.{digits-div, digits-mod}
 use lib.Seq.{getD-take, getD-drop}
 use lib.Ieee.{Float, nan, Format}
 use borrow.Author.Tests.{le-leb, lt-leb}
 use borrow.Rule.Slice.PartMut.{putMid}
 use Rattle.genotype.specs.Lists.{tabulate}
-use Rattle.genotype.proofs.Tabulate.{length-tabulate, getD-tabulate}
+use Rattle.genotype.proofs.Tabulate.{length-tabulate, getD-tabulate, is-tabulate}
 use Rattle.product.specs.Dot.{plusZero}
 use Rattle.product.specs.Steps.{sumMore, lowerPiece}
 use Rattle.product.proofs.Sums.{sum-add, sum-ext}
@@ -46,6 +48,13 @@ module _ (f : Format) (h w : ℕ) (v : ℕ → ℕ → Float) where
   pub lower-ext : (t t' : ℕ → ℕ → ℕ) → ((r c : ℕ) → r * w + c < h * w → c < w → c ≤ r → t r c ≡ t' r c) → lowerPiece f h w v t ≡ lowerPiece f h w v t'
   lower-ext t t' e = lower-grid t ∙ grid-ext h w (entry t) (entry t') (λ r c b b'. entry-same t t' r c (e r c b b')) ∙ sym (lower-grid t')
 
+  pub lower-at : (t : ℕ → ℕ → ℕ) (l : List Float) (r c : ℕ) → l ≡ lowerPiece f h w v t → r < h → c < w → c ≤ r → getD l (r * w + c) nan ≡ sumMore f plusZero (v r) (v c) (t r c)
+  lower-at t l r c e hr hc hd =
+      let rows : r * w + w ≤ h * w = row-in h w r hr in
+      ap (λ (z : List Float). getD z (r * w + c) nan) (e ∙ lower-grid t)
+      ∙ grid-at (h * w) w (entry t) r c nan hc (omega arith)
+      ∙ entry-below t r c hd
+
   -- n terms more for m sums of row r from column c on
   pub lower-row : (t t' : ℕ → ℕ → ℕ) (r c m size k n : ℕ) (l part : List Float) (x : ℕ → ℕ → Float) (y : ℕ → Float) → l ≡ lowerPiece f h w v t → r < h → 0 < w → size ≡ m → c + m ≤ w → c + m ≤ r + 1
       → ((j : ℕ) → j < m → t r (c + j) ≡ k)
@@ -76,9 +85,7 @@ module _ (f : Format) (h w : ℕ) (v : ℕ → ℕ → Float) where
           getD-take size (drop (r * w + c) l) j nan (omega (arith, rows))
           ∙ getD-drop (r * w + c) l j nan
           ∙ ap (λ (q : ℕ). getD l q nan) (let u : r * w + c + j ≡ r * w + (c + j) = omega (arith, rows) in u)
-          ∙ ap (λ (z : List Float). getD z (r * w + (c + j)) nan) (le ∙ lower-grid t)
-          ∙ grid-at (h * w) w (entry t) r (c + j) nan (omega (arith, rows)) (omega (arith, rows))
-          ∙ entry-below t r (c + j) (omega (arith, rows))
+          ∙ lower-at t l r (c + j) le hr (omega (arith, rows)) (omega (arith, rows))
           ∙ ap (sumMore f plusZero (v r) (v (c + j))) (old j b)
 
       part-at : (j : ℕ) → j < m → getD part j nan ≡ entry t' r (c + j)
@@ -90,6 +97,50 @@ module _ (f : Format) (h w : ℕ) (v : ℕ → ℕ → Float) where
           ∙ sum-add f plusZero (v r) (v (c + j)) k n
           ∙ ap (sumMore f plusZero (v r) (v (c + j))) (sym (new j b))
           ∙ sym (entry-below t' r (c + j) (omega (arith, rows)))
+
+  -- n terms for the sums of column c in m rows from row r on
+  pub lower-column : (t t' : ℕ → ℕ → ℕ) (r c m n : ℕ) (l l' : List Float) → l ≡ lowerPiece f h w v t → length l' ≡ length l → c < w → c ≤ r
+      → ((j : ℕ) → j < m → t' (r + j) c ≡ n)
+      → ((r' c' : ℕ) → (c' ≡ c → r ≤ r' → r' < r + m → ⊥) → t r' c' ≡ t' r' c')
+      → ((j : ℕ) → j < m → getD l' (r * w + c + j * w) nan ≡ sumMore f plusZero (v (r + j)) (v c) n)
+      → ((p : ℕ) → ((j : ℕ) → j < m → p ≡ r * w + c + j * w → ⊥) → getD l' p nan ≡ getD l p nan)
+      → l' ≡ lowerPiece f h w v t'
+  lower-column t t' r c m n l l' e s hc hd new same got kept =
+      is-tabulate l' (h * w) (λ p. entry t' (p / w) (p % w)) nan (s ∙ ap length e ∙ length-lower t) at ∙ sym (lower-grid t')
+    where
+      out : (p : ℕ) → p < h * w → (p % w ≡ c → r ≤ p / w → p / w < r + m → ⊥) → getD l' p nan ≡ entry t' (p / w) (p % w)
+      out p b apart =
+          kept p
+          (λ j b' q.
+          let q' : p ≡ (r + j) * w + c = omega arith in
+          let d : p / w ≡ r + j = ap (λ (x : ℕ). x / w) q' ∙ digits-div (r + j) hc in
+          apart (ap (λ (x : ℕ). x % w) q' ∙ digits-mod (r + j) hc) (omega arith) (omega arith))
+          ∙ ap (λ (z : List Float). getD z p nan) (e ∙ lower-grid t)
+          ∙ getD-tabulate (h * w) (λ q. entry t (q / w) (q % w)) p nan b
+          ∙ entry-same t t' (p / w) (p % w) (λ b'. same (p / w) (p % w) apart)
+
+      within : (p : ℕ) → p % w ≡ c → r ≤ p / w → p / w < r + m → getD l' p nan ≡ entry t' (p / w) (p % w)
+      within p z a a' =
+          let j : ℕ = p / w - r in
+          let d : p / w ≡ r + j = omega arith in
+          let d' : p / w * w ≡ (r + j) * w = ap (λ (x : ℕ). x * w) d in
+          let s' : p / w * w + p % w ≡ p = div-add-mod' p w in
+          ap (λ (x : ℕ). getD l' x nan) (let u : p ≡ r * w + c + j * w = omega arith in u)
+          ∙ got j (omega arith)
+          ∙ ap (sumMore f plusZero (v (r + j)) (v c)) (sym (new j (omega arith)))
+          ∙ sym (entry-below t' (r + j) c (omega arith))
+          ∙ ap (λ (x : ℕ). entry t' x c) (sym d)
+          ∙ ap (entry t' (p / w)) (sym z)
+
+      at : (p : ℕ) → p < h * w → getD l' p nan ≡ entry t' (p / w) (p % w)
+      at p b =
+          ⊎-elim (λ a. out p b (λ z a' a''. omega arith))
+          (λ a. ⊎-elim (λ d. out p b (λ z a' a''. omega arith))
+          (λ d. ⊎-elim (λ g. out p b (λ z a' a''. omega arith))
+          (λ g. ⊎-elim (λ i. within p (omega arith) g i) (λ i. out p b (λ z a' a''. omega arith)) (below-or (p / w) (r + m)))
+          (below-or (p / w) r))
+          (below-or c (p % w)))
+          (below-or (p % w) c)
 
   -- every place +0
   pub lower-none : (n : ℕ) (l : List Float) → n ≡ h * w → l ≡ tabulate n (λ p. plusZero) → l ≡ lowerPiece f h w v (λ r c. 0)

@@ -37,6 +37,14 @@ pub four-terms : (f : Format) (s : Float) (x y : ℕ → Float) (i : ℕ) → ad
 unfolding sumMore
 four-terms f s x y i = ap (λ (z : Float). add f (add f (add f z (mul f (x (i + 1)) (y (i + 1)))) (mul f (x (i + 2)) (y (i + 2)))) (mul f (x (i + 3)) (y (i + 3)))) (one-term f s x y i)
 
+-- one term more
+pub term-more :
+    (f : Format) (s total : Float) (x y : ℕ → Float) (i : ℕ) → total ≡ sumMore f s x y i → add f total (mul f (x i) (y i)) ≡ sumMore f s x y (i + 1)
+term-more f s total x y i e =
+    one-term f total x y i
+    ∙ ap (λ (t : Float). sumMore f t (λ t. x (i + t)) (λ t. y (i + t)) 1) e
+    ∙ sum-add f s x y i 1
+
 -- `dot` of two lists by place is the sum of their products
 first-term : (f : Format) (s : Float) (x y : ℕ → Float) (n : ℕ) → sumMore f (add f s (mul f (x 0) (y 0))) (λ t. x (suc t)) (λ t. y (suc t)) n ≡ sumMore f s x y (suc n)
 unfolding sumMore

@@ -1,11 +1,11 @@
 -- How many terms each sum has while a tile's rows are passed: k + n left of the tile and in its rows so far, else k.
-use mathlib.Core.Path.{_≡_, sym, ap, _∙_}
-use mathlib.Core.Bool.{Bool, cond}
-use mathlib.Core.Logic.{⊎-elim}
+use mathlib.Core.Path.{_≡_, sym, ap, subst, _∙_}
+use mathlib.Core.Bool.{Bool, true, false, cond}
+use mathlib.Core.Logic.{_⊎_, inl, inr, ⊎-elim}
 use Prim.Native.Nat.{ℕ, _+_, _-_, _*_, _≤_, _<_, min}
 use native.Mathlib.Nat.{min-le-left, min-le-right, min-eq-left, min-eq-right}
 use native.Mathlib.Omega.{arith}
-use lib.Dec.{ltb}
+use lib.Dec.{T, ltb}
 use borrow.Author.Tests.{lt-ltb, le-ltb}
 use Rattle.product.proofs.Parts.{below-or}
 
@@ -15,6 +15,15 @@ least-above a b s p q e =
     ⊎-elim (λ g. let m : min a b ≡ a = min-eq-left (let u : a ≤ b = omega arith in u) in omega arith)
     (λ g. let m : min a b ≡ b = min-eq-right g in omega arith)
     (below-or a b)
+
+-- a bound that holds, or else something of the piece
+pub less-or : {P : Type 0} (m n b : ℕ) → m ≤ n → (n ≤ b) ⊎ P → (m ≤ b) ⊎ P
+less-or m n b h (inl h') = inl (omega arith)
+less-or m n b h (inr p) = inr p
+
+pub not-both : (n : ℕ) (t : Bool) → (n ≤ 32) ⊎ (t ≡ true) → t ≡ false → n ≤ 32
+not-both n t (inl h) e = h
+not-both n t (inr e') e = absurd (subst T (sym e' ∙ e) tt)
 
 module _ (k n c m : ℕ) where
   unfoldable pub rowsTo : ℕ → ℕ → ℕ → ℕ
@@ -81,6 +90,24 @@ module _ (k n c m : ℕ) where
             ⊎-elim (λ g. let e : min m (r - c + 1) ≡ m = min-eq-left (let u : m ≤ r - c + 1 = omega arith in u) in omega arith)
             (λ g. let e : min m (r - c + 1) ≡ r - c + 1 = min-eq-right g in omega arith)
             (below-or m (r - c + 1))
+
+-- one column by itself: m rows more
+module _ (k n c r m : ℕ) where
+  pub column-new : (j : ℕ) → j < m → rowsTo k n c 1 (r + m) (r + j) c ≡ k + n
+  column-new j b = passed k n c 1 (r + m) (r + j) c (omega arith) (omega arith) (omega arith)
+
+  pub column-old : (j : ℕ) → rowsTo k n c 1 r (r + j) c ≡ k
+  column-old j = waiting k n c 1 r (r + j) c (omega arith) (omega arith)
+
+  pub column-same : (r' c' : ℕ) → (c' ≡ c → r ≤ r' → r' < r + m → ⊥) → rowsTo k n c 1 r r' c' ≡ rowsTo k n c 1 (r + m) r' c'
+  column-same r' c' apart =
+      ⊎-elim (λ a. left k n c 1 r r' c' a ∙ sym (left k n c 1 (r + m) r' c' a))
+      (λ a. ⊎-elim (λ a'. ⊎-elim (λ d. passed k n c 1 r r' c' a a' d ∙ sym (passed k n c 1 (r + m) r' c' a a' (omega arith)))
+      (λ d. ⊎-elim (λ d'. absurd (apart (omega arith) d d')) (λ d'. waiting k n c 1 r r' c' a d ∙ sym (waiting k n c 1 (r + m) r' c' a d')) (below-or r' (r + m)))
+      (below-or r' r))
+      (λ a'. right k n c 1 r r' c' a' ∙ sym (right k n c 1 (r + m) r' c' a'))
+      (below-or c' (c + 1)))
+      (below-or c' c)
 
 -- no column passed, and every column passed
 pub none-passed : (k n c' : ℕ) → k ≡ cond (ltb c' 0) (k + n) k

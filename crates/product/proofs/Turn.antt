@@ -1,4 +1,4 @@
--- One row's turn in a tile: the row's sums of the tile get n terms more.
+-- One row's turn in a tile: the row's sums of the tile get n terms more. Some rows' turn in a column: so do theirs.
 use mathlib.Core.Path.{_≡_, ap, _∙_}
 use mathlib.Core.List.{List, _++_}
 use Prim.Native.Nat.{ℕ, _+_, _-_, _*_, _≤_, _<_, min}
@@ -6,14 +6,16 @@ use native.Mathlib.Nat.{add-sub-cancel-left}
 use native.Mathlib.Omega.{arith}
 use lib.ListN.{length, take, drop, getD, List·getD-append}
 use lib.Seq.{length-take-le}
-use lib.Ieee.{Float, nan, binary64}
+use lib.Ieee.{Float, nan, Format, binary64}
 use borrow.Rule.Slice.PartMut.{putMid}
 use Rattle.genotype.specs.Lists.{tabulate}
 use Rattle.genotype.proofs.Tabulate.{length-tabulate, getD-tabulate}
 use Rattle.product.specs.Values.{floatAt}
 use Rattle.product.specs.Steps.{sumMore, lineValue, lowerPiece}
-use Rattle.product.proofs.Terms.{rowsTo, row-old, row-new, row-same, row-size}
-use Rattle.product.proofs.Lower.{lower-row}
+use Rattle.product.specs.Dot.{plusZero}
+use Rattle.product.proofs.Sums.{sum-add}
+use Rattle.product.proofs.Terms.{rowsTo, row-old, row-new, row-same, row-size, column-old, column-new, column-same}
+use Rattle.product.proofs.Lower.{lower-row, lower-at, lower-column}
 use Rattle.product.proofs.Tile.{TileTo}
 
 module _ (bytes : List ℕ) (base line step k n : ℕ) where
@@ -43,3 +45,22 @@ module _ (bytes : List ℕ) (base line step k n : ℕ) where
         line-front
         (λ i j h h'. tile i j h (omega (arith, row-size k n c m r size hc s)))
         q
+
+-- sums of column c, in m rows from row r on
+pub column-turn :
+    (f : Format) (height width : ℕ) (v : ℕ → ℕ → Float) (k n c r m : ℕ) (piece later : List Float) → c < width → c ≤ r → r + m ≤ height
+    → piece ≡ lowerPiece f height width v (rowsTo k n c 1 r)
+    → length later ≡ length piece
+    → ((i : ℕ) → i < m → getD later (r * width + c + i * width) nan ≡ sumMore f (getD piece (r * width + c + i * width) nan) (λ t. v (r + i) (k + t)) (λ t. v c (k + t)) n)
+    → ((p : ℕ) → ((i : ℕ) → i < m → p ≡ r * width + c + i * width → ⊥) → getD later p nan ≡ getD piece p nan)
+    → later ≡ lowerPiece f height width v (rowsTo k n c 1 (r + m))
+column-turn f height width v k n c r m piece later hc hd hr e s got kept =
+    lower-column f height width v (rowsTo k n c 1 r) (rowsTo k n c 1 (r + m)) r c m (k + n) piece later e s hc hd (column-new k n c r m) (column-same k n c r m)
+    (λ i b.
+    got i b
+    ∙ ap (λ (z : Float). sumMore f z (λ t. v (r + i) (k + t)) (λ t. v c (k + t)) n)
+    (ap (λ (p : ℕ). getD piece p nan) (let q : r * width + c + i * width ≡ (r + i) * width + c = omega arith in q)
+    ∙ lower-at f height width v (rowsTo k n c 1 r) piece (r + i) c e (omega arith) hc (omega arith)
+    ∙ ap (sumMore f plusZero (v (r + i)) (v c)) (column-old k n c r m i))
+    ∙ sum-add f plusZero (v (r + i)) (v c) k n)
+    kept

@@ -3,7 +3,9 @@ use mathlib.Core.Bool.{cond}
 use mathlib.Core.List.{List}
 use Prim.Native.Nat.{ℕ, zero, suc, _+_, _*_, _<_, _≤_}
 use lib.Dec.{leb}
-use lib.Ieee.{Float, Format, add, mul}
+use lib.Ieee.{Float, nan, Format, add, mul}
+use lib.ListN.{length, getD}
+use Rattle.genotype.specs.Lists.{tabulate}
 use Rattle.product.specs.Values.{floatAt}
 use Rattle.product.specs.Dot.{plusZero}
 use Rattle.product.specs.Piece.{pieceOf}
@@ -26,3 +28,11 @@ unfoldable pub lowerPiece : Format → ℕ → ℕ → (ℕ → ℕ → Float) �
 unfolding pieceOf
 lowerPiece f height width value terms =
     pieceOf height width (λ r c. cond (leb c r) (sumMore f plusZero (value r) (value c) (terms r c)) plusZero)
+
+-- each sum with one product more, by v
+abbrev pub termMore : Format → (ℕ → Float) → Float → List Float → List Float
+termMore f value v sums = tabulate (length sums) (λ j. add f (getD sums j nan) (mul f (value j) v))
+
+-- the sums of lines r, r + 1 and so on with line c, each with the n products more from term k on
+abbrev pub linesMore : Format → (ℕ → ℕ → Float) → ℕ → ℕ → ℕ → ℕ → List Float → List Float
+linesMore f value k n r c sums = tabulate (length sums) (λ j. sumMore f (getD sums j nan) (λ t. value (r + j) (k + t)) (λ t. value c (k + t)) n)

@@ -1,6 +1,7 @@
 // The pieces of A'A and AA', from a matrix of f64 in lent bytes.
 ghost use mathlib.Core.Path.{_≡_};
-ghost use mathlib.Core.Bool.{cond, _&&_};
+ghost use mathlib.Core.Bool.{true, cond, _&&_};
+ghost use mathlib.Core.Logic.{_⊎_};
 ghost use Prim.Native.Nat.{ℕ, _+_, _*_, _/_, _%_, _^_, _<_, _≤_, min};
 ghost use lib.Dec.{leb, ltb};
 ghost use lib.ListN.{length, getD, take, drop};
@@ -12,6 +13,8 @@ ghost use Rattle.product.specs.Dot.{plusZero};
 ghost use Rattle.product.specs.Piece.{pieceAnswer, goodPiece, enoughBytes, ataAnswer, ataLeaves, aatAnswer, aatLeaves};
 ghost use Rattle.product.specs.Says.{pieceSays};
 ghost use Rattle.product.specs.Steps.{sumMore, lineValue, LinesIn, lowerPiece};
+
+mod narrow;
 
 // What a product call answers: done, or 18, 20, 15, 1.
 pub enum PieceAnswer {
@@ -102,7 +105,7 @@ fn load(bytes: &[u8], at: usize, step: usize, dst: &mut [f64])
 // The pieces are formed from lines of values: columns for A'A, rows for AA'. Value k of line r stands at
 // base + 8 × (r × line + k × step). The sums grow in passes of up to 32 terms, so AA' goes once through the
 // matrix, 32 columns at a time. In a pass the columns of the piece are taken in tiles of up to 64, whose values
-// are made floats once for all rows.
+// are made floats once for all rows. Narrow pieces are formed column by column, in passes that suit the lines.
 
 // Where value k of line r stands.
 fn place(base: usize, line: usize, step: usize, r: usize, k: usize) -> usize
@@ -187,32 +190,6 @@ fn add_many(x: &[f64], y: &[f64; 32], n: usize, sums: &mut [f64])
     }
 }
 
-// The same of one sum, which stays at hand.
-fn add_line(x: &[f64], y: &[f64; 32], n: usize, sum: f64) -> f64
-    requires { ⌜ (n ≤ 32) × (length (now x) ≡ 2048) ⌝ }
-    ensures { λ r. ⌜ r ≡ sumMore binary64 sum (λ i. getD (now (y .entry)) i nan) (λ i. getD (now (x .entry)) (i * 64) nan) n ⌝ }
-{
-    let mut total = sum;
-    let mut i = 0;
-    while i < n {
-        total = total + y[i] * x[i * 64];
-        i += 1;
-    }
-    total
-}
-
-// One sum, or many.
-fn add_all(x: &[f64], y: &[f64; 32], n: usize, sums: &mut [f64])
-    requires { ⌜ (n ≤ 32) × (length (now x) ≡ 2048) × (length (now sums) ≤ 64) ⌝ }
-    ensures { λ _. ⌜ now (sums .exit) ≡ tabulate (length (now (sums .entry))) (λ j. sumMore binary64 (getD (now (sums .entry)) j nan) (λ i. getD (now (y .entry)) i nan) (λ i. getD (now (x .entry)) (i * 64 + j) nan) n) ⌝ }
-{
-    if sums.len() == 1 {
-        sums[0] = add_line(x, y, n, sums[0]);
-        return;
-    }
-    add_many(x, y, n, sums);
-}
-
 // Adds terms k to k + n - 1 to the sums of columns c to c + m - 1, in each row as far as the diagonal.
 fn add_rows(
     bytes: &[u8],
@@ -238,7 +215,7 @@ fn add_rows(
         load(bytes, at, step, &mut y[0..n]);
         let from = r * width + c;
         let end = from + least(m, r - c + 1);
-        add_all(x, &y, n, &mut piece[from..end]);
+        add_many(x, &y, n, &mut piece[from..end]);
         r += 1;
     }
 }
@@ -279,6 +256,45 @@ fn clear(piece: &mut [f64])
     }
 }
 
+// How many terms a pass adds: where neighbouring lines have neighbouring values, few, which stay at hand for every
+// column; else all, while four lines are at hand; in tiles, 32.
+fn pass_terms(narrow: bool, line: usize, count: usize) -> usize
+    requires { ⌜ 0 < count ⌝ }
+    ensures { λ r. ⌜ (0 < r) × (r ≤ 32 ⊎ (narrow ≡ true)) ⌝ }
+{
+    if narrow {
+        if line == 1 {
+            return 8;
+        }
+        return count;
+    }
+    32
+}
+
+// Adds terms k to k + n - 1 to every sum of a narrow piece, or of another.
+fn add_terms(
+    bytes: &[u8],
+    base: usize,
+    line: usize,
+    step: usize,
+    k: usize,
+    n: usize,
+    height: usize,
+    width: usize,
+    narrow: bool,
+    x: &mut [f64],
+    piece: &mut [f64],
+)
+    requires { ⌜ (0 < n) × (n ≤ 32 ⊎ (narrow ≡ true)) × (k + n < 2 ^ 64) × (width ≤ height) × (length (now x) ≡ 2048) × LinesIn (length (now bytes)) base line step height k n × (now piece ≡ lowerPiece binary64 height width (lineValue (now bytes) base line step) (λ r c. k)) ⌝ }
+    ensures { λ _. ⌜ now (piece .exit) ≡ lowerPiece binary64 height width (lineValue (now (bytes .entry)) base line step) (λ r c. k + n) ⌝ }
+{
+    if narrow {
+        narrow::add_columns(bytes, base, line, step, k, n, height, width, piece);
+    } else {
+        add_tiles(bytes, base, line, step, k, n, height, width, x, piece);
+    }
+}
+
 // Forms the sums on and below the diagonal, and +0 above it.
 fn lower_piece(
     bytes: &[u8],
@@ -297,11 +313,25 @@ fn lower_piece(
     clear(piece);
     if count > 0 {
         let base = offset as usize + 8 * first;
+        let narrow = width < 5;
+        let pass = pass_terms(narrow, line, count);
         let mut x = [0.0f64; 2048];
         let mut k = 0;
         while k < count {
-            let n = least(32, count - k);
-            add_tiles(bytes, base, line, step, k, n, height, width, &mut x, piece);
+            let n = least(pass, count - k);
+            add_terms(
+                bytes,
+                base,
+                line,
+                step,
+                k,
+                n,
+                height,
+                width,
+                narrow,
+                &mut x,
+                piece,
+            );
             k += n;
         }
     }

@@ -78,20 +78,20 @@ sized c =
 add-end : tie.Need-add-end Inv-loop μ-loop
 add-end c = omega (arith, sized c)
 
-mul-add-all : tie.Need-mul-add-all Inv-loop μ-loop
-mul-add-all c = omega (arith, inside (c .before .before .before .before .before .before))
+mul-add-many : tie.Need-mul-add-many Inv-loop μ-loop
+mul-add-many c = omega (arith, inside (c .before .before .before .before .before .before))
 
-sub-add-all : tie.Need-sub-add-all Inv-loop μ-loop
-sub-add-all c = omega arith
+sub-add-many : tie.Need-sub-add-many Inv-loop μ-loop
+sub-add-many c = omega arith
 
-part-add-all-start : tie.Need-part-add-all-start Inv-loop μ-loop
-part-add-all-start c = omega arith
+part-add-many-start : tie.Need-part-add-many-start Inv-loop μ-loop
+part-add-many-start c = omega arith
 
-part-add-all-end : tie.Need-part-add-all-end Inv-loop μ-loop
-part-add-all-end c = omega (arith, sized (c .before))
+part-add-many-end : tie.Need-part-add-many-end Inv-loop μ-loop
+part-add-many-end c = omega (arith, sized (c .before))
 
-add-all-requires : tie.Need-add-all-requires Inv-loop μ-loop
-add-all-requires c κs =
+add-many-requires : tie.Need-add-many-requires Inv-loop μ-loop
+add-many-requires c κs =
     let a = c .before .before .before .before .before .before .before .before .before .before .before .before .args in
     let w = c .before .before .before .before .before .before .before .before .loop in
     let size = c .before .before .least .result in
@@ -112,7 +112,7 @@ loop-again c =
     let w = c .before .before .before .before .before .before .before .before .before .before .before .loop in
     let p = c .before .before .before .before .before .before .before .before .before .place in
     let y = c .before .before .before .before .before .before .before .load in
-    let q = c .before .before .add-all in
+    let q = c .before .before .add-many in
     let size = c .before .before .before .before .before .least in
     let from = w .r * a .width + a .c in (
       omega (arith, w .inv .0),
@@ -149,11 +149,11 @@ add-rows-spec =
     add-least
     least-requires
     add-end
-    mul-add-all
-    sub-add-all
-    part-add-all-start
-    part-add-all-end
-    add-all-requires
+    mul-add-many
+    sub-add-many
+    part-add-many-start
+    part-add-many-end
+    add-many-requires
     add-r
     loop-less
     loop-again

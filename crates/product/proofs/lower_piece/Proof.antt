@@ -4,17 +4,17 @@ use native.Mathlib.Omega.{arith}
 use lib.ListN.{length}
 use lib.Ieee.{binary64}
 use Rattle.product.specs.Steps.{lineValue, lowerPiece}
-use Rattle.product.proofs.Terms.{least-above}
+use Rattle.product.proofs.Terms.{least-above, less-or}
 use Rattle.product.proofs.Lower.{lower-ext, lower-none}
 use Rattle.product.proofs.lower_piece.Statement.{statement}
 use Rattle.product.proofs.lower_piece.Tie as tie
 
 abbrev Inv-loop : tie.InvT-loop
-Inv-loop bytes offset first line step count height width piece₀ base x₀ k₀ piece x k =
+Inv-loop bytes offset first line step count height width piece₀ base narrow pass x₀ k₀ piece x k =
     (k ≤ count) × (length x ≡ 2048) × (length piece ≡ length piece₀) × (piece ≡ lowerPiece binary64 height width (lineValue bytes base line step) (λ r c. k))
 
 abbrev μ-loop : tie.MeasureT-loop
-μ-loop bytes offset first line step count height width piece₀ base x₀ k₀ piece x k = count - k
+μ-loop bytes offset first line step count height width piece₀ base narrow pass x₀ k₀ piece x k = count - k
 
 clear-requires : tie.Need-clear-requires Inv-loop μ-loop
 clear-requires c κs = tt
@@ -25,12 +25,14 @@ mul-base c = omega (arith, c .before .before .before .before .before .before .be
 add-base : tie.Need-add-base Inv-loop μ-loop
 add-base c = omega (arith, c .before .before .before .before .before .before .before .pre .3 0 0 (omega arith) (omega arith))
 
+pass-terms-requires : tie.Need-pass-terms-requires Inv-loop μ-loop
+pass-terms-requires c κs = omega arith
+
 loop-holds : tie.Need-loop-holds Inv-loop μ-loop
 loop-holds c =
-    let s = c .before .before .before .before .before .before .before in
-    let a = s .args in
-    let q = c .before .before .before .clear in
-    (omega arith, refl, refl, lower-none binary64 (a .height) (a .width) (lineValue (a .bytes .now) (a .offset + 8 * a .first) (a .line) (a .step)) (length (a .piece .now)) (q .last .0) (s .pre .2) (q .ensures))
+    let a = c .before .before .before .before .before .before .before .before .args in
+    let q = c .before .before .before .before .clear in
+    (omega arith, refl, refl, lower-none binary64 (a .height) (a .width) (lineValue (a .bytes .now) (a .offset + 8 * a .first) (a .line) (a .step)) (length (a .piece .now)) (q .last .0) (c .before .before .before .before .before .before .before .before .pre .2) (q .ensures))
 
 sub-least : tie.Need-sub-least Inv-loop μ-loop
 sub-least c = omega arith
@@ -38,18 +40,20 @@ sub-least c = omega arith
 least-requires : tie.Need-least-requires Inv-loop μ-loop
 least-requires c κs = tt
 
-sized : (c : tie.After-least Inv-loop μ-loop) → (0 < c .least .result) × (c .least .result ≤ 32) × (c .least .result ≤ c .before .before .before .before .before .before .before .before .before .before .args .count - c .before .before .loop .k)
-sized c = least-above 32 (c .before .before .before .before .before .before .before .before .before .before .args .count - c .before .before .loop .k) (c .least .result) (omega arith) (omega arith) (c .least .ensures)
+sized : (c : tie.After-least Inv-loop μ-loop) → (0 < c .least .result) × (c .least .result ≤ c .before .before .before .pass-terms .result) × (c .least .result ≤ c .before .before .before .before .before .before .before .before .before .before .before .args .count - c .before .before .loop .k)
+sized c =
+    let q = c .before .before .before .pass-terms in
+    least-above (q .result) (c .before .before .before .before .before .before .before .before .before .before .before .args .count - c .before .before .loop .k) (c .least .result) (q .ensures .0) (omega arith) (c .least .ensures)
 
-slice-aggregate-add-tiles : tie.Need-slice-aggregate-add-tiles Inv-loop μ-loop
-slice-aggregate-add-tiles c = sym (c .before .before .before .loop .inv .1)
+slice-aggregate-add-terms : tie.Need-slice-aggregate-add-terms Inv-loop μ-loop
+slice-aggregate-add-terms c = sym (c .before .before .before .loop .inv .1)
 
-add-tiles-requires : tie.Need-add-tiles-requires Inv-loop μ-loop
-add-tiles-requires c κs =
-    let s = c .before .before .before .before .before .before .before .before .before .before .before .before in
+add-terms-requires : tie.Need-add-terms-requires Inv-loop μ-loop
+add-terms-requires c κs =
+    let s = c .before .before .before .before .before .before .before .before .before .before .before .before .before .pre in
     let w = c .before .before .before .before .loop in
     let l = sized (c .before .before) in
-    (l .0, l .1, omega arith, s .pre .1, w .inv .1, λ r i h h'. omega (arith, s .pre .3 r (w .k + i) h (omega arith)), w .inv .3)
+    (l .0, less-or (c .before .before .least .result) (c .before .before .before .before .before .pass-terms .result) 32 (l .1) (c .before .before .before .before .before .pass-terms .ensures .1), omega arith, s .1, w .inv .1, λ r i h h'. omega (arith, s .3 r (w .k + i) h (omega arith)), w .inv .3)
 
 add-k : tie.Need-add-k Inv-loop μ-loop
 add-k c = omega arith
@@ -60,16 +64,16 @@ loop-less c = omega (arith, sized (c .before .before .before .before .before .be
 loop-again : tie.Need-loop-again Inv-loop μ-loop
 loop-again c =
     let w = c .before .before .before .before .before .before .before .before .loop in
-    let q = c .before .before .before .add-tiles in
+    let q = c .before .before .before .add-terms in
     let l = sized (c .before .before .before .before .before .before) in
-    (omega (arith, w .inv .0), omega (arith, q .kept .1 .1 .1 .1 .1 .1 .1 .1 .0, w .inv .1), omega (arith, q .kept .1 .1 .1 .1 .1 .1 .1 .1 .1 .0, w .inv .2), q .ensures)
+    (omega (arith, w .inv .0), q .kept .1 .1 .1 .1 .1 .1 .1 .1 .1 .0 ∙ w .inv .1, q .kept .1 .1 .1 .1 .1 .1 .1 .1 .1 .1 .0 ∙ w .inv .2, q .ensures)
 
 same-length : tie.Need-same-length Inv-loop μ-loop
-same-length c = c .before .loop .inv .2 ∙ c .before .before .before .before .before .clear .kept .0
+same-length c = c .before .loop .inv .2 ∙ c .before .before .before .before .before .before .clear .kept .0
 
 returns : tie.Need-returns Inv-loop μ-loop
 returns c =
-    let a = c .before .before .before .before .before .before .before .before .before .args in
+    let a = c .before .before .before .before .before .before .before .before .before .before .args in
     let w = c .before .loop in
     w .inv .3
     ∙ lower-ext binary64 (a .height) (a .width) (lineValue (a .bytes .now) (a .offset + 8 * a .first) (a .line) (a .step)) _ _ (λ r' c' h h' h''. omega arith)
@@ -79,10 +83,9 @@ same-length-2 c = c .before .before .before .clear .kept .0
 
 returns-2 : tie.Need-returns-2 Inv-loop μ-loop
 returns-2 c =
-    let s = c .before .before .before .before .before .before .before in
-    let a = s .args in
+    let a = c .before .before .before .before .before .before .before .args in
     let q = c .before .before .before .clear in
-    lower-none binary64 (a .height) (a .width) (lineValue (a .bytes .now) (a .offset + 8 * a .first) (a .line) (a .step)) (length (a .piece .now)) (q .last .0) (s .pre .2) (q .ensures)
+    lower-none binary64 (a .height) (a .width) (lineValue (a .bytes .now) (a .offset + 8 * a .first) (a .line) (a .step)) (length (a .piece .now)) (q .last .0) (c .before .before .before .before .before .before .before .pre .2) (q .ensures)
     ∙ lower-ext binary64 (a .height) (a .width) (lineValue (a .bytes .now) (a .offset + 8 * a .first) (a .line) (a .step)) _ _ (λ r' c' h h' h''. omega arith)
 
 pub lower-piece-spec : {M : Type 1} → statement M
@@ -94,11 +97,12 @@ lower-piece-spec =
     clear-requires
     mul-base
     add-base
+    pass-terms-requires
     loop-holds
     sub-least
     least-requires
-    slice-aggregate-add-tiles
-    add-tiles-requires
+    slice-aggregate-add-terms
+    add-terms-requires
     add-k
     loop-less
     loop-again
