@@ -256,17 +256,31 @@ fn clear(piece: &mut [f64])
     }
 }
 
-// How many terms a pass adds: where neighbouring lines have neighbouring values, few, which stay at hand for every
-// column; else all, while four lines are at hand; in tiles, 32.
-fn pass_terms(narrow: bool, line: usize, count: usize) -> usize
+// Whether a piece is formed column by column.
+fn is_narrow(line: usize, width: usize) -> bool {
+    if line == 1 {
+        return width < 4;
+    }
+    width < 5
+}
+
+// How many terms a pass adds. Column by column: few where neighbouring lines have neighbouring values, which stay at
+// hand for every column; else all, with four lines at hand. In tiles: 32, or 16 if neighbouring lines are short.
+fn pass_terms(narrow: bool, line: usize, width: usize, count: usize) -> usize
     requires { ⌜ 0 < count ⌝ }
     ensures { λ r. ⌜ (0 < r) × (r ≤ 32 ⊎ (narrow ≡ true)) ⌝ }
 {
-    if narrow {
-        if line == 1 {
-            return 8;
+    if line != 1 {
+        if narrow {
+            return count;
         }
-        return count;
+        return 32;
+    }
+    if narrow {
+        return 8;
+    }
+    if width < 16 {
+        return 16;
     }
     32
 }
@@ -313,8 +327,8 @@ fn lower_piece(
     clear(piece);
     if count > 0 {
         let base = offset as usize + 8 * first;
-        let narrow = width < 5;
-        let pass = pass_terms(narrow, line, count);
+        let narrow = is_narrow(line, width);
+        let pass = pass_terms(narrow, line, width, count);
         let mut x = [0.0f64; 2048];
         let mut k = 0;
         while k < count {

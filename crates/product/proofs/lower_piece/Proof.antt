@@ -25,14 +25,17 @@ mul-base c = omega (arith, c .before .before .before .before .before .before .be
 add-base : tie.Need-add-base Inv-loop μ-loop
 add-base c = omega (arith, c .before .before .before .before .before .before .before .pre .3 0 0 (omega arith) (omega arith))
 
+is-narrow-requires : tie.Need-is-narrow-requires Inv-loop μ-loop
+is-narrow-requires c κs = tt
+
 pass-terms-requires : tie.Need-pass-terms-requires Inv-loop μ-loop
 pass-terms-requires c κs = omega arith
 
 loop-holds : tie.Need-loop-holds Inv-loop μ-loop
 loop-holds c =
-    let a = c .before .before .before .before .before .before .before .before .args in
-    let q = c .before .before .before .before .clear in
-    (omega arith, refl, refl, lower-none binary64 (a .height) (a .width) (lineValue (a .bytes .now) (a .offset + 8 * a .first) (a .line) (a .step)) (length (a .piece .now)) (q .last .0) (c .before .before .before .before .before .before .before .before .pre .2) (q .ensures))
+    let a = c .before .before .before .before .before .before .before .before .before .args in
+    let q = c .before .before .before .before .before .clear in
+    (omega arith, refl, refl, lower-none binary64 (a .height) (a .width) (lineValue (a .bytes .now) (a .offset + 8 * a .first) (a .line) (a .step)) (length (a .piece .now)) (q .last .0) (c .before .before .before .before .before .before .before .before .before .pre .2) (q .ensures))
 
 sub-least : tie.Need-sub-least Inv-loop μ-loop
 sub-least c = omega arith
@@ -40,17 +43,17 @@ sub-least c = omega arith
 least-requires : tie.Need-least-requires Inv-loop μ-loop
 least-requires c κs = tt
 
-sized : (c : tie.After-least Inv-loop μ-loop) → (0 < c .least .result) × (c .least .result ≤ c .before .before .before .pass-terms .result) × (c .least .result ≤ c .before .before .before .before .before .before .before .before .before .before .before .args .count - c .before .before .loop .k)
+sized : (c : tie.After-least Inv-loop μ-loop) → (0 < c .least .result) × (c .least .result ≤ c .before .before .before .pass-terms .result) × (c .least .result ≤ c .before .before .before .before .before .before .before .before .before .before .before .before .args .count - c .before .before .loop .k)
 sized c =
     let q = c .before .before .before .pass-terms in
-    least-above (q .result) (c .before .before .before .before .before .before .before .before .before .before .before .args .count - c .before .before .loop .k) (c .least .result) (q .ensures .0) (omega arith) (c .least .ensures)
+    least-above (q .result) (c .before .before .before .before .before .before .before .before .before .before .before .before .args .count - c .before .before .loop .k) (c .least .result) (q .ensures .0) (omega arith) (c .least .ensures)
 
 slice-aggregate-add-terms : tie.Need-slice-aggregate-add-terms Inv-loop μ-loop
 slice-aggregate-add-terms c = sym (c .before .before .before .loop .inv .1)
 
 add-terms-requires : tie.Need-add-terms-requires Inv-loop μ-loop
 add-terms-requires c κs =
-    let s = c .before .before .before .before .before .before .before .before .before .before .before .before .before .pre in
+    let s = c .before .before .before .before .before .before .before .before .before .before .before .before .before .before .pre in
     let w = c .before .before .before .before .loop in
     let l = sized (c .before .before) in
     (l .0, less-or (c .before .before .least .result) (c .before .before .before .before .before .pass-terms .result) 32 (l .1) (c .before .before .before .before .before .pass-terms .ensures .1), omega arith, s .1, w .inv .1, λ r i h h'. omega (arith, s .3 r (w .k + i) h (omega arith)), w .inv .3)
@@ -69,11 +72,11 @@ loop-again c =
     (omega (arith, w .inv .0), q .kept .1 .1 .1 .1 .1 .1 .1 .1 .1 .0 ∙ w .inv .1, q .kept .1 .1 .1 .1 .1 .1 .1 .1 .1 .1 .0 ∙ w .inv .2, q .ensures)
 
 same-length : tie.Need-same-length Inv-loop μ-loop
-same-length c = c .before .loop .inv .2 ∙ c .before .before .before .before .before .before .clear .kept .0
+same-length c = c .before .loop .inv .2 ∙ c .before .before .before .before .before .before .before .clear .kept .0
 
 returns : tie.Need-returns Inv-loop μ-loop
 returns c =
-    let a = c .before .before .before .before .before .before .before .before .before .before .args in
+    let a = c .before .before .before .before .before .before .before .before .before .before .before .args in
     let w = c .before .loop in
     w .inv .3
     ∙ lower-ext binary64 (a .height) (a .width) (lineValue (a .bytes .now) (a .offset + 8 * a .first) (a .line) (a .step)) _ _ (λ r' c' h h' h''. omega arith)
@@ -97,6 +100,7 @@ lower-piece-spec =
     clear-requires
     mul-base
     add-base
+    is-narrow-requires
     pass-terms-requires
     loop-holds
     sub-least
