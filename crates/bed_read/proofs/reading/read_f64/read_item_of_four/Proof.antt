@@ -17,31 +17,31 @@ use Rattle.bed_read.proofs.reading.read_f64.read_item_of_four.Statement
 use Rattle.bed_read.proofs.reading.read_f64.read_item_of_four.Tie as tie
 
 mul-item-of : tie.Need-mul-item-of
-mul-item-of c = search needs
+mul-item-of c = omega arith
 
 shared-slice-copy-out-item-of : tie.Need-shared-slice-copy-out-item-of
-shared-slice-copy-out-item-of c = search needs
+shared-slice-copy-out-item-of c = omega arith
 
 item-of-requires : tie.Need-item-of-requires
 item-of-requires c κs = search needs
 
 add-k1 : tie.Need-add-k1
-add-k1 c = search needs
+add-k1 c = omega arith
 
 add-k2 : tie.Need-add-k2
-add-k2 c = search needs
+add-k2 c = omega arith
 
 add-k2-2 : tie.Need-add-k2-2
-add-k2-2 c = search needs
+add-k2-2 c = omega arith
 
 add-k3 : tie.Need-add-k3
-add-k3 c = search needs
+add-k3 c = omega arith
 
 add-k3-2 : tie.Need-add-k3-2
-add-k3-2 c = search needs
+add-k3-2 c = omega arith
 
 add-k3-3 : tie.Need-add-k3-3
-add-k3-3 c = search needs
+add-k3-3 c = omega arith
 
 -- the byte of the item that the entry means
 inside : (c : tie.After-item-of) → c .item-of .result / 4 < blockWidth (c .before .before .before .before .before .before .before .args .items)
@@ -54,16 +54,16 @@ item-value-requires : tie.Need-item-value-requires
 item-value-requires c κs = let s = c .before .before .before .before .before .before .before in (subst (λ (x : ℕ). c .item-of .result / 4 < x) (sym (s .pre .0)) (inside c), s .pre .5)
 
 mul-out : tie.Need-mul-out
-mul-out c = search needs
+mul-out c = omega arith
 
 slice-write-out : tie.Need-slice-write-out
-slice-write-out c = search needs
+slice-write-out c = omega arith
 
 item-value-requires-2 : tie.Need-item-value-requires-2
 item-value-requires-2 c κs = let s = c .before .before .before .before .before .before .before .before in (subst (λ (x : ℕ). c .before .item-of .result / 4 < x) (sym (s .pre .1)) (inside (c .before)), s .pre .5)
 
 mul-out-2 : tie.Need-mul-out-2
-mul-out-2 c = search needs
+mul-out-2 c = omega arith
 
 slice-write-out-2 : tie.Need-slice-write-out-2
 slice-write-out-2 c = let s = c .before .before .before .before .before .before .before .before .before in simp length-set (omega (arith, s .pre .6, s .pre .7))
@@ -72,7 +72,7 @@ item-value-requires-3 : tie.Need-item-value-requires-3
 item-value-requires-3 c κs = let s = c .before .before .before .before .before .before .before .before .before in (subst (λ (x : ℕ). c .before .before .item-of .result / 4 < x) (sym (s .pre .2)) (inside (c .before .before)), s .pre .5)
 
 mul-out-3 : tie.Need-mul-out-3
-mul-out-3 c = search needs
+mul-out-3 c = omega arith
 
 slice-write-out-3 : tie.Need-slice-write-out-3
 slice-write-out-3 c = let s = c .before .before .before .before .before .before .before .before .before .before in simp length-set (omega (arith, s .pre .6, s .pre .7))
@@ -81,7 +81,7 @@ item-value-requires-4 : tie.Need-item-value-requires-4
 item-value-requires-4 c κs = let s = c .before .before .before .before .before .before .before .before .before .before in (subst (λ (x : ℕ). c .before .before .before .item-of .result / 4 < x) (sym (s .pre .3)) (inside (c .before .before .before)), s .pre .5)
 
 mul-out-4 : tie.Need-mul-out-4
-mul-out-4 c = search needs
+mul-out-4 c = omega arith
 
 slice-write-out-4 : tie.Need-slice-write-out-4
 slice-write-out-4 c = let s = c .before .before .before .before .before .before .before .before .before .before .before in simp length-set (omega (arith, s .pre .6, s .pre .7))

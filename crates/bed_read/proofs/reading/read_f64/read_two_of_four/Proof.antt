@@ -15,43 +15,43 @@ use Rattle.bed_read.proofs.reading.read_f64.read_two_of_four.Statement.
 use Rattle.bed_read.proofs.reading.read_f64.read_two_of_four.Tie as tie
 
 add-next : tie.Need-add-next
-add-next c = search needs
+add-next c = omega arith
 
 mul-item-of : tie.Need-mul-item-of
-mul-item-of c = search needs
+mul-item-of c = omega arith
 
 shared-slice-copy-out-item-of : tie.Need-shared-slice-copy-out-item-of
-shared-slice-copy-out-item-of c = search needs
+shared-slice-copy-out-item-of c = omega arith
 
 item-of-requires : tie.Need-item-of-requires
 item-of-requires c κs = search needs
 
 mul-item-of-2 : tie.Need-mul-item-of-2
-mul-item-of-2 c = search needs
+mul-item-of-2 c = omega arith
 
 shared-slice-copy-out-item-of-2 : tie.Need-shared-slice-copy-out-item-of-2
-shared-slice-copy-out-item-of-2 c = search needs
+shared-slice-copy-out-item-of-2 c = omega arith
 
 item-of-requires-2 : tie.Need-item-of-requires-2
 item-of-requires-2 c κs = search needs
 
 add-k1 : tie.Need-add-k1
-add-k1 c = search needs
+add-k1 c = omega arith
 
 add-k2 : tie.Need-add-k2
-add-k2 c = search needs
+add-k2 c = omega arith
 
 add-k2-2 : tie.Need-add-k2-2
-add-k2-2 c = search needs
+add-k2-2 c = omega arith
 
 add-k3 : tie.Need-add-k3
-add-k3 c = search needs
+add-k3 c = omega arith
 
 add-k3-2 : tie.Need-add-k3-2
-add-k3-2 c = search needs
+add-k3-2 c = omega arith
 
 add-k3-3 : tie.Need-add-k3-3
-add-k3-3 c = search needs
+add-k3-3 c = omega arith
 
 -- the bytes of the items that the entries mean
 inside : (c : tie.After-item-of) → c .item-of .result / 4 < blockWidth (c .before .before .before .before .before .before .before .args .items)

@@ -18,31 +18,31 @@ use Rattle.bed_read.proofs.reading.read_i8.read_item_of_four.Statement.
 use Rattle.bed_read.proofs.reading.read_i8.read_item_of_four.Tie as tie
 
 mul-item-of : tie.Need-mul-item-of
-mul-item-of c = search needs
+mul-item-of c = omega arith
 
 shared-slice-copy-out-item-of : tie.Need-shared-slice-copy-out-item-of
-shared-slice-copy-out-item-of c = search needs
+shared-slice-copy-out-item-of c = omega arith
 
 item-of-requires : tie.Need-item-of-requires
 item-of-requires c κs = search needs
 
 add-k1 : tie.Need-add-k1
-add-k1 c = search needs
+add-k1 c = omega arith
 
 add-k2 : tie.Need-add-k2
-add-k2 c = search needs
+add-k2 c = omega arith
 
 add-k2-2 : tie.Need-add-k2-2
-add-k2-2 c = search needs
+add-k2-2 c = omega arith
 
 add-k3 : tie.Need-add-k3
-add-k3 c = search needs
+add-k3 c = omega arith
 
 add-k3-2 : tie.Need-add-k3-2
-add-k3-2 c = search needs
+add-k3-2 c = omega arith
 
 add-k3-3 : tie.Need-add-k3-3
-add-k3-3 c = search needs
+add-k3-3 c = omega arith
 
 -- the byte of the item that the entry means
 inside : (c : tie.After-item-of) → c .item-of .result / 4 < blockWidth (c .before .before .before .before .before .before .args .items)
@@ -55,7 +55,7 @@ item-value-requires : tie.Need-item-value-requires
 item-value-requires c κs = let s = c .before .before .before .before .before .before in (subst (λ (x : ℕ). c .item-of .result / 4 < x) (sym (s .pre .0)) (inside c), s .pre .5)
 
 slice-set-from-out : tie.Need-slice-set-from-out
-slice-set-from-out c = search needs
+slice-set-from-out c = omega arith
 
 item-value-requires-2 : tie.Need-item-value-requires-2
 item-value-requires-2 c κs = let s = c .before .before .before .before .before .before .before in (subst (λ (x : ℕ). c .before .item-of .result / 4 < x) (sym (s .pre .1)) (inside (c .before)), s .pre .5)

@@ -30,7 +30,7 @@ loop-holds : tie.Need-loop-holds Inv-loop μ-loop
 loop-holds c = let s = c .before .before .before .before in four-none (at s) (pos 0) _ _ (s .pre .6)
 
 add-loop : tie.Need-add-loop Inv-loop μ-loop
-add-loop c = search needs
+add-loop c = omega arith
 
 read-two-of-four-requires : tie.Need-read-two-of-four-requires Inv-loop μ-loop
 read-two-of-four-requires c κs = let s = c .before .before .before .before .before .before .before in (s .pre .0, s .pre .1, s .pre .2, s .pre .3, s .pre .4, s .pre .5, c .before .before .loop .inv .long, c .before .loop-test .taken)
