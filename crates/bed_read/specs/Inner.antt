@@ -5,7 +5,7 @@ use mathlib.Core.List.{List, map}
 use mathlib.Core.Option.{none}
 use Prim.Native.Nat.{ℕ, zero, suc, _+_, _*_}
 use lib.IntN.{ℤ, pos}
-use lib.ListN.{length, getD}
+use lib.ListN.{length, getD, set}
 use Rattle.genotype.specs.Block.{blockWidth, fileLength}
 use Rattle.genotype.specs.Code.{codeTable, itemCode}
 use Rattle.genotype.specs.Entry.{firstBad, means}
@@ -45,6 +45,18 @@ ofFour b0 b1 b2 b3 zero = b0
 ofFour b0 b1 b2 b3 (suc zero) = b1
 ofFour b0 b1 b2 b3 (suc (suc zero)) = b2
 ofFour b0 b1 b2 b3 (suc (suc (suc n))) = b3
+
+-- places p and p + 1 set
+unfoldable pub setTwo : {A : Type 0} → List A → ℕ → A → A → List A
+setTwo out p v w = set (set out p v) (p + 1) w
+
+-- place k of four lines of n places, one after the other, set to f 0, f 1, f 2 and f 3
+unfoldable pub setFour : {A : Type 0} → List A → ℕ → ℕ → (ℕ → A) → List A
+setFour out n k f = set (set (set (set out k (f 0)) (n + k) (f 1)) (n + n + k) (f 2)) (n + n + n + k) (f 3)
+
+-- the same of places k and k + 1
+unfoldable pub setTwoOfFour : {A : Type 0} → List A → ℕ → ℕ → (ℕ → A) → (ℕ → A) → List A
+setTwoOfFour out n k f g = setTwo (setTwo (setTwo (setTwo out k (f 0) (g 0)) (n + k) (f 1) (g 1)) (n + n + k) (f 2) (g 2)) (n + n + n + k) (f 3) (g 3)
 
 -- the value for place b of the list of blocks and place i of the list within a block, where v is the value of a code
 unfoldable pub heldValue : {A : Type 0} → (ℕ → A) → List ℕ → ℕ → ℕ → List ℤ → List ℤ → ℕ → ℕ → A

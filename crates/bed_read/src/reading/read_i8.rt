@@ -14,7 +14,7 @@ ghost use Rattle.genotype.specs.Lists.{tabulate};
 ghost use Rattle.genotype.specs.Value.{i8};
 ghost use Rattle.bed_read.specs.Calls.{callCode};
 ghost use Rattle.bed_read.specs.Reading.{readAnswer, codesRead, readBuffer};
-ghost use Rattle.bed_read.specs.Inner.{Shaped, Listed, lineValue, valueIn, ByCode, ofFour, heldValue};
+ghost use Rattle.bed_read.specs.Inner.{Shaped, Listed, lineValue, valueIn, ByCode, ofFour, setTwo, setFour, setTwoOfFour, heldValue};
 ghost use Rattle.bed_read.specs.Says.{readSays};
 use super::ReadAnswer;
 use super::Shape;
@@ -90,7 +90,73 @@ fn read_items(
     }
 }
 
-// The same of four blocks, one after the other.
+// The values of two items of a block, at two neighbouring places.
+fn read_two(block: &[u8], item: usize, other: usize, table: &[i8; 1024], at: usize, out: &mut [i8])
+    requires { ⌜ (item / 4 < length (now block)) × (other / 4 < length (now block)) × ByCode (now table) (pos 0) × (at + 1 < length (now out)) ⌝ }
+    ensures { λ _. ⌜ now (out .exit) ≡ setTwo (now (out .entry)) at (valueIn (now (table .entry)) (pos 0) (itemCode (now (block .entry)) item)) (valueIn (now (table .entry)) (pos 0) (itemCode (now (block .entry)) other)) ⌝ }
+{
+    let next = at + 1;
+    out[at] = item_value(block, item, table);
+    out[next] = item_value(block, other, table);
+}
+
+// The values of one entry of a list of items, in four blocks: place k of four lines that stand one after the other.
+fn read_item_of_four(
+    block0: &[u8],
+    block1: &[u8],
+    block2: &[u8],
+    block3: &[u8],
+    mode_1: bool,
+    items: usize,
+    item_index: &[i64],
+    k: usize,
+    table: &[i8; 1024],
+    out: &mut [i8],
+)
+    requires { ⌜ (length (now block0) ≡ blockWidth items) × (length (now block1) ≡ blockWidth items) × (length (now block2) ≡ blockWidth items) × (length (now block3) ≡ blockWidth items) × (firstBad items (now «item_index») ≡ none) × ByCode (now table) (pos 0) × (length (now out) ≡ 4 * length (now «item_index»)) × (k < length (now «item_index»)) ⌝ }
+    ensures { λ _. ⌜ now (out .exit) ≡ setFour (now (out .entry)) (length (now («item_index» .entry))) k (λ o. valueIn (now (table .entry)) (pos 0) (itemCode (ofFour (now (block0 .entry)) (now (block1 .entry)) (now (block2 .entry)) (now (block3 .entry)) o) (means items (getD (now («item_index» .entry)) k (pos 0))))) ⌝ }
+{
+    let n = item_index.len();
+    let item = super::item_of(mode_1, items, item_index[k]);
+    let k1 = n + k;
+    let k2 = n + n + k;
+    let k3 = n + n + n + k;
+    out[k] = item_value(block0, item, table);
+    out[k1] = item_value(block1, item, table);
+    out[k2] = item_value(block2, item, table);
+    out[k3] = item_value(block3, item, table);
+}
+
+// The same of entries k and k + 1, line by line.
+fn read_two_of_four(
+    block0: &[u8],
+    block1: &[u8],
+    block2: &[u8],
+    block3: &[u8],
+    mode_1: bool,
+    items: usize,
+    item_index: &[i64],
+    k: usize,
+    table: &[i8; 1024],
+    out: &mut [i8],
+)
+    requires { ⌜ (length (now block0) ≡ blockWidth items) × (length (now block1) ≡ blockWidth items) × (length (now block2) ≡ blockWidth items) × (length (now block3) ≡ blockWidth items) × (firstBad items (now «item_index») ≡ none) × ByCode (now table) (pos 0) × (length (now out) ≡ 4 * length (now «item_index»)) × (k + 2 ≤ length (now «item_index»)) ⌝ }
+    ensures { λ _. ⌜ now (out .exit) ≡ setTwoOfFour (now (out .entry)) (length (now («item_index» .entry))) k (λ o. valueIn (now (table .entry)) (pos 0) (itemCode (ofFour (now (block0 .entry)) (now (block1 .entry)) (now (block2 .entry)) (now (block3 .entry)) o) (means items (getD (now («item_index» .entry)) k (pos 0))))) (λ o. valueIn (now (table .entry)) (pos 0) (itemCode (ofFour (now (block0 .entry)) (now (block1 .entry)) (now (block2 .entry)) (now (block3 .entry)) o) (means items (getD (now («item_index» .entry)) (k + 1) (pos 0))))) ⌝ }
+{
+    let n = item_index.len();
+    let next = k + 1;
+    let item = super::item_of(mode_1, items, item_index[k]);
+    let other = super::item_of(mode_1, items, item_index[next]);
+    let k1 = n + k;
+    let k2 = n + n + k;
+    let k3 = n + n + n + k;
+    read_two(block0, item, other, table, k, out);
+    read_two(block1, item, other, table, k1, out);
+    read_two(block2, item, other, table, k2, out);
+    read_two(block3, item, other, table, k3, out);
+}
+
+// The values of a list of items of four blocks, one after the other: two entries a turn.
 fn read_items_of_four(
     block0: &[u8],
     block1: &[u8],
@@ -107,16 +173,34 @@ fn read_items_of_four(
 {
     let n = item_index.len();
     let mut k = 0;
-    while k < n {
-        let item = super::item_of(mode_1, items, item_index[k]);
-        let k1 = n + k;
-        let k2 = n + n + k;
-        let k3 = n + n + n + k;
-        out[k] = item_value(block0, item, table);
-        out[k1] = item_value(block1, item, table);
-        out[k2] = item_value(block2, item, table);
-        out[k3] = item_value(block3, item, table);
-        k += 1;
+    while k + 2 <= n {
+        read_two_of_four(
+            block0,
+            block1,
+            block2,
+            block3,
+            mode_1,
+            items,
+            item_index,
+            k,
+            table,
+            out,
+        );
+        k += 2;
+    }
+    if k < n {
+        read_item_of_four(
+            block0,
+            block1,
+            block2,
+            block3,
+            mode_1,
+            items,
+            item_index,
+            k,
+            table,
+            out,
+        );
     }
 }
 

@@ -9,10 +9,10 @@ use Rattle.bed_read.proofs.reading.block_start.Statement.{statement}
 use Rattle.bed_read.proofs.reading.block_start.Tie as tie
 
 mul-block-of : tie.Need-mul-block-of
-mul-block-of c = search needs
+mul-block-of c = omega arith
 
 shared-slice-copy-out-block-of : tie.Need-shared-slice-copy-out-block-of
-shared-slice-copy-out-block-of c = search needs
+shared-slice-copy-out-block-of c = omega arith
 
 block-of-requires : tie.Need-block-of-requires
 block-of-requires c κs = search needs

@@ -26,10 +26,10 @@ wide-requires : tie.Need-wide-requires
 wide-requires c κs = search needs
 
 mul-place : tie.Need-mul-place
-mul-place c = search needs
+mul-place c = omega arith
 
 add-place : tie.Need-add-place
-add-place c = search needs
+add-place c = omega arith
 
 element-copy-out-wide : tie.Need-element-copy-out-wide
 element-copy-out-wide c = search needs

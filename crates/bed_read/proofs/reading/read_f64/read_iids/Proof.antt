@@ -23,10 +23,10 @@ loop-holds : tie.Need-loop-holds Inv-loop μ-loop
 loop-holds c = let s = c .before .before in filled-none (λ e. getD (s .args .values .now) (callCode (s .args .file .now) (s .args .shape .iids) (s .args .shape .sids) (means (s .args .shape .iids) e) (s .args .sid .0)) nan) (pos 0) (s .args .iid-index .now) (s .args .out .now) (s .pre .4)
 
 mul-iid-of : tie.Need-mul-iid-of Inv-loop μ-loop
-mul-iid-of c = search needs
+mul-iid-of c = omega arith
 
 shared-slice-copy-out-iid-of : tie.Need-shared-slice-copy-out-iid-of Inv-loop μ-loop
-shared-slice-copy-out-iid-of c = search needs
+shared-slice-copy-out-iid-of c = omega arith
 
 iid-of-requires : tie.Need-iid-of-requires Inv-loop μ-loop
 iid-of-requires c κs = search needs
@@ -41,7 +41,7 @@ element-copy-out-out : tie.Need-element-copy-out-out Inv-loop μ-loop
 element-copy-out-out c = c .call-code .ensures .0
 
 mul-out-2 : tie.Need-mul-out-2 Inv-loop μ-loop
-mul-out-2 c = search needs
+mul-out-2 c = omega arith
 
 slice-write-out : tie.Need-slice-write-out Inv-loop μ-loop
 slice-write-out c = omega (arith, c .before .before .before .before .before .loop .inv .long, c .before .before .before .before .loop-test .taken)

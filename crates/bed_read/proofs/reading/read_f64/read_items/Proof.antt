@@ -33,10 +33,10 @@ loop-holds c =
     front-none (at s) nan _ _ (s .pre .3)
 
 mul-item-of : tie.Need-mul-item-of Inv-loop μ-loop
-mul-item-of c = search needs
+mul-item-of c = omega arith
 
 shared-slice-copy-out-item-of : tie.Need-shared-slice-copy-out-item-of Inv-loop μ-loop
-shared-slice-copy-out-item-of c = search needs
+shared-slice-copy-out-item-of c = omega arith
 
 item-of-requires : tie.Need-item-of-requires Inv-loop μ-loop
 item-of-requires c κs = search needs
@@ -51,7 +51,7 @@ item-value-requires c κs =
     )
 
 mul-out : tie.Need-mul-out Inv-loop μ-loop
-mul-out c = search needs
+mul-out c = omega arith
 
 slice-write-out : tie.Need-slice-write-out Inv-loop μ-loop
 slice-write-out c = omega (arith, c .before .before .before .before .loop .inv .long, c .before .before .before .loop-test .taken)

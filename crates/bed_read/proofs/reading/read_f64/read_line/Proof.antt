@@ -21,10 +21,10 @@ mul-read-sids : tie.Need-mul-read-sids
 mul-read-sids c = let s = c .before .before .before .before .before in let h = (subst (λ (x : ℕ). s .args .until ≤ x) (cond-yes _ _ _ (c .before .before .if1 .taken)) (s .pre .5)) in omega arith
 
 sub-read-sids : tie.Need-sub-read-sids
-sub-read-sids c = search needs
+sub-read-sids c = omega arith
 
 part-read-sids-start : tie.Need-part-read-sids-start
-part-read-sids-start c = search needs
+part-read-sids-start c = omega arith
 
 part-read-sids-end : tie.Need-part-read-sids-end
 part-read-sids-end c = let s = c .before .before .before .before .before in (subst (λ (x : ℕ). s .args .until ≤ x) (cond-yes _ _ _ (c .before .before .if1 .taken)) (s .pre .5))
@@ -45,10 +45,10 @@ mul-read-iids : tie.Need-mul-read-iids
 mul-read-iids c = let s = c .before .before .before .before .before in let h = (subst (λ (x : ℕ). s .args .until ≤ x) (cond-not _ _ _ (c .before .before .if1 .left)) (s .pre .5)) in omega arith
 
 sub-read-iids : tie.Need-sub-read-iids
-sub-read-iids c = search needs
+sub-read-iids c = omega arith
 
 part-read-iids-start : tie.Need-part-read-iids-start
-part-read-iids-start c = search needs
+part-read-iids-start c = omega arith
 
 part-read-iids-end : tie.Need-part-read-iids-end
 part-read-iids-end c = let s = c .before .before .before .before .before in (subst (λ (x : ℕ). s .args .until ≤ x) (cond-not _ _ _ (c .before .before .if1 .left)) (s .pre .5))

@@ -23,10 +23,10 @@ loop-holds : tie.Need-loop-holds Inv-loop μ-loop
 loop-holds c = let s = c .before .before in filled-none (λ e. getD (s .args .values .now) (callCode (s .args .file .now) (s .args .shape .iids) (s .args .shape .sids) (s .args .iid .0) (means (s .args .shape .sids) e)) nan) (pos 0) (s .args .sid-index .now) (s .args .out .now) (s .pre .4)
 
 mul-sid-of : tie.Need-mul-sid-of Inv-loop μ-loop
-mul-sid-of c = search needs
+mul-sid-of c = omega arith
 
 shared-slice-copy-out-sid-of : tie.Need-shared-slice-copy-out-sid-of Inv-loop μ-loop
-shared-slice-copy-out-sid-of c = search needs
+shared-slice-copy-out-sid-of c = omega arith
 
 sid-of-requires : tie.Need-sid-of-requires Inv-loop μ-loop
 sid-of-requires c κs = search needs
@@ -41,7 +41,7 @@ element-copy-out-out : tie.Need-element-copy-out-out Inv-loop μ-loop
 element-copy-out-out c = c .call-code .ensures .0
 
 mul-out-2 : tie.Need-mul-out-2 Inv-loop μ-loop
-mul-out-2 c = search needs
+mul-out-2 c = omega arith
 
 slice-write-out : tie.Need-slice-write-out Inv-loop μ-loop
 slice-write-out c = omega (arith, c .before .before .before .before .before .loop .inv .long, c .before .before .before .before .loop-test .taken)

@@ -42,7 +42,7 @@ element-copy-out-table c =
     subst (λ (x : ℕ). x < 4) (sym (c .wide .ensures .0)) (entry-below (s .args .codes .now) _ (s .pre) (c .before .before .loop-test .taken))
 
 mul-table-2 : tie.Need-mul-table-2 Inv-loop μ-loop
-mul-table-2 c = search needs
+mul-table-2 c = omega arith
 
 array-write-table : tie.Need-array-write-table Inv-loop μ-loop
 array-write-table c = omega (arith, c .before .before .before .loop-test .taken)

@@ -21,10 +21,10 @@ wide-requires : tie.Need-wide-requires
 wide-requires c κs = search needs
 
 mul-at : tie.Need-mul-at
-mul-at c = search needs
+mul-at c = omega arith
 
 add-at : tie.Need-add-at
-add-at c = search needs
+add-at c = omega arith
 
 element-copy-out-result : tie.Need-element-copy-out-result
 element-copy-out-result c = search needs

@@ -40,7 +40,7 @@ loop-holds c =
     )
 
 sub-lines-at-once : tie.Need-sub-lines-at-once Inv-loop μ-loop
-sub-lines-at-once c = search needs
+sub-lines-at-once c = omega arith
 
 lines-at-once-requires : tie.Need-lines-at-once-requires Inv-loop μ-loop
 lines-at-once-requires c κs = omega (arith, c .loop-test .taken)

@@ -24,10 +24,10 @@ loop-holds : tie.Need-loop-holds Inv-loop μ-loop
 loop-holds c = let s = c .before in filled-none (λ e. getD (s .args .values .now) (callCode (s .args .file .now) (s .args .shape .iids) (s .args .shape .sids) (means (s .args .shape .iids) e) (s .args .sid .0)) (pos 0)) (pos 0) (s .args .iid-index .now) (s .args .out .now) (s .pre .4)
 
 mul-iid-of : tie.Need-mul-iid-of Inv-loop μ-loop
-mul-iid-of c = search needs
+mul-iid-of c = omega arith
 
 shared-slice-copy-out-iid-of : tie.Need-shared-slice-copy-out-iid-of Inv-loop μ-loop
-shared-slice-copy-out-iid-of c = search needs
+shared-slice-copy-out-iid-of c = omega arith
 
 iid-of-requires : tie.Need-iid-of-requires Inv-loop μ-loop
 iid-of-requires c κs = search needs

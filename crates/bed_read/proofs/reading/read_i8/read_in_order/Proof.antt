@@ -34,46 +34,46 @@ loop-holds : tie.Need-loop-holds Inv-loop μ-loop Inv-loop2 μ-loop2
 loop-holds c = let s = c .before in front-none (at s) (pos 0) _ _ refl
 
 mul-k : tie.Need-mul-k Inv-loop μ-loop Inv-loop2 μ-loop2
-mul-k c = search needs
+mul-k c = omega arith
 
 add-k1 : tie.Need-add-k1 Inv-loop μ-loop Inv-loop2 μ-loop2
-add-k1 c = search needs
+add-k1 c = omega arith
 
 add-k2 : tie.Need-add-k2 Inv-loop μ-loop Inv-loop2 μ-loop2
-add-k2 c = search needs
+add-k2 c = omega arith
 
 add-k3 : tie.Need-add-k3 Inv-loop μ-loop Inv-loop2 μ-loop2
-add-k3 c = search needs
+add-k3 c = omega arith
 
 item-value-requires : tie.Need-item-value-requires Inv-loop μ-loop Inv-loop2 μ-loop2
-item-value-requires c κs = search needs
+item-value-requires c κs = let s = c .before .before .before in (omega (arith, s .pre .0, c .loop-test .taken), s .pre .1)
 
 slice-set-from-out : tie.Need-slice-set-from-out Inv-loop μ-loop Inv-loop2 μ-loop2
-slice-set-from-out c = search needs
+slice-set-from-out c = omega arith
 
 item-value-requires-2 : tie.Need-item-value-requires-2 Inv-loop μ-loop Inv-loop2 μ-loop2
-item-value-requires-2 c κs = search needs
+item-value-requires-2 c κs = let s = c .before .before .before .before in (omega (arith, s .pre .0, c .before .loop-test .taken), s .pre .1)
 
 slice-set-from-out-2 : tie.Need-slice-set-from-out-2 Inv-loop μ-loop Inv-loop2 μ-loop2
 slice-set-from-out-2 c = simp length-set (omega (arith, c .before .before .before .loop .inv .long, c .before .before .loop-test .taken))
 
 item-value-requires-3 : tie.Need-item-value-requires-3 Inv-loop μ-loop Inv-loop2 μ-loop2
-item-value-requires-3 c κs = search needs
+item-value-requires-3 c κs = let s = c .before .before .before .before .before in (omega (arith, s .pre .0, c .before .before .loop-test .taken), s .pre .1)
 
 slice-set-from-out-3 : tie.Need-slice-set-from-out-3 Inv-loop μ-loop Inv-loop2 μ-loop2
 slice-set-from-out-3 c = simp length-set (omega (arith, c .before .before .before .before .loop .inv .long, c .before .before .before .loop-test .taken))
 
 item-value-requires-4 : tie.Need-item-value-requires-4 Inv-loop μ-loop Inv-loop2 μ-loop2
-item-value-requires-4 c κs = search needs
+item-value-requires-4 c κs = let s = c .before .before .before .before .before .before in (omega (arith, s .pre .0, c .before .before .before .loop-test .taken), s .pre .1)
 
 slice-set-from-out-4 : tie.Need-slice-set-from-out-4 Inv-loop μ-loop Inv-loop2 μ-loop2
 slice-set-from-out-4 c = simp length-set (omega (arith, c .before .before .before .before .before .loop .inv .long, c .before .before .before .before .loop-test .taken))
 
 add-b : tie.Need-add-b Inv-loop μ-loop Inv-loop2 μ-loop2
-add-b c = search needs
+add-b c = omega arith
 
 loop-less : tie.Need-loop-less Inv-loop μ-loop Inv-loop2 μ-loop2
-loop-less c = search needs
+loop-less c = omega arith
 
 loop-again : tie.Need-loop-again Inv-loop μ-loop Inv-loop2 μ-loop2
 loop-again c =
@@ -90,7 +90,7 @@ loop-again c =
     (omega arith) (omega arith) (toZ-ofZ w8 _ (sfits-of (c .item-value4 .ok)) ∙ c .item-value4 .ensures)
 
 mul-i : tie.Need-mul-i Inv-loop μ-loop Inv-loop2 μ-loop2
-mul-i c = search needs
+mul-i c = omega arith
 
 loop2-holds : tie.Need-loop2-holds Inv-loop μ-loop Inv-loop2 μ-loop2
 loop2-holds c =
@@ -103,13 +103,13 @@ item-value-requires-5 : tie.Need-item-value-requires-5 Inv-loop μ-loop Inv-loop
 item-value-requires-5 c κs = search needs
 
 slice-set-from-out-5 : tie.Need-slice-set-from-out-5 Inv-loop μ-loop Inv-loop2 μ-loop2
-slice-set-from-out-5 c = search needs
+slice-set-from-out-5 c = omega arith
 
 add-i : tie.Need-add-i Inv-loop μ-loop Inv-loop2 μ-loop2
-add-i c = search needs
+add-i c = omega arith
 
 loop2-less : tie.Need-loop2-less Inv-loop μ-loop Inv-loop2 μ-loop2
-loop2-less c = search needs
+loop2-less c = omega arith
 
 loop2-again : tie.Need-loop2-again Inv-loop μ-loop Inv-loop2 μ-loop2
 loop2-again c =

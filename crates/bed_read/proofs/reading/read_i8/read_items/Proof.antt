@@ -34,10 +34,10 @@ loop-holds c =
     front-none (at s) (pos 0) _ _ (s .pre .3)
 
 mul-item-of : tie.Need-mul-item-of Inv-loop μ-loop
-mul-item-of c = search needs
+mul-item-of c = omega arith
 
 shared-slice-copy-out-item-of : tie.Need-shared-slice-copy-out-item-of Inv-loop μ-loop
-shared-slice-copy-out-item-of c = search needs
+shared-slice-copy-out-item-of c = omega arith
 
 item-of-requires : tie.Need-item-of-requires Inv-loop μ-loop
 item-of-requires c κs = search needs

@@ -15,16 +15,16 @@ block-start-requires : tie.Need-block-start-requires
 block-start-requires c κs = search needs
 
 add-end : tie.Need-add-end
-add-end c = search needs
+add-end c = omega arith
 
 sub-read-in-order : tie.Need-sub-read-in-order
-sub-read-in-order c = search needs
+sub-read-in-order c = omega arith
 
 part-read-in-order-start : tie.Need-part-read-in-order-start
-part-read-in-order-start c = search needs
+part-read-in-order-start c = omega arith
 
 part-read-in-order-end : tie.Need-part-read-in-order-end
-part-read-in-order-end c = search needs
+part-read-in-order-end c = omega arith
 
 read-in-order-requires : tie.Need-read-in-order-requires
 read-in-order-requires c κs =
@@ -35,13 +35,13 @@ read-in-order-requires c κs =
     (omega (arith, l, f, s .pre .4, s .pre .0 .width-is), s .pre .1)
 
 sub-read-items : tie.Need-sub-read-items
-sub-read-items c = search needs
+sub-read-items c = omega arith
 
 part-read-items-start : tie.Need-part-read-items-start
-part-read-items-start c = search needs
+part-read-items-start c = omega arith
 
 part-read-items-end : tie.Need-part-read-items-end
-part-read-items-end c = search needs
+part-read-items-end c = omega arith
 
 read-items-requires : tie.Need-read-items-requires
 read-items-requires c κs = search needs

@@ -24,10 +24,10 @@ loop-holds : tie.Need-loop-holds Inv-loop μ-loop
 loop-holds c = let s = c .before in filled-none (λ e. getD (s .args .values .now) (callCode (s .args .file .now) (s .args .shape .iids) (s .args .shape .sids) (s .args .iid .0) (means (s .args .shape .sids) e)) (pos 0)) (pos 0) (s .args .sid-index .now) (s .args .out .now) (s .pre .4)
 
 mul-sid-of : tie.Need-mul-sid-of Inv-loop μ-loop
-mul-sid-of c = search needs
+mul-sid-of c = omega arith
 
 shared-slice-copy-out-sid-of : tie.Need-shared-slice-copy-out-sid-of Inv-loop μ-loop
-shared-slice-copy-out-sid-of c = search needs
+shared-slice-copy-out-sid-of c = omega arith
 
 sid-of-requires : tie.Need-sid-of-requires Inv-loop μ-loop
 sid-of-requires c κs = search needs
