@@ -13,8 +13,8 @@ use Rattle.genotype.specs.Value.{i8}
 use Rattle.bed_read.specs.Reading.{readBuffer}
 use Rattle.bed_write.specs.Packing.{placeCode, encodeAnswer, encodeBuffer}
 use Rattle.bed_write.specs.Writing.{valueCode, writeAnswer, writeBuffer}
-use Rattle.mungkelas.specs.declared.BedAnswer.{BedAnswer}
-use Rattle.mungkelas.specs.Interface.{bedAnswer}
+use Rattle.bed_answer.specs.declared.BedAnswer.{BedAnswer}
+use Rattle.bed_answer.specs.Interface.{bedAnswer}
 
 module _ (missing : ℤ) (f : SFits w8 missing) where
   pub read-missing :

@@ -6,8 +6,9 @@ ghost use Rattle.genotype.specs.Block.{divAnswer};
 ghost use Rattle.genotype.specs.Entry.{spanAnswer};
 ghost use Rattle.index.specs.declared.Index.the-variants as Index;
 ghost use Rattle.index.specs.Checks.{indexAnswer, indexBuffer, rangeAnswer};
-ghost use Rattle.mungkelas.specs.Interface.{bedAnswer, boundOf, rangeOf, endOf, sliceOf};
-use super::BedAnswer;
+ghost use Rattle.bed_answer.specs.Interface.{bedAnswer};
+ghost use Rattle.mungkelas.specs.Interface.{boundOf, rangeOf, endOf, sliceOf};
+use bed_answer::BedAnswer;
 use index::Bound;
 use index::Index;
 use index::RangeAny;
@@ -19,7 +20,7 @@ pub extern "C" fn bed_try_div_4(in_iid_count: usize, in_sid_count: usize) -> Bed
     ensures { λ r. ⌜ r ≡ bedAnswer (divAnswer «in_iid_count» «in_sid_count») ⌝ }
 {
     let answer = genotype::blocks::try_div_4(in_iid_count, in_sid_count);
-    super::of_div(answer)
+    bed_answer::of_div(answer)
 }
 
 #[no_mangle]
@@ -27,7 +28,7 @@ pub extern "C" fn bed_byte_span(count: usize, index: &[i64]) -> BedAnswer
     ensures { λ r. ⌜ r ≡ bedAnswer (spanAnswer count (now (index .entry))) ⌝ }
 {
     let answer = genotype::entries::byte_span(count, index);
-    super::of_span(answer)
+    bed_answer::of_span(answer)
 }
 
 // A bound, whose number is not looked at where it is absent.
@@ -82,7 +83,7 @@ pub extern "C" fn bed_to_range(
 {
     let range = range_of(has_start, start, has_end, end);
     let answer = range.to_range(count);
-    super::of_range(answer)
+    bed_answer::of_range(answer)
 }
 
 // The list that an index chooses.
@@ -93,7 +94,7 @@ fn list_of(index: Index, count: usize, vec: &[i64], marks: &[u8], list: &mut [i6
         ⌝ }
 {
     let answer = index.to_vec(count, vec, marks, list);
-    super::of_list(answer)
+    bed_answer::of_list(answer)
 }
 
 #[no_mangle]

@@ -3,7 +3,7 @@ use crate::line::bits_of;
 use crate::line::float_of;
 use crate::line::signed;
 use crate::line::signed8;
-use mungkelas::BedAnswer;
+use bed_answer::BedAnswer;
 
 fn try_div_4(n: &[usize; 8]) -> BedAnswer {
     mungkelas::lists::bed_try_div_4(n[0], n[1])

@@ -5,7 +5,7 @@ mod calls;
 mod line;
 mod shape;
 
-use mungkelas::BedAnswer;
+use bed_answer::BedAnswer;
 
 fn say(text: &[u8]) {
     io::write_all(1, text);

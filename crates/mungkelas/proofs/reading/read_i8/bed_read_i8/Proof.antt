@@ -1,5 +1,5 @@
 -- `bed_read_i8`: what the core answers, told.
-use Rattle.mungkelas.proofs.AnswerLaws.{as-said}
+use Rattle.bed_answer.proofs.AnswerLaws.{as-said}
 use Rattle.mungkelas.proofs.MissingLaws.{read-missing}
 use borrow.Author.Needs.{needs}
 use Rattle.mungkelas.proofs.reading.read_i8.bed_read_i8.Statement.{statement}
