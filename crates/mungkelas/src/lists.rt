@@ -97,6 +97,18 @@ fn list_of(index: Index, count: usize, vec: &[i64], marks: &[u8], list: &mut [i6
     bed_answer::of_list(answer)
 }
 
+// The same, by an index that needs neither entries nor marks.
+fn list_by(index: Index, count: usize, list: &mut [i64]) -> BedAnswer
+    ensures { λ r. ⌜
+        (r ≡ bedAnswer (indexAnswer index count [] [] (length (now (list .entry)))))
+        × (now (list .exit) ≡ indexBuffer index count [] [] (now (list .entry)))
+        ⌝ }
+{
+    let vec = [0i64; 0];
+    let marks = [0u8; 0];
+    list_of(index, count, &vec, &marks, list)
+}
+
 #[no_mangle]
 pub extern "C" fn bed_index_all(count: usize, list: &mut [i64]) -> BedAnswer
     ensures { λ r. ⌜
@@ -104,9 +116,7 @@ pub extern "C" fn bed_index_all(count: usize, list: &mut [i64]) -> BedAnswer
         × (now (list .exit) ≡ indexBuffer Index.All count [] [] (now (list .entry)))
         ⌝ }
 {
-    let vec = [0i64; 0];
-    let marks = [0u8; 0];
-    list_of(Index::All, count, &vec, &marks, list)
+    list_by(Index::All, count, list)
 }
 
 #[no_mangle]
@@ -116,9 +126,7 @@ pub extern "C" fn bed_index_one(count: usize, one: i64, list: &mut [i64]) -> Bed
         × (now (list .exit) ≡ indexBuffer (Index.One one) count [] [] (now (list .entry)))
         ⌝ }
 {
-    let vec = [0i64; 0];
-    let marks = [0u8; 0];
-    list_of(Index::One(one), count, &vec, &marks, list)
+    list_by(Index::One(one), count, list)
 }
 
 #[no_mangle]
@@ -157,10 +165,8 @@ pub extern "C" fn bed_index_range(
         × (now (list .exit) ≡ indexBuffer (Index.RangeAny (rangeOf «has_start» start «has_end» end)) count [] [] (now (list .entry)))
         ⌝ }
 {
-    let vec = [0i64; 0];
-    let marks = [0u8; 0];
     let range = range_of(has_start, start, has_end, end);
-    list_of(Index::RangeAny(range), count, &vec, &marks, list)
+    list_by(Index::RangeAny(range), count, list)
 }
 
 #[no_mangle]
@@ -177,8 +183,6 @@ pub extern "C" fn bed_index_slice(
         × (now (list .exit) ≡ indexBuffer (Index.NDSliceInfo (sliceOf start «has_end» end step)) count [] [] (now (list .entry)))
         ⌝ }
 {
-    let vec = [0i64; 0];
-    let marks = [0u8; 0];
     let slice = slice_of(start, has_end, end, step);
-    list_of(Index::NDSliceInfo(slice), count, &vec, &marks, list)
+    list_by(Index::NDSliceInfo(slice), count, list)
 }

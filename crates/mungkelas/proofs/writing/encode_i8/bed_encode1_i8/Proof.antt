@@ -1,6 +1,4 @@
 -- `bed_encode1_i8`: what the core answers, told.
-use Rattle.bed_answer.proofs.AnswerLaws.{as-fits}
-use Rattle.bed_answer.proofs.FitLaws.{encode-fits}
 use native.Mathlib.Omega.{arith}
 use Rattle.mungkelas.proofs.MissingLaws.{encode-missing}
 use borrow.Author.Needs.{needs}
@@ -17,7 +15,7 @@ same-length : tie.Need-same-length
 same-length c = search needs
 
 returns : tie.Need-returns
-returns c = let s = c .before .before .before .before .before .before in encode-missing (s .args .missing) (s .fits .missing) (s .args .is-a1-counted) (s .args .in-vector .now) (s .args .out-vector .now) (as-fits _ (c .of-encode .ensures) (c .before .before .before .encode1-i8 .ensures .0) (encode-fits _ _ _ (let l = c .before .before .before .before .before .before .good .0 .1 in omega arith)), c .before .before .before .encode1-i8 .ensures .1)
+returns c = let s = c .before .before .before .before .before .before in encode-missing (s .args .missing) (s .fits .missing) (s .args .is-a1-counted) (s .args .in-vector .now) (s .args .out-vector .now) (let l = s .good .0 .1 in omega arith) (c .of-encode .ensures) (c .before .before .before .encode1-i8 .ensures)
 
 pub bed-encode1-i8-spec : {M : Type 1} → statement M
 bed-encode1-i8-spec =
