@@ -16,8 +16,9 @@ use Rattle.index.specs.declared.RangeAny.{RangeAny}
 use Rattle.index.specs.declared.SliceInfo1.{SliceInfo1}
 use Rattle.index.specs.declared.Index.{Index}
 use Rattle.index.specs.Checks.{indexAnswer, indexBuffer}
-use Rattle.mungkelas.specs.declared.BedAnswer.{BedAnswer}
-use Rattle.mungkelas.specs.Interface.{bedAnswer, boundOf, endOf, rangeOf, sliceOf}
+use Rattle.bed_answer.specs.declared.BedAnswer.{BedAnswer}
+use Rattle.bed_answer.specs.Interface.{bedAnswer}
+use Rattle.mungkelas.specs.Interface.{boundOf, endOf, rangeOf, sliceOf}
 
 pub bound-given : (has : Bool) (n : ℕ) → has ≡ true → Bound.At n ≡ boundOf has n
 unfolding boundOf

@@ -1,3 +1,2 @@
 -- What the C interface says over the definitions of the crates that it calls.
 pub mod Interface
-pub mod Inner

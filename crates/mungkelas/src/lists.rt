@@ -6,8 +6,9 @@ ghost use Rattle.genotype.specs.Block.{divAnswer};
 ghost use Rattle.genotype.specs.Entry.{spanAnswer};
 ghost use Rattle.index.specs.declared.Index.the-variants as Index;
 ghost use Rattle.index.specs.Checks.{indexAnswer, indexBuffer, rangeAnswer};
-ghost use Rattle.mungkelas.specs.Interface.{bedAnswer, boundOf, rangeOf, endOf, sliceOf};
-use super::BedAnswer;
+ghost use Rattle.bed_answer.specs.Interface.{bedAnswer};
+ghost use Rattle.mungkelas.specs.Interface.{boundOf, rangeOf, endOf, sliceOf};
+use bed_answer::BedAnswer;
 use index::Bound;
 use index::Index;
 use index::RangeAny;
@@ -19,7 +20,7 @@ pub extern "C" fn bed_try_div_4(in_iid_count: usize, in_sid_count: usize) -> Bed
     ensures { λ r. ⌜ r ≡ bedAnswer (divAnswer «in_iid_count» «in_sid_count») ⌝ }
 {
     let answer = genotype::blocks::try_div_4(in_iid_count, in_sid_count);
-    super::of_div(answer)
+    bed_answer::of_div(answer)
 }
 
 #[no_mangle]
@@ -27,7 +28,7 @@ pub extern "C" fn bed_byte_span(count: usize, index: &[i64]) -> BedAnswer
     ensures { λ r. ⌜ r ≡ bedAnswer (spanAnswer count (now (index .entry))) ⌝ }
 {
     let answer = genotype::entries::byte_span(count, index);
-    super::of_span(answer)
+    bed_answer::of_span(answer)
 }
 
 // A bound, whose number is not looked at where it is absent.
@@ -82,7 +83,7 @@ pub extern "C" fn bed_to_range(
 {
     let range = range_of(has_start, start, has_end, end);
     let answer = range.to_range(count);
-    super::of_range(answer)
+    bed_answer::of_range(answer)
 }
 
 // The list that an index chooses.
@@ -93,7 +94,19 @@ fn list_of(index: Index, count: usize, vec: &[i64], marks: &[u8], list: &mut [i6
         ⌝ }
 {
     let answer = index.to_vec(count, vec, marks, list);
-    super::of_list(answer)
+    bed_answer::of_list(answer)
+}
+
+// The same, by an index that needs neither entries nor marks.
+fn list_by(index: Index, count: usize, list: &mut [i64]) -> BedAnswer
+    ensures { λ r. ⌜
+        (r ≡ bedAnswer (indexAnswer index count [] [] (length (now (list .entry)))))
+        × (now (list .exit) ≡ indexBuffer index count [] [] (now (list .entry)))
+        ⌝ }
+{
+    let vec = [0i64; 0];
+    let marks = [0u8; 0];
+    list_of(index, count, &vec, &marks, list)
 }
 
 #[no_mangle]
@@ -103,9 +116,7 @@ pub extern "C" fn bed_index_all(count: usize, list: &mut [i64]) -> BedAnswer
         × (now (list .exit) ≡ indexBuffer Index.All count [] [] (now (list .entry)))
         ⌝ }
 {
-    let vec = [0i64; 0];
-    let marks = [0u8; 0];
-    list_of(Index::All, count, &vec, &marks, list)
+    list_by(Index::All, count, list)
 }
 
 #[no_mangle]
@@ -115,9 +126,7 @@ pub extern "C" fn bed_index_one(count: usize, one: i64, list: &mut [i64]) -> Bed
         × (now (list .exit) ≡ indexBuffer (Index.One one) count [] [] (now (list .entry)))
         ⌝ }
 {
-    let vec = [0i64; 0];
-    let marks = [0u8; 0];
-    list_of(Index::One(one), count, &vec, &marks, list)
+    list_by(Index::One(one), count, list)
 }
 
 #[no_mangle]
@@ -156,10 +165,8 @@ pub extern "C" fn bed_index_range(
         × (now (list .exit) ≡ indexBuffer (Index.RangeAny (rangeOf «has_start» start «has_end» end)) count [] [] (now (list .entry)))
         ⌝ }
 {
-    let vec = [0i64; 0];
-    let marks = [0u8; 0];
     let range = range_of(has_start, start, has_end, end);
-    list_of(Index::RangeAny(range), count, &vec, &marks, list)
+    list_by(Index::RangeAny(range), count, list)
 }
 
 #[no_mangle]
@@ -176,8 +183,6 @@ pub extern "C" fn bed_index_slice(
         × (now (list .exit) ≡ indexBuffer (Index.NDSliceInfo (sliceOf start «has_end» end step)) count [] [] (now (list .entry)))
         ⌝ }
 {
-    let vec = [0i64; 0];
-    let marks = [0u8; 0];
     let slice = slice_of(start, has_end, end, step);
-    list_of(Index::NDSliceInfo(slice), count, &vec, &marks, list)
+    list_by(Index::NDSliceInfo(slice), count, list)
 }

@@ -3,8 +3,8 @@ ghost use mathlib.Core.Path.{_≡_};
 ghost use lib.Ieee.{binary64};
 ghost use Rattle.root.specs.Root.{root};
 ghost use Rattle.standardise.specs.Standardised.{standardiseAnswer, laterValues, laterStats};
-ghost use Rattle.mungkelas.specs.Interface.{bedAnswer};
-use super::BedAnswer;
+ghost use Rattle.bed_answer.specs.Interface.{bedAnswer};
+use bed_answer::BedAnswer;
 
 #[no_mangle]
 pub extern "C" fn bed_impute_and_zero_mean_snps_f64(
@@ -31,7 +31,7 @@ pub extern "C" fn bed_impute_and_zero_mean_snps_f64(
         use_stats,
         stats,
     );
-    super::of_standardise(answer)
+    bed_answer::of_standardise(answer)
 }
 
 #[no_mangle]

@@ -1,8 +1,8 @@
 // The product pieces.
 ghost use mathlib.Core.Path.{_≡_};
 ghost use Rattle.product.specs.Piece.{ataAnswer, ataLeaves, aatAnswer, aatLeaves};
-ghost use Rattle.mungkelas.specs.Interface.{bedAnswer};
-use super::BedAnswer;
+ghost use Rattle.bed_answer.specs.Interface.{bedAnswer};
+use bed_answer::BedAnswer;
 
 #[no_mangle]
 pub extern "C" fn bed_file_ata_piece(
@@ -30,7 +30,7 @@ pub extern "C" fn bed_file_ata_piece(
         width,
         piece,
     );
-    super::of_piece(answer)
+    bed_answer::of_piece(answer)
 }
 
 #[no_mangle]
@@ -59,5 +59,5 @@ pub extern "C" fn bed_file_aat_piece(
         width,
         piece,
     );
-    super::of_piece(answer)
+    bed_answer::of_piece(answer)
 }

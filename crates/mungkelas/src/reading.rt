@@ -5,19 +5,19 @@ ghost use lib.ListN.{length};
 ghost use Rattle.bed_file.specs.File.{openAnswer};
 ghost use Rattle.canonical.specs.Canonical.{canonicalAnswer, canonicalBuffer};
 ghost use Rattle.read_standardised.specs.Joined.{joinedAnswer, joinedValues, joinedStats};
-ghost use Rattle.mungkelas.specs.Interface.{bedAnswer};
+ghost use Rattle.bed_answer.specs.Interface.{bedAnswer};
 
 pub mod read_f64;
 pub mod read_i8;
 
-use super::BedAnswer;
+use bed_answer::BedAnswer;
 
 #[no_mangle]
 pub extern "C" fn bed_open_and_check(file: &[u8]) -> BedAnswer
     ensures { λ r. ⌜ r ≡ bedAnswer (openAnswer (now (file .entry))) ⌝ }
 {
     let answer = bed_file::open_and_check(file);
-    super::of_open(answer)
+    bed_answer::of_open(answer)
 }
 
 #[no_mangle]
@@ -33,7 +33,7 @@ pub extern "C" fn bed_canonical(
         ⌝ }
 {
     let answer = canonical::canonical(file, iid_count, sid_count, out);
-    super::of_canonical(answer)
+    bed_answer::of_canonical(answer)
 }
 
 #[no_mangle]
@@ -65,5 +65,5 @@ pub extern "C" fn bed_read_standardised_f64(
         val,
         stats,
     );
-    super::of_joined(answer)
+    bed_answer::of_joined(answer)
 }

@@ -3,8 +3,8 @@ ghost use mathlib.Core.Path.{_≡_};
 ghost use lib.ListN.{length};
 ghost use Rattle.genotype.specs.Value.{i8};
 ghost use Rattle.bed_read.specs.Reading.{readAnswer, readBuffer};
-ghost use Rattle.mungkelas.specs.Interface.{bedAnswer};
-use crate::BedAnswer;
+ghost use Rattle.bed_answer.specs.Interface.{bedAnswer};
+use bed_answer::BedAnswer;
 
 #[no_mangle]
 pub extern "C" fn bed_read_i8(
@@ -34,5 +34,5 @@ pub extern "C" fn bed_read_i8(
         animal_order,
         val,
     );
-    crate::of_read(answer)
+    bed_answer::of_read(answer)
 }

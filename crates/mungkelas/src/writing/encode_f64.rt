@@ -3,8 +3,8 @@ ghost use mathlib.Core.Path.{_≡_};
 ghost use lib.ListN.{length};
 ghost use Rattle.genotype.specs.Value.{float};
 ghost use Rattle.bed_write.specs.Packing.{placeCode, encodeAnswer, encodeBuffer};
-ghost use Rattle.mungkelas.specs.Interface.{bedAnswer};
-use crate::BedAnswer;
+ghost use Rattle.bed_answer.specs.Interface.{bedAnswer};
+use bed_answer::BedAnswer;
 
 #[no_mangle]
 pub extern "C" fn bed_encode1_f64(
@@ -24,5 +24,5 @@ pub extern "C" fn bed_encode1_f64(
         is_a1_counted,
         missing,
     );
-    crate::of_encode(answer)
+    bed_answer::of_encode(answer)
 }

@@ -3,8 +3,8 @@ ghost use mathlib.Core.Path.{_≡_};
 ghost use lib.ListN.{length};
 ghost use Rattle.genotype.specs.Value.{float};
 ghost use Rattle.bed_write.specs.Writing.{valueCode, writeAnswer, writeBuffer};
-ghost use Rattle.mungkelas.specs.Interface.{bedAnswer};
-use crate::BedAnswer;
+ghost use Rattle.bed_answer.specs.Interface.{bedAnswer};
+use bed_answer::BedAnswer;
 
 #[no_mangle]
 pub extern "C" fn bed_write_f64(
@@ -30,5 +30,5 @@ pub extern "C" fn bed_write_f64(
         missing,
         out,
     );
-    crate::of_write(answer)
+    bed_answer::of_write(answer)
 }

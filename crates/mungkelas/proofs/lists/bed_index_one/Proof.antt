@@ -8,27 +8,19 @@ use borrow.Author.Needs.{needs}
 use Rattle.mungkelas.proofs.lists.bed_index_one.Statement.{statement}
 use Rattle.mungkelas.proofs.lists.bed_index_one.Tie as tie
 
-slice-aggregate-list-of : tie.Need-slice-aggregate-list-of
-slice-aggregate-list-of c = search needs
-
-slice-aggregate-list-of-2 : tie.Need-slice-aggregate-list-of-2
-slice-aggregate-list-of-2 c = search needs
-
-list-of-requires : tie.Need-list-of-requires
-list-of-requires c κs = search needs
+list-by-requires : tie.Need-list-by-requires
+list-by-requires c κs = search needs
 
 same-length : tie.Need-same-length
 same-length c = search needs
 
 returns : tie.Need-returns
-returns c = let s = c .before .before .before .before .before in by-index (s .args .count) (s .args .list .now) (ap Index.One (toZ-ofZ w64 (s .args .one) (s .fits .one))) (c .before .list-of .ensures)
+returns c = let s = c .before .before .before in by-index (s .args .count) (s .args .list .now) (ap Index.One (toZ-ofZ w64 (s .args .one) (s .fits .one))) (c .before .list-by .ensures)
 
 pub bed-index-one-spec : {M : Type 1} → statement M
 bed-index-one-spec =
     tie.close
     (tie.spec
-    slice-aggregate-list-of
-    slice-aggregate-list-of-2
-    list-of-requires
+    list-by-requires
     same-length
     returns)

@@ -9,28 +9,20 @@ use Rattle.mungkelas.proofs.lists.bed_index_range.Tie as tie
 range-of-requires : tie.Need-range-of-requires
 range-of-requires c κs = search needs
 
-slice-aggregate-list-of : tie.Need-slice-aggregate-list-of
-slice-aggregate-list-of c = search needs
-
-slice-aggregate-list-of-2 : tie.Need-slice-aggregate-list-of-2
-slice-aggregate-list-of-2 c = search needs
-
-list-of-requires : tie.Need-list-of-requires
-list-of-requires c κs = search needs
+list-by-requires : tie.Need-list-by-requires
+list-by-requires c κs = search needs
 
 same-length : tie.Need-same-length
 same-length c = search needs
 
 returns : tie.Need-returns
-returns c = let s = c .before .before .before .before .before .before in by-index (s .args .count) (s .args .list .now) (ap Index.RangeAny (c .before .before .before .before .before .range-of .ensures)) (c .before .list-of .ensures)
+returns c = let s = c .before .before .before .before in by-index (s .args .count) (s .args .list .now) (ap Index.RangeAny (c .before .before .before .range-of .ensures)) (c .before .list-by .ensures)
 
 pub bed-index-range-spec : {M : Type 1} → statement M
 bed-index-range-spec =
     tie.close
     (tie.spec
     range-of-requires
-    slice-aggregate-list-of
-    slice-aggregate-list-of-2
-    list-of-requires
+    list-by-requires
     same-length
     returns)

@@ -1,8 +1,6 @@
 -- `list_of`: what the core answers, told.
-use mathlib.Core.Path.{sym, subst}
-use Rattle.mungkelas.specs.Inner.{Fits}
-use Rattle.mungkelas.proofs.AnswerLaws.{as-said}
-use Rattle.mungkelas.proofs.FitLaws.{list-fits}
+use Rattle.bed_answer.proofs.AnswerLaws.{as-fits}
+use Rattle.bed_answer.proofs.FitLaws.{list-fits}
 use native.Mathlib.Omega.{arith}
 use borrow.Author.Needs.{needs}
 use Rattle.mungkelas.proofs.lists.list_of.Statement.{statement}
@@ -12,13 +10,13 @@ to-vec-requires : tie.Need-to-vec-requires
 to-vec-requires c κs = search needs
 
 of-list-requires : tie.Need-of-list-requires
-of-list-requires c κs = subst Fits (sym (c .before .to-vec .ensures .0)) (list-fits _ _ _ _ _ (let l = c .before .before .before .before .good .1 .1 .1 .1 .0 .1 in omega arith))
+of-list-requires c κs = search needs
 
 same-length : tie.Need-same-length
 same-length c = search needs
 
 returns : tie.Need-returns
-returns c = (as-said (c .of-list .ensures) (c .before .before .to-vec .ensures .0), c .before .before .to-vec .ensures .1)
+returns c = (as-fits _ (c .of-list .ensures) (c .before .before .to-vec .ensures .0) (list-fits _ _ _ _ _ (let l = c .before .before .before .before .before .good .1 .1 .1 .1 .0 .1 in omega arith)), c .before .before .to-vec .ensures .1)
 
 pub list-of-spec : {M : Type 1} → statement M
 list-of-spec = tie.close (tie.spec to-vec-requires of-list-requires same-length returns)

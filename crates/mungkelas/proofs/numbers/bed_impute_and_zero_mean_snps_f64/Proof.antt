@@ -1,8 +1,6 @@
 -- `bed_impute_and_zero_mean_snps_f64`: what the core answers, told.
-use mathlib.Core.Path.{sym, subst}
-use Rattle.mungkelas.specs.Inner.{Fits}
-use Rattle.mungkelas.proofs.AnswerLaws.{as-said}
-use Rattle.mungkelas.proofs.FitLaws.{standardise-fits}
+use Rattle.bed_answer.proofs.AnswerLaws.{as-fits}
+use Rattle.bed_answer.proofs.FitLaws.{standardise-fits}
 use borrow.Author.Needs.{needs}
 use Rattle.mungkelas.proofs.numbers.bed_impute_and_zero_mean_snps_f64.Statement.{statement}
 use Rattle.mungkelas.proofs.numbers.bed_impute_and_zero_mean_snps_f64.Tie as tie
@@ -11,7 +9,7 @@ impute-and-zero-mean-snps-f64-requires : tie.Need-impute-and-zero-mean-snps-f64-
 impute-and-zero-mean-snps-f64-requires c κs = search needs
 
 of-standardise-requires : tie.Need-of-standardise-requires
-of-standardise-requires c κs = subst Fits (sym (c .before .before .before .before .impute-and-zero-mean-snps-f64 .ensures .0)) (standardise-fits _ _ _ _ _ _ _)
+of-standardise-requires c κs = search needs
 
 same-length : tie.Need-same-length
 same-length c = search needs
@@ -20,7 +18,7 @@ same-length-2 : tie.Need-same-length-2
 same-length-2 c = search needs
 
 returns : tie.Need-returns
-returns c = (as-said (c .of-standardise .ensures) (c .before .before .before .before .before .impute-and-zero-mean-snps-f64 .ensures .0), c .before .before .before .before .before .impute-and-zero-mean-snps-f64 .ensures .1, c .before .before .before .before .before .impute-and-zero-mean-snps-f64 .ensures .2)
+returns c = (as-fits _ (c .of-standardise .ensures) (c .before .before .before .before .before .impute-and-zero-mean-snps-f64 .ensures .0) (standardise-fits _ _ _ _ _ _ _), c .before .before .before .before .before .impute-and-zero-mean-snps-f64 .ensures .1, c .before .before .before .before .before .impute-and-zero-mean-snps-f64 .ensures .2)
 
 pub bed-impute-and-zero-mean-snps-f64-spec : {M : Type 1} → statement M
 bed-impute-and-zero-mean-snps-f64-spec =

@@ -1,5 +1,5 @@
 -- `bed_file_ata_piece`: what the core answers, told.
-use Rattle.mungkelas.proofs.AnswerLaws.{as-said}
+use Rattle.bed_answer.proofs.AnswerLaws.{as-said}
 use borrow.Author.Needs.{needs}
 use Rattle.mungkelas.proofs.products.bed_file_ata_piece.Statement.{statement}
 use Rattle.mungkelas.proofs.products.bed_file_ata_piece.Tie as tie

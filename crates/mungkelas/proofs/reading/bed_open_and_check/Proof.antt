@@ -1,5 +1,5 @@
 -- `bed_open_and_check`: what the core answers, told.
-use Rattle.mungkelas.proofs.AnswerLaws.{as-said}
+use Rattle.bed_answer.proofs.AnswerLaws.{as-said}
 use borrow.Author.Needs.{needs}
 use Rattle.mungkelas.proofs.reading.bed_open_and_check.Statement.{statement}
 use Rattle.mungkelas.proofs.reading.bed_open_and_check.Tie as tie

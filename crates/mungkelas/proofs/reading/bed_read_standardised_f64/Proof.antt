@@ -1,8 +1,6 @@
 -- `bed_read_standardised_f64`: what the core answers, told.
-use mathlib.Core.Path.{sym, subst}
-use Rattle.mungkelas.specs.Inner.{Fits}
-use Rattle.mungkelas.proofs.AnswerLaws.{as-said}
-use Rattle.mungkelas.proofs.FitLaws.{joined-fits}
+use Rattle.bed_answer.proofs.AnswerLaws.{as-fits}
+use Rattle.bed_answer.proofs.FitLaws.{joined-fits}
 use native.Mathlib.Omega.{arith}
 use borrow.Author.Needs.{needs}
 use Rattle.mungkelas.proofs.reading.bed_read_standardised_f64.Statement.{statement}
@@ -12,7 +10,7 @@ read-standardised-f64-requires : tie.Need-read-standardised-f64-requires
 read-standardised-f64-requires c κs = search needs
 
 of-joined-requires : tie.Need-of-joined-requires
-of-joined-requires c κs = subst Fits (sym (c .before .before .before .before .read-standardised-f64 .ensures .0)) (joined-fits _ _ _ _ _ _ _ _ _ _ (let l = c .before .before .before .before .before .before .before .before .before .before .good .1 .1 .1 .1 .1 .0 .1 in omega arith))
+of-joined-requires c κs = search needs
 
 same-length : tie.Need-same-length
 same-length c = search needs
@@ -21,7 +19,7 @@ same-length-2 : tie.Need-same-length-2
 same-length-2 c = search needs
 
 returns : tie.Need-returns
-returns c = (as-said (c .of-joined .ensures) (c .before .before .before .before .before .read-standardised-f64 .ensures .0), c .before .before .before .before .before .read-standardised-f64 .ensures .1, c .before .before .before .before .before .read-standardised-f64 .ensures .2)
+returns c = (as-fits _ (c .of-joined .ensures) (c .before .before .before .before .before .read-standardised-f64 .ensures .0) (joined-fits _ _ _ _ _ _ _ _ _ _ (let l = c .before .before .before .before .before .before .before .before .before .before .before .good .1 .1 .1 .1 .1 .0 .1 in omega arith)), c .before .before .before .before .before .read-standardised-f64 .ensures .1, c .before .before .before .before .before .read-standardised-f64 .ensures .2)
 
 pub bed-read-standardised-f64-spec : {M : Type 1} → statement M
 bed-read-standardised-f64-spec =

@@ -1,5 +1,5 @@
 -- `bed_read_f64`: what the core answers, told.
-use Rattle.mungkelas.proofs.AnswerLaws.{as-said}
+use Rattle.bed_answer.proofs.AnswerLaws.{as-said}
 use borrow.Author.Needs.{needs}
 use Rattle.mungkelas.proofs.reading.read_f64.bed_read_f64.Statement.{statement}
 use Rattle.mungkelas.proofs.reading.read_f64.bed_read_f64.Tie as tie

@@ -1,8 +1,6 @@
 -- `bed_encode1_f64`: what the core answers, told.
-use mathlib.Core.Path.{sym, subst}
-use Rattle.mungkelas.specs.Inner.{Fits}
-use Rattle.mungkelas.proofs.AnswerLaws.{as-said}
-use Rattle.mungkelas.proofs.FitLaws.{encode-fits}
+use Rattle.bed_answer.proofs.AnswerLaws.{as-fits}
+use Rattle.bed_answer.proofs.FitLaws.{encode-fits}
 use native.Mathlib.Omega.{arith}
 use borrow.Author.Needs.{needs}
 use Rattle.mungkelas.proofs.writing.encode_f64.bed_encode1_f64.Statement.{statement}
@@ -12,13 +10,13 @@ encode1-f64-requires : tie.Need-encode1-f64-requires
 encode1-f64-requires c κs = search needs
 
 of-encode-requires : tie.Need-of-encode-requires
-of-encode-requires c κs = subst Fits (sym (c .before .before .encode1-f64 .ensures .0)) (encode-fits _ _ _ (let l = c .before .before .before .before .before .before .good .0 .0 in omega arith))
+of-encode-requires c κs = search needs
 
 same-length : tie.Need-same-length
 same-length c = search needs
 
 returns : tie.Need-returns
-returns c = (as-said (c .of-encode .ensures) (c .before .before .before .encode1-f64 .ensures .0), c .before .before .before .encode1-f64 .ensures .1)
+returns c = (as-fits _ (c .of-encode .ensures) (c .before .before .before .encode1-f64 .ensures .0) (encode-fits _ _ _ (let l = c .before .before .before .before .before .before .before .good .0 .0 in omega arith)), c .before .before .before .encode1-f64 .ensures .1)
 
 pub bed-encode1-f64-spec : {M : Type 1} → statement M
 bed-encode1-f64-spec =

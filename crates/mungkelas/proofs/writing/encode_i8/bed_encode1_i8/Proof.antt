@@ -1,8 +1,4 @@
 -- `bed_encode1_i8`: what the core answers, told.
-use mathlib.Core.Path.{sym, subst}
-use Rattle.mungkelas.specs.Inner.{Fits}
-use Rattle.mungkelas.proofs.AnswerLaws.{as-said}
-use Rattle.mungkelas.proofs.FitLaws.{encode-fits}
 use native.Mathlib.Omega.{arith}
 use Rattle.mungkelas.proofs.MissingLaws.{encode-missing}
 use borrow.Author.Needs.{needs}
@@ -13,13 +9,13 @@ encode1-i8-requires : tie.Need-encode1-i8-requires
 encode1-i8-requires c κs = search needs
 
 of-encode-requires : tie.Need-of-encode-requires
-of-encode-requires c κs = subst Fits (sym (c .before .before .encode1-i8 .ensures .0)) (encode-fits _ _ _ (let l = c .before .before .before .before .before .good .0 .1 in omega arith))
+of-encode-requires c κs = search needs
 
 same-length : tie.Need-same-length
 same-length c = search needs
 
 returns : tie.Need-returns
-returns c = let s = c .before .before .before .before .before .before in encode-missing (s .args .missing) (s .fits .missing) (s .args .is-a1-counted) (s .args .in-vector .now) (s .args .out-vector .now) (as-said (c .of-encode .ensures) (c .before .before .before .encode1-i8 .ensures .0), c .before .before .before .encode1-i8 .ensures .1)
+returns c = let s = c .before .before .before .before .before .before in encode-missing (s .args .missing) (s .fits .missing) (s .args .is-a1-counted) (s .args .in-vector .now) (s .args .out-vector .now) (let l = s .good .0 .1 in omega arith) (c .of-encode .ensures) (c .before .before .before .encode1-i8 .ensures)
 
 pub bed-encode1-i8-spec : {M : Type 1} → statement M
 bed-encode1-i8-spec =

@@ -1,8 +1,6 @@
 -- `bed_write_f64`: what the core answers, told.
-use mathlib.Core.Path.{sym, subst}
-use Rattle.mungkelas.specs.Inner.{Fits}
-use Rattle.mungkelas.proofs.AnswerLaws.{as-said}
-use Rattle.mungkelas.proofs.FitLaws.{write-fits}
+use Rattle.bed_answer.proofs.AnswerLaws.{as-fits}
+use Rattle.bed_answer.proofs.FitLaws.{write-fits}
 use borrow.Author.Needs.{needs}
 use Rattle.mungkelas.proofs.writing.write_f64.bed_write_f64.Statement.{statement}
 use Rattle.mungkelas.proofs.writing.write_f64.bed_write_f64.Tie as tie
@@ -11,13 +9,13 @@ write-val-f64-requires : tie.Need-write-val-f64-requires
 write-val-f64-requires c κs = search needs
 
 of-write-requires : tie.Need-of-write-requires
-of-write-requires c κs = subst Fits (sym (c .before .before .write-val-f64 .ensures .0)) (write-fits _ _ _ _ _)
+of-write-requires c κs = search needs
 
 same-length : tie.Need-same-length
 same-length c = search needs
 
 returns : tie.Need-returns
-returns c = (as-said (c .of-write .ensures) (c .before .before .before .write-val-f64 .ensures .0), c .before .before .before .write-val-f64 .ensures .1)
+returns c = (as-fits _ (c .of-write .ensures) (c .before .before .before .write-val-f64 .ensures .0) (write-fits _ _ _ _ _), c .before .before .before .write-val-f64 .ensures .1)
 
 pub bed-write-f64-spec : {M : Type 1} → statement M
 bed-write-f64-spec =

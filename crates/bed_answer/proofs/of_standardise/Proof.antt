@@ -1,0 +1,90 @@
+-- `of_standardise`, case by case.
+use Rattle.standardise.specs.Standardised.{standardiseSays}
+use Rattle.bed_answer.specs.Interface.{bedAnswer, numberOf, valuesOf, clip, carriesEntry, clipAnswer}
+use Rattle.bed_answer.proofs.AnswerLaws.{told}
+use borrow.Author.Needs.{needs}
+use Rattle.bed_answer.proofs.of_standardise.Statement.{statement}
+use Rattle.bed_answer.proofs.of_standardise.Tie as tie
+
+enum-told : tie.Need-enum-told
+enum-told c = search needs
+
+bare-requires : tie.Need-bare-requires
+bare-requires c κs = search needs
+
+enum-told-2 : tie.Need-enum-told-2
+enum-told-2 c = search needs
+
+bare-requires-2 : tie.Need-bare-requires-2
+bare-requires-2 c κs = search needs
+
+enum-told-3 : tie.Need-enum-told-3
+enum-told-3 c = search needs
+
+bare-requires-3 : tie.Need-bare-requires-3
+bare-requires-3 c κs = search needs
+
+enum-told-4 : tie.Need-enum-told-4
+enum-told-4 c = search needs
+
+bare-requires-4 : tie.Need-bare-requires-4
+bare-requires-4 c κs = search needs
+
+enum-known-answer : tie.Need-enum-known-answer
+enum-known-answer c = search needs
+
+one-requires : tie.Need-one-requires
+one-requires c κs = search needs
+
+enum-known-answer-2 : tie.Need-enum-known-answer-2
+enum-known-answer-2 c = search needs
+
+one-requires-2 : tie.Need-one-requires-2
+one-requires-2 c κs = search needs
+
+returns : tie.Need-returns
+unfolding bedAnswer numberOf valuesOf clipAnswer clip carriesEntry standardiseSays
+returns c = told (λ a. clipAnswer (standardiseSays a)) _ (c .bare .ensures) (c .before .enum-told .given .1)
+
+returns-2 : tie.Need-returns-2
+unfolding bedAnswer numberOf valuesOf clipAnswer clip carriesEntry standardiseSays
+returns-2 c = told (λ a. clipAnswer (standardiseSays a)) _ (c .bare2 .ensures) (c .before .enum-told2 .given .1)
+
+returns-3 : tie.Need-returns-3
+unfolding bedAnswer numberOf valuesOf clipAnswer clip carriesEntry standardiseSays
+returns-3 c = told (λ a. clipAnswer (standardiseSays a)) _ (c .bare3 .ensures) (c .before .enum-told3 .given .1)
+
+returns-4 : tie.Need-returns-4
+unfolding bedAnswer numberOf valuesOf clipAnswer clip carriesEntry standardiseSays
+returns-4 c = told (λ a. clipAnswer (standardiseSays a)) _ (c .bare4 .ensures) (c .before .enum-told4 .given .1)
+
+returns-5 : tie.Need-returns-5
+unfolding bedAnswer numberOf valuesOf clipAnswer clip carriesEntry standardiseSays
+returns-5 c = told (λ a. clipAnswer (standardiseSays a)) _ (c .one .ensures) (c .before .before .answer .given .1)
+
+returns-6 : tie.Need-returns-6
+unfolding bedAnswer numberOf valuesOf clipAnswer clip carriesEntry standardiseSays
+returns-6 c = told (λ a. clipAnswer (standardiseSays a)) _ (c .one2 .ensures) (c .before .before .answer2 .given .1)
+
+pub of-standardise-spec : {M : Type 1} → statement M
+of-standardise-spec =
+    tie.close
+    (tie.spec
+    enum-told
+    bare-requires
+    enum-told-2
+    bare-requires-2
+    enum-told-3
+    bare-requires-3
+    enum-told-4
+    bare-requires-4
+    enum-known-answer
+    one-requires
+    enum-known-answer-2
+    one-requires-2
+    returns
+    returns-2
+    returns-3
+    returns-4
+    returns-5
+    returns-6)
