@@ -17,7 +17,7 @@ fn to_range(n: &[usize; 8]) -> BedAnswer {
     mungkelas::lists::bed_to_range(n[0], n[1] == 1, n[2], n[3] == 1, n[4])
 }
 
-pub(crate) fn read_i8(
+fn read_i8(
     n: &[usize; 8],
     file: &[u8],
     iid_index: &[i64],
@@ -37,7 +37,7 @@ pub(crate) fn read_i8(
     )
 }
 
-pub(crate) fn read_f64(
+fn read_f64(
     n: &[usize; 8],
     file: &[u8],
     iid_index: &[i64],
@@ -94,15 +94,11 @@ fn write_f64(n: &[usize; 8], val: &[f64], out: &mut [u8]) -> BedAnswer {
     )
 }
 
-pub(crate) fn canonical(n: &[usize; 8], file: &[u8], out: &mut [u8]) -> BedAnswer {
+fn canonical(n: &[usize; 8], file: &[u8], out: &mut [u8]) -> BedAnswer {
     mungkelas::reading::bed_canonical(file, n[0], n[1], out)
 }
 
-pub(crate) fn impute_and_zero_mean_snps_f64(
-    n: &[usize; 8],
-    val: &mut [f64],
-    stats: &mut [f64],
-) -> BedAnswer {
+fn impute_and_zero_mean_snps_f64(n: &[usize; 8], val: &mut [f64], stats: &mut [f64]) -> BedAnswer {
     mungkelas::numbers::bed_impute_and_zero_mean_snps_f64(
         val,
         n[0],
@@ -114,7 +110,7 @@ pub(crate) fn impute_and_zero_mean_snps_f64(
     )
 }
 
-pub(crate) fn read_standardised_f64(
+fn read_standardised_f64(
     n: &[usize; 8],
     file: &[u8],
     iid_index: &[i64],
@@ -193,92 +189,68 @@ fn unknown() -> BedAnswer {
     }
 }
 
-// What the library answers to the calls on numbers alone.
-pub(crate) fn number_answer(call: usize, n: &[usize; 8]) -> BedAnswer {
+// What it answers to the calls that make lists, and to those on numbers alone.
+fn list_answer(
+    call: usize,
+    n: &[usize; 8],
+    bytes: &[u8],
+    index: &[i64],
+    list: &mut [i64],
+) -> BedAnswer {
     match call {
         2 => try_div_4(n),
+        3 => byte_span(n, index),
         4 => to_range(n),
+        14 => index_all(n, list),
+        15 => index_one(n, list),
+        16 => index_vec(n, index, list),
+        17 => index_bool(n, bytes, list),
+        18 => index_range(n, list),
+        19 => index_slice(n, list),
         22 => root_f64(n),
         _ => unknown(),
     }
 }
 
-// To 1 and 17.
-pub(crate) fn bytes_answer(
+// What it answers to the calls that write bytes.
+fn writing_answer(
     call: usize,
     n: &[usize; 8],
     bytes: &[u8],
-    list: &mut [i64],
+    out: &mut [u8],
+    i8s: &[i8],
+    f64s: &[f64],
 ) -> BedAnswer {
-    if call == 1 {
-        mungkelas::reading::bed_open_and_check(bytes)
-    } else {
-        index_bool(n, bytes, list)
-    }
-}
-
-// To 14, 15, 18 and 19.
-pub(crate) fn list_answer(call: usize, n: &[usize; 8], list: &mut [i64]) -> BedAnswer {
     match call {
-        14 => index_all(n, list),
-        15 => index_one(n, list),
-        18 => index_range(n, list),
-        _ => index_slice(n, list),
+        7 => encode1_i8(n, i8s, out),
+        8 => encode1_f64(n, f64s, out),
+        9 => write_i8(n, i8s, out),
+        10 => write_f64(n, f64s, out),
+        _ => canonical(n, bytes, out),
     }
 }
 
-// To 3 and 16.
-pub(crate) fn index_answer(
+// What the library answers.
+pub(crate) fn answer_of(
     call: usize,
     n: &[usize; 8],
+    bytes: &[u8],
+    out: &mut [u8],
     index: &[i64],
     list: &mut [i64],
+    i8s: &mut [i8],
+    f64s: &mut [f64],
+    stats: &mut [f64],
 ) -> BedAnswer {
-    if call == 3 {
-        byte_span(n, index)
-    } else {
-        index_vec(n, index, list)
-    }
-}
-
-// To 7 and 9.
-pub(crate) fn writing_i8_answer(
-    call: usize,
-    n: &[usize; 8],
-    val: &[i8],
-    out: &mut [u8],
-) -> BedAnswer {
-    if call == 7 {
-        encode1_i8(n, val, out)
-    } else {
-        write_i8(n, val, out)
-    }
-}
-
-// To 8 and 10.
-pub(crate) fn writing_f64_answer(
-    call: usize,
-    n: &[usize; 8],
-    val: &[f64],
-    out: &mut [u8],
-) -> BedAnswer {
-    if call == 8 {
-        encode1_f64(n, val, out)
-    } else {
-        write_f64(n, val, out)
-    }
-}
-
-// To 20 and 21.
-pub(crate) fn piece_answer(
-    call: usize,
-    n: &[usize; 8],
-    file: &[u8],
-    piece: &mut [f64],
-) -> BedAnswer {
-    if call == 20 {
-        file_ata_piece(n, file, piece)
-    } else {
-        file_aat_piece(n, file, piece)
+    match call {
+        1 => mungkelas::reading::bed_open_and_check(bytes),
+        5 => read_i8(n, bytes, index, list, i8s),
+        6 => read_f64(n, bytes, index, list, f64s),
+        7..=11 => writing_answer(call, n, bytes, out, i8s, f64s),
+        12 => impute_and_zero_mean_snps_f64(n, f64s, stats),
+        13 => read_standardised_f64(n, bytes, index, list, f64s, stats),
+        20 => file_ata_piece(n, bytes, f64s),
+        21 => file_aat_piece(n, bytes, f64s),
+        _ => list_answer(call, n, bytes, index, list),
     }
 }

@@ -102,17 +102,6 @@ pub(crate) fn length(words: &[usize; 512], at: usize) -> usize
     if n < 64 { n } else { 64 }
 }
 
-// Where the buffer of a kind is: the kinds are shape's, 8 further on for a buffer afterwards.
-pub(crate) fn place(places: &[usize; 16], kind: usize) -> usize {
-    if kind < 16 { places[kind] } else { 1024 }
-}
-
-pub(crate) fn length_of(words: &[usize; 512], places: &[usize; 16], kind: usize) -> usize
-    ensures { λ r. ⌜ r ≤ 64 ⌝ }
-{
-    length(words, place(places, kind))
-}
-
 // The place after a buffer, or past every line if the buffer is too long.
 pub(crate) fn after(words: &[usize; 512], at: usize) -> usize {
     if word(words, at) > 64 {
