@@ -98,10 +98,10 @@ module _ (src : List Float) (from width : ℕ) (old : List Float) where
 
 -- up to four places of a list, each written, some of them twice
 module _ (g : ℕ → Float) where
-  written : (l : List Float) (i : ℕ) (x : Float) → i < length l → x ≡ g i → getD (set l i x) i nan ≡ g i
+  pub written : (l : List Float) (i : ℕ) (x : Float) → i < length l → x ≡ g i → getD (set l i x) i nan ≡ g i
   written l i x b e = getD-set-same l i x nan b ∙ e
 
-  kept : (l : List Float) (i j : ℕ) (x : Float) → i < length l → x ≡ g i → getD l j nan ≡ g j → getD (set l i x) j nan ≡ g j
+  pub kept : (l : List Float) (i j : ℕ) (x : Float) → i < length l → x ≡ g i → getD l j nan ≡ g j → getD (set l i x) j nan ≡ g j
   kept l i j x b e o =
       ⊎-elim (λ d. getD-set-other l i j x nan (λ q. omega arith) ∙ o)
       (λ d. ⊎-elim (λ d'. getD-set-other l i j x nan (λ q. omega arith) ∙ o) (λ d'. let q : i ≡ j = omega arith in subst (λ (z : ℕ). getD (set l i x) z nan ≡ g z) q (written l i x b e)) (below-or i j))

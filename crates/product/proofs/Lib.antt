@@ -2,6 +2,7 @@ pub mod Bytes
 pub mod InPlace
 pub mod Sums
 pub mod Columns
+pub mod RowValues
 pub mod Rows
 pub mod Parts
 pub mod Tile
