@@ -82,6 +82,9 @@ module _ (f : Format) (bytes : List ℕ) (at step n : ℕ) (x sums out : List Fl
           (below-or t 2))
           (below-or t 1)
 
+  pub four-of : n ≡ 4 → out ≡ tabulate (length sums) (λ j. sumMore f (getD sums j nan) value (λ i. getD x (i * 64 + j) nan) 4) → Grown
+  four-of e4 e = e ∙ ap (λ (m : ℕ). tabulate (length sums) (λ j. sumMore f (getD sums j nan) value (λ i. getD x (i * 64 + j) nan) m)) (sym e4)
+
   pub loaded-values : (y yp : List Float) → n ≤ length y
       → yp ≡ tabulate (length (take (n - 0) y)) value
       → out ≡ tabulate (length sums) (λ j. sumMore f (getD sums j nan) (λ i. getD (yp ++ drop (n - 0) y) i nan) (λ i. getD x (i * 64 + j) nan) n)

@@ -190,22 +190,17 @@ fn add_many(x: &[f64], y: &[f64; 32], n: usize, sums: &mut [f64])
     }
 }
 
-// Adds the products of the first n values, from a place on and step values apart, to each sum, upward.
-fn add_row(bytes: &[u8], at: usize, step: usize, n: usize, x: &[f64], sums: &mut [f64])
-    requires { ⌜ (n ≤ 32) × (length (now x) ≡ 2048) × (length (now sums) ≤ 64) × ((i : ℕ) → i < n → at + 8 * (i * step) + 8 ≤ length (now bytes)) ⌝ }
-    ensures { λ _. ⌜ now (sums .exit) ≡ tabulate (length (now (sums .entry))) (λ j. sumMore binary64 (getD (now (sums .entry)) j nan) (λ i. floatAt (now (bytes .entry)) (at + 8 * (i * step))) (λ i. getD (now (x .entry)) (i * 64 + j) nan) n) ⌝ }
+// Adds the products of the four values from a place on and step values apart to each sum, upward.
+fn add_row_of_four(bytes: &[u8], at: usize, step: usize, x: &[f64], sums: &mut [f64])
+    requires { ⌜ (length (now x) ≡ 2048) × (length (now sums) ≤ 64) × ((i : ℕ) → i < 4 → at + 8 * (i * step) + 8 ≤ length (now bytes)) ⌝ }
+    ensures { λ _. ⌜ now (sums .exit) ≡ tabulate (length (now (sums .entry))) (λ j. sumMore binary64 (getD (now (sums .entry)) j nan) (λ i. floatAt (now (bytes .entry)) (at + 8 * (i * step))) (λ i. getD (now (x .entry)) (i * 64 + j) nan) 4) ⌝ }
 {
     let mut y = [0.0f64; 32];
-    if n == 4 {
-        y[0] = float_at(bytes, at);
-        y[1] = float_at(bytes, at + 8 * step);
-        y[2] = float_at(bytes, at + 8 * (2 * step));
-        y[3] = float_at(bytes, at + 8 * (3 * step));
-        add_four(x, &y, 0, sums);
-        return;
-    }
-    load(bytes, at, step, &mut y[0..n]);
-    add_many(x, &y, n, sums);
+    y[0] = float_at(bytes, at);
+    y[1] = float_at(bytes, at + 8 * step);
+    y[2] = float_at(bytes, at + 8 * (2 * step));
+    y[3] = float_at(bytes, at + 8 * (3 * step));
+    add_four(x, &y, 0, sums);
 }
 
 // Adds terms k to k + n - 1 to the sums of columns c to c + m - 1, in each row as far as the diagonal.
@@ -226,12 +221,18 @@ fn add_rows(
     requires { ⌜ (0 < n) × (n ≤ 32) × (0 < m) × (m ≤ 64) × (c + m ≤ width) × (length (now x) ≡ 2048) × LinesIn (length (now bytes)) base line step height k n × ((i j : ℕ) → i < n → j < m → getD (now x) (i * 64 + j) nan ≡ lineValue (now bytes) base line step (c + j) (k + i)) × (now piece ≡ lowerPiece binary64 height width (lineValue (now bytes) base line step) (λ r' c'. cond (ltb c' c) (k + n) k)) ⌝ }
     ensures { λ _. ⌜ now (piece .exit) ≡ lowerPiece binary64 height width (lineValue (now (bytes .entry)) base line step) (λ r' c'. cond (ltb c' (c + m)) (k + n) k) ⌝ }
 {
+    let mut y = [0.0f64; 32];
     let mut r = c;
     while r < height {
         let at = place(base, line, step, r, k);
         let from = r * width + c;
         let end = from + least(m, r - c + 1);
-        add_row(bytes, at, step, n, x, &mut piece[from..end]);
+        if n == 4 {
+            add_row_of_four(bytes, at, step, x, &mut piece[from..end]);
+        } else {
+            load(bytes, at, step, &mut y[0..n]);
+            add_many(x, &y, n, &mut piece[from..end]);
+        }
         r += 1;
     }
 }
