@@ -103,9 +103,9 @@ fn load(bytes: &[u8], at: usize, step: usize, dst: &mut [f64])
 }
 
 // The pieces are formed from lines of values: columns for A'A, rows for AA'. Value k of line r stands at
-// base + 8 × (r × line + k × step). The sums grow in passes of up to 32 terms, so AA' goes once through the
-// matrix, 32 columns at a time. In a pass the columns of the piece are taken in tiles of up to 64, whose values
-// are made floats once for all rows. Narrow pieces are formed column by column, in passes that suit the lines.
+// base + 8 × (r × line + k × step). The sums grow in passes of some terms each, so AA' goes once through the
+// matrix. In a pass the columns of the piece are taken in tiles of up to 64, whose values are made floats once for
+// all rows; a narrow piece is taken column by column.
 
 // Where value k of line r stands.
 fn place(base: usize, line: usize, step: usize, r: usize, k: usize) -> usize
@@ -282,7 +282,7 @@ fn is_narrow(line: usize, width: usize) -> bool {
 }
 
 // How many terms a pass adds. Column by column: few where neighbouring lines have neighbouring values, which stay at
-// hand for every column; else all, with four lines at hand. In tiles: 32, or 4 for a short row.
+// hand for every column; else all, with four lines at hand. In tiles: 32, or 4 where rows are short.
 fn pass_terms(narrow: bool, line: usize, width: usize, count: usize) -> usize
     requires { ⌜ 0 < count ⌝ }
     ensures { λ r. ⌜ (0 < r) × (r ≤ 32 ⊎ (narrow ≡ true)) ⌝ }
@@ -302,7 +302,7 @@ fn pass_terms(narrow: bool, line: usize, width: usize, count: usize) -> usize
     32
 }
 
-// Adds terms k to k + n - 1 to every sum of a narrow piece, or of another.
+// Adds terms k to k + n - 1 to every sum: by columns, or by tiles.
 fn add_terms(
     bytes: &[u8],
     base: usize,

@@ -10,7 +10,7 @@ ghost use Rattle.genotype.specs.Lists.{tabulate};
 ghost use Rattle.product.specs.Values.{leNumber, floatAt};
 ghost use Rattle.product.specs.Steps.{sumMore, lineValue, LinesIn, lowerPiece, termMore, linesMore};
 
-// Whether n neighbouring values are all finite. The sum of a one for each other is quicker to form than a branch for each.
+// Whether n neighbouring values are all finite. The others are counted, which takes no branch for each value.
 fn all_finite(bytes: &[u8], at: usize, n: usize) -> bool
     requires { ⌜ at + 8 * n ≤ length (now bytes) ⌝ }
     ensures { λ r. ⌜ (r ≡ true → (i : ℕ) → i < n → leNumber (take 8 (drop (at + 8 * i) (now (bytes .entry)))) % 9223372036854775808 ≤ 9218868437227405312) ⌝ }
