@@ -1,6 +1,6 @@
 -- `add_row_of_four`: four values at hand.
-use mathlib.Core.Path.{_≡_, refl, _∙_}
-use Prim.Native.Nat.{_+_, _-_, _*_}
+use mathlib.Core.Path.{refl}
+use Prim.Native.Nat.{_-_}
 use native.Mathlib.Omega.{arith}
 use lib.ListN.{replicate}
 use lib.Ieee.{binary64, ofBits}

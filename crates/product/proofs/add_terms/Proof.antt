@@ -1,9 +1,5 @@
 -- `add_terms`: a narrow piece, or another.
-use mathlib.Core.Path.{_≡_, sym, _∙_}
-use mathlib.Core.Bool.{true, false}
-use mathlib.Core.Logic.{⊎-elim}
 use Rattle.product.proofs.Terms.{not-both}
-use borrow.Author.Needs.{needs}
 use Rattle.product.proofs.add_terms.Statement.{statement}
 use Rattle.product.proofs.add_terms.Tie as tie
 

@@ -1,13 +1,11 @@
 -- `add_in_rows`: what was taken out, grown, is put back.
-use mathlib.Core.Path.{_≡_, _∙_}
+use mathlib.Core.Path.{_∙_}
 use Prim.Native.Nat.{_+_, _*_}
 use native.Mathlib.Omega.{arith}
-use lib.ListN.{length}
 use lib.Ieee.{binary64}
 use Rattle.product.specs.Steps.{lineValue}
 use Rattle.product.proofs.Columns.{taken-grown}
 use Rattle.product.proofs.Terms.{less-or}
-use borrow.Author.Needs.{needs}
 use Rattle.product.proofs.narrow.add_in_rows.Statement.{statement}
 use Rattle.product.proofs.narrow.add_in_rows.Tie as tie
 

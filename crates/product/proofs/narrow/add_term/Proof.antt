@@ -1,4 +1,3 @@
-use native.Mathlib.Omega.{arith}
 use Rattle.product.proofs.narrow.add_term.Statement.{statement}
 use Rattle.product.proofs.narrow.add_term.Tie as tie
 

@@ -1,11 +1,9 @@
 -- `all_finite`: if no one was counted, every value so far is finite.
 use mathlib.Core.Path.{_≡_}
-use Prim.Native.Nat.{ℕ, _+_, _-_, _*_, _%_, _≤_, _<_}
+use Prim.Native.Nat.{_-_, _≤_}
 use native.Mathlib.Nat.{not-suc-le-zero}
 use native.Mathlib.Omega.{arith}
 use borrow.Author.Tests.{eqb-true}
-use lib.ListN.{take, drop}
-use Rattle.product.specs.Values.{leNumber}
 use Rattle.product.proofs.Bytes.{Finite, finite-more}
 use Rattle.product.proofs.narrow.all_finite.Statement.{statement}
 use Rattle.product.proofs.narrow.all_finite.Tie as tie

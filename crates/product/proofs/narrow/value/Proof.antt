@@ -1,4 +1,3 @@
-use native.Mathlib.Omega.{arith}
 use Rattle.product.proofs.Columns.{value-at}
 use borrow.Author.Needs.{needs}
 use Rattle.product.proofs.narrow.value.Statement.{statement}
