@@ -1,5 +1,5 @@
 -- The numbers of every answer of the core fit in a signed number.
-use mathlib.Core.Path.{_≡_, refl, sym, ap, subst, _∙_}
+use mathlib.Core.Path.{_≡_, refl, sym, _∙_}
 use mathlib.Core.Bool.{Bool, true, false, cond, _&&_}
 use mathlib.Core.List.{List, [], _∷_, map}
 use mathlib.Core.Option.{Option, some, none}
@@ -12,7 +12,7 @@ use lib.IntN.{ℤ, pos, negsuc}
 use lib.ListN.{length, getD}
 use Rattle.genotype.specs.Answer.{Answer, done, refused, check, checkEntry, checkCount, countLimit, isDone, ifDone}
 use Rattle.genotype.specs.Block.{blockWidth, checkSize, fileLength, divAnswer}
-use Rattle.genotype.specs.Entry.{isGood, means, firstBad, least, greatest, byteOf, span, spanAnswer}
+use Rattle.genotype.specs.Entry.{isGood, firstBad, least, greatest, byteOf, span, spanAnswer}
 use Rattle.genotype.proofs.EntryLaws.{means-below}
 use Rattle.genotype.proofs.Widths.{width-none, width-some}
 use Rattle.index.specs.declared.Bound.{Bound}
@@ -64,10 +64,6 @@ entry-fits : (o : Option ℤ) (n : ℕ) (later : Answer) → carriesEntry n ≡ 
 unfolding checkEntry Fits
 entry-fits none n later e f = f refl
 entry-fits (some z) n later e f = λ q. absurd (let p : _≡_ {A = Bool} true false = sym e ∙ q in let q2 : _≡_ {A = ℕ} 0 1 = cc in omega arith)
-
-nothing-fits : Fits (done [])
-unfolding Fits AllBelow
-nothing-fits = tt
 
 -- ---- block widths
 width-below : (n : ℕ) → n ≤ countLimit → blockWidth n < 2 ^ 63

@@ -1,6 +1,6 @@
 // What a call of the C interface answers, as document 01's number with its values: from each answer of the core.
 ghost use mathlib.Core.Path.{_≡_};
-ghost use lib.IntN.{ℤ, pos};
+ghost use lib.IntN.{pos};
 ghost use Rattle.genotype.specs.Says.{divSays, spanSays};
 ghost use Rattle.index.specs.Says.{listSays, rangeSays};
 ghost use Rattle.bed_file.specs.Says.{openSays};

@@ -10,8 +10,8 @@ use lib.IntN.{ℤ, pos}
 use lib.ListN.{length, getD}
 use Rattle.genotype.specs.Answer.{Answer, done, refused, check, checkCount, countLimit, isDone}
 use Rattle.genotype.specs.Block.{blockWidth, fileLength, checkSize, divAnswer}
-use Rattle.genotype.proofs.AnswerLaws.{check-passes, check-refuses, count-passes, count-refuses, check-done, count-done, Stage, check-stage, count-stage, then-stage, heard, stays}
-use Rattle.genotype.proofs.Widths.{Sized, width-given}
+use Rattle.genotype.proofs.AnswerLaws.{check-passes, check-refuses, count-passes, count-refuses, check-done, count-done, Stage, check-stage, then-stage, heard, stays}
+use Rattle.genotype.proofs.Widths.{Sized, width-given, size-stage}
 use Rattle.bed_file.specs.File.{checkOpen, openAnswer, checkMode, isMode1, items, blocks, checkLength, lengthAnswer, checkFile, acceptAnswer}
 
 -- ---- 1 and 2, by the tests in order
@@ -78,13 +78,9 @@ file-stage file iids sids =
 
 -- ---- the length's checks, by the answer of `try_div_4`
 module _ (fileLen n b : ℕ) where
-  size-stage : Stage (λ later. checkCount n (checkCount b (checkSize n b later)))
-  unfolding checkSize
-  size-stage = then-stage (count-stage n) (then-stage (count-stage b) (check-stage (leb (fileLength n b) (2 ^ 64 - 1)) 4))
-
   pub length-refused : (k : ℕ) → refused k [] ≡ divAnswer n b → refused k [] ≡ lengthAnswer fileLen n b
   unfolding lengthAnswer divAnswer
-  length-refused k e = sym (stays size-stage _ k [] (sym e) (check (eqb fileLen (fileLength n b)) 2 (done [])))
+  length-refused k e = sym (stays (size-stage n b) _ k [] (sym e) (check (eqb fileLen (fileLength n b)) 2 (done [])))
 
   module _ (w : ℕ) (e : done (pos w ∷ []) ≡ divAnswer n b) where
     size : Sized n b w
@@ -98,7 +94,7 @@ module _ (fileLen n b : ℕ) where
 
     after-size : lengthAnswer fileLen n b ≡ check (eqb fileLen (fileLength n b)) 2 (done [])
     unfolding lengthAnswer divAnswer isDone
-    after-size = heard size-stage _ (sym (ap isDone e)) (check (eqb fileLen (fileLength n b)) 2 (done []))
+    after-size = heard (size-stage n b) _ (sym (ap isDone e)) (check (eqb fileLen (fileLength n b)) 2 (done []))
 
     pub length-right : fileLen ≡ w * b + 3 → done [] ≡ lengthAnswer fileLen n b
     length-right h = sym (after-size ∙ check-passes (eqb fileLen (fileLength n b)) 2 (done []) (eq-eqb fileLen (fileLength n b) (h ∙ whole)))

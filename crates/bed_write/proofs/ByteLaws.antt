@@ -21,7 +21,8 @@ use Rattle.genotype.proofs.ValueLaws.{zero-code, one-code, two-code, missing-co
 use Rattle.genotype.specs.Answer.{Answer}
 use Rattle.bed_write.specs.Packing.{placeCode, encodeAnswer, encodeBuffer}
 use Rattle.bed_write.specs.Inner.{orFour, byteIndex, CodesOfBytes, byTable}
-use Rattle.bed_write.proofs.FirstLaws.{code-found, code-lacking, getD-inside}
+use Rattle.bed_write.proofs.FirstLaws.{code-found, code-lacking}
+use Rattle.genotype.proofs.Tabulate.{getD-inside}
 
 -- ---- the place of an i8
 turn : (z : ℤ) → ltZ z (pos 0) ≡ true → (negsuc 0 -ℤ z ≡ pos (mag z)) × (128 + mag z ≡ byteIndex z)

@@ -1,7 +1,7 @@
 -- Laws of what is found first, and of codes that a value may lack.
 use mathlib.Core.Path.{_≡_, refl, ap, _∙_}
 use mathlib.Core.Bool.{Bool, true, false, cond}
-use mathlib.Core.List.{List, [], _∷_}
+use mathlib.Core.List.{List}
 use mathlib.Core.Option.{Option, some, none}
 use Prim.Native.Nat.{ℕ, zero, suc, _<_}
 use native.Mathlib.Omega.{arith}
@@ -9,6 +9,7 @@ use lib.ListN.{length, getD}
 use Rattle.genotype.specs.Value.{Width, codeOf, sameOrNan}
 use Rattle.bed_write.specs.Packing.{placeCode, orZero, orElse, firstOf, ifBad}
 use Rattle.bed_write.specs.Inner.{orFour}
+use Rattle.genotype.proofs.Tabulate.{getD-inside}
 
 pub first-none : {A : Type 0} (n : ℕ) (f : ℕ → Option A) → ((k : ℕ) → k < n → f k ≡ none) → firstOf n f ≡ none
 unfolding firstOf
@@ -74,11 +75,6 @@ unfolding orFour orZero
 zero-four (some c) h = refl
 zero-four none h = absurd (omega arith)
 
-pub four-below : (o : Option ℕ) → ((c : ℕ) → o ≡ some c → c < 4) → orFour o < 5
-unfolding orFour
-four-below (some c) h = let l = h c refl in omega arith
-four-below none h = omega arith
-
 pub zero-below : (o : Option ℕ) → ((c : ℕ) → o ≡ some c → c < 4) → orZero o < 4
 unfolding orZero
 zero-below (some c) h = h c refl
@@ -109,12 +105,6 @@ code-small w flag missing v c e = by-tests flag (w .same v (w .zero)) (w .same v
 pub place-coded : (w : Width) (flag : Bool) (missing : w .Value) (vals : List (w .Value)) → Coded (placeCode w flag missing vals)
 unfolding placeCode
 place-coded w flag missing vals k c e = code-small w flag missing (getD vals k missing) c e
-
--- ---- a lookup inside does not look at its default
-pub getD-inside : {A : Type 0} (l : List A) (k : ℕ) (d e : A) → k < length l → getD l k d ≡ getD l k e
-getD-inside [] k d e h = absurd (omega arith)
-getD-inside (x ∷ l) zero d e h = refl
-getD-inside (x ∷ l) (suc k) d e h = getD-inside l k d e (omega arith)
 
 -- a code that is read, of a value that has one
 pub good-read :

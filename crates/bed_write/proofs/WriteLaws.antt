@@ -14,15 +14,15 @@ use lib.Ieee.{Float}
 use lib.ListN.{length, getD}
 use lib.Signed.{mag}
 use Rattle.genotype.specs.Value.{Width, i8, float}
-use Rattle.genotype.specs.Answer.{Answer, done, refused, check, checkCount, countLimit, isDone}
+use Rattle.genotype.specs.Answer.{Answer, done, refused, check, countLimit, isDone}
 use Rattle.genotype.specs.Block.{blockWidth, fileLength, checkSize, divAnswer}
 use Rattle.genotype.specs.Code.{packedByte}
 use Rattle.genotype.specs.Lists.{tabulate}
 use Rattle.genotype.specs.Matrix.{matrixPlace}
-use Rattle.genotype.proofs.AnswerLaws.{Stage, lets, refuses, check-stage, count-stage, then-stage, heard, stays, check-passes, check-refuses, check-done, count-done, new-if-done, old-if-not}
+use Rattle.genotype.proofs.AnswerLaws.{Stage, lets, refuses, check-stage, then-stage, heard, stays, check-passes, check-refuses, check-done, count-done, new-if-done, old-if-not}
 use Rattle.genotype.proofs.MatrixLaws.{place-below}
 use Rattle.genotype.proofs.Tests.{by-lt}
-use Rattle.genotype.proofs.Widths.{Sized, width-given}
+use Rattle.genotype.proofs.Widths.{Sized, width-given, size-stage}
 use Rattle.bed_write.specs.Packing.{orZero, firstOf, ifBad}
 use Rattle.bed_write.specs.Writing.{valueCode, firstBadCall, checkCall, checkBuffers, writeAnswer, bedFile, writeBuffer}
 use Rattle.bed_write.specs.Inner.{orFour, CodesOfBytes, byTable, byTests, inGroup, Four, ifOver, firstOver, placed}
@@ -32,10 +32,6 @@ use Rattle.bed_write.proofs.GroupLaws.{good-four, group-byte}
 use Rattle.bed_write.proofs.BedLaws.{bed-ext}
 
 -- ---- 18, 4, 15, 16, by the tests in order
-size-stage : (iids sids : ℕ) → Stage (λ later. checkCount iids (checkCount sids (checkSize iids sids later)))
-unfolding checkSize
-size-stage iids sids = then-stage (count-stage iids) (then-stage (count-stage sids) (check-stage (leb (fileLength iids sids) (2 ^ 64 - 1)) 4))
-
 pub buffers-stage : (iids sids valLength outLength : ℕ) → Stage (λ later. checkBuffers iids sids valLength outLength later)
 unfolding checkBuffers
 buffers-stage iids sids valLength outLength =

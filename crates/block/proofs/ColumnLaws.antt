@@ -6,17 +6,16 @@ use Prim.Native.Nat.{ℕ, _+_, _*_, _/_, _%_, _<_, _≤_}
 use native.Mathlib.Omega.{arith}
 use lib.ListN.{length, getD, set, length-set}
 use lib.Seq.{getD-set-same, getD-set-other}
-use Rattle.genotype.specs.Answer.{Answer, isDone, ifDone}
-use Rattle.genotype.specs.Block.{blockWidth}
+use Rattle.genotype.specs.Answer.{isDone}
 use Rattle.genotype.specs.Code.{codeAt, itemCode, codeTable}
 use Rattle.genotype.specs.Lists.{tabulate}
 use Rattle.genotype.specs.Value.{Width, values, valueOf}
 use Rattle.genotype.proofs.AnswerLaws.{new-if-done, old-if-not}
 use Rattle.genotype.proofs.CodeLaws.{table-at, item-below}
-use Rattle.genotype.proofs.Tabulate.{tabulate-ext, is-tabulate}
+use Rattle.genotype.proofs.Tabulate.{tabulate-ext, is-tabulate, getD-inside}
 use Rattle.genotype.proofs.Tests.{by-lt}
-use Rattle.bed_write.proofs.FirstLaws.{getD-inside}
 use Rattle.block.specs.Blocks.{decodeAnswer, columnOf, decodeBuffer}
+use Rattle.genotype.proofs.ValueLaws.{four-values}
 
 -- the code of an item, by the table
 pub by-table :
@@ -52,11 +51,6 @@ module _ {A : Type 0} (f : ℕ → A) (d : A) (n : ℕ) where
   pub filled-all : (out : List A) (k : ℕ) → Filled out k → length out ≤ k → out ≡ tabulate n f
   filled-all out k p h = is-tabulate out n f d (p .long) (λ j b. p .front j (let l = p .long in omega arith))
 
-four-values : (w : Width) (flag : Bool) (missing : w .Value) → length (values w flag missing) ≡ 4
-unfolding values
-four-values w true missing = refl
-four-values w false missing = refl
-
 -- ---- the later column
 module _ (w : Width) (flag : Bool) (missing : w .Value) (bytes : List ℕ) (iids : ℕ) where
   -- by the list of the four values, whatever the default
@@ -85,7 +79,3 @@ module _ (w : Width) (flag : Bool) (missing : w .Value) (bytes : List ℕ) (iids
       (old : List (w .Value)) → isDone (decodeAnswer (length bytes) iids (length old)) ≡ false → old ≡ decodeBuffer w flag missing bytes iids old
   unfolding decodeBuffer
   column-kept old d = sym (old-if-not (decodeAnswer (length bytes) iids (length old)) (columnOf w flag missing bytes iids) old d)
-
--- from an answer and its test
-pub is-done-of : (a b : Answer) (t : Bool) → a ≡ b → t ≡ isDone a → (v : Bool) → t ≡ v → isDone b ≡ v
-is-done-of a b t e f v g = sym (ap isDone e) ∙ sym f ∙ g

@@ -20,7 +20,7 @@ use Rattle.genotype.proofs.AnswerLaws.{check-passes, count-passes, new-if-done}
 use Rattle.genotype.proofs.CodeLaws.{packed-code, Codes, width-room}
 use Rattle.genotype.proofs.MatrixLaws.{length-matrix, getD-matrix, place-below}
 use Rattle.genotype.proofs.SpanLaws.{none-bad}
-use Rattle.genotype.proofs.Tabulate.{length-tabulate, getD-tabulate}
+use Rattle.genotype.proofs.Tabulate.{length-tabulate, getD-tabulate, getD-inside}
 use Rattle.genotype.proofs.Tests.{by-lt}
 use Rattle.bed_file.specs.File.{isMode1, items, blocks, checkMode, checkLength, checkFile, acceptAnswer}
 use Rattle.bed_read.specs.Calls.{codeIn, callCode}
@@ -29,7 +29,6 @@ use Rattle.bed_file.proofs.FileLaws.{Accepted, accepted, open-good}
 use Rattle.bed_read.proofs.CallLaws.{code-in-byte}
 use Rattle.bed_write.specs.Writing.{bedFile}
 use Rattle.canonical.specs.Canonical.{fileOrder}
-use Rattle.bed_write.proofs.FirstLaws.{getD-inside}
 use Rattle.bed_write.proofs.BedLaws.{bed-length, bed-byte}
 
 -- ---- the calls of a file that was written

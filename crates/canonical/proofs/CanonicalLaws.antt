@@ -13,8 +13,8 @@ use Rattle.genotype.specs.Answer.{Answer, done, refused, check, checkCount, isD
 use Rattle.genotype.specs.Block.{blockWidth, fileLength, checkSize, divAnswer}
 use Rattle.genotype.specs.Code.{packedByte}
 use Rattle.genotype.specs.Lists.{tabulate}
-use Rattle.genotype.proofs.AnswerLaws.{Stage, check-stage, count-stage, then-stage, heard, stays, check-passes, check-refuses, check-done, count-done, count-passes, new-if-done, old-if-not, before-later}
-use Rattle.genotype.proofs.Widths.{Sized, width-given}
+use Rattle.genotype.proofs.AnswerLaws.{Stage, count-stage, then-stage, heard, stays, check-passes, check-refuses, check-done, count-done, count-passes, new-if-done, old-if-not, before-later}
+use Rattle.genotype.proofs.Widths.{Sized, width-given, size-stage}
 use Rattle.bed_file.specs.File.{isMode1, items, blocks, checkFile, acceptAnswer}
 use Rattle.bed_read.specs.Calls.{callCode}
 use Rattle.bed_read.specs.Inner.{Shaped}
@@ -27,10 +27,6 @@ use Rattle.canonical.specs.Inner.{writtenAnswer}
 use Rattle.bed_write.proofs.GroupLaws.{good-four, group-byte}
 
 -- ---- the length to be written: 18, 4, 16
-size-stage : (iids sids : ℕ) → Stage (λ later. checkCount iids (checkCount sids (checkSize iids sids later)))
-unfolding checkSize
-size-stage iids sids = then-stage (count-stage iids) (then-stage (count-stage sids) (check-stage (leb (fileLength iids sids) (2 ^ 64 - 1)) 4))
-
 module _ (iids sids outLength : ℕ) where
   pub written-refused : (k : ℕ) → refused k [] ≡ divAnswer iids sids → refused k [] ≡ writtenAnswer iids sids outLength
   unfolding writtenAnswer divAnswer

@@ -13,15 +13,9 @@ use Rattle.bed_file.specs.File.{items, blocks}
 use Rattle.bed_read.specs.Calls.{codeIn, callCode}
 use Rattle.bed_read.specs.Inner.{Shaped}
 use Rattle.bed_read.proofs.CallLaws.{byte-inside, code-in-byte}
+use Rattle.genotype.proofs.CodeLaws.{quarters}
 
 -- a byte by its four codes
-quarters : (x p q r : ℕ) → p ≡ x / 4 → q ≡ p / 4 → r ≡ q / 4 → r < 4 → x ≡ x % 4 + 4 * (p % 4) + 16 * (q % 4) + 64 * (r % 4)
-quarters x p q r ep eq er h =
-    let s : r % 4 ≡ r = omega arith in
-    let t : q ≡ 4 * r + q % 4 = omega arith in
-    let u : p ≡ 4 * q + p % 4 = omega arith in
-    omega arith
-
 four-codes : (x : ℕ) → x < 256 → x ≡ x % 4 + 4 * (x / 4 % 4) + 16 * (x / 16 % 4) + 64 * (x / 64 % 4)
 four-codes x h = quarters x (x / 4) (x / 16) (x / 64) refl (omega arith) (omega arith) (omega arith)
 

@@ -24,7 +24,7 @@ use Rattle.bed_write.specs.Packing.{placeCode, orZero, firstOf, ifBad}
 use Rattle.bed_write.specs.Writing.{valueCode, firstBadCall, checkCall, checkBuffers, writeAnswer, bedFile, writeBuffer}
 use Rattle.canonical.specs.Canonical.{canonicalAnswer, canonicalFile, canonicalBuffer, fileOrder}
 use Rattle.bed_write.proofs.FirstLaws.{first-none, first-all, not-bad, zero-below}
-use Rattle.bed_write.proofs.BedLaws.{bed-ext, bed-length}
+use Rattle.bed_write.proofs.BedLaws.{bed-ext}
 use Rattle.bed_write.proofs.WriteLaws.{buffers-stage, passed, Passed, value-coded}
 use Rattle.canonical.proofs.BackLaws.{bed-call, bed-accepted, all-answer, read-length, read-at}
 
@@ -136,10 +136,6 @@ module _ (file : List ℕ) (iids sids : ℕ) (d : isDone (acceptAnswer file iids
   canonical-same : canonicalFile (canonicalFile file iids sids) iids sids ≡ canonicalFile file iids sids
   unfolding canonicalFile
   canonical-same = bed-ext iids sids (callCode (canonicalFile file iids sids) iids sids) (callCode file iids sids) canonical-call
-
-  canonical-length : length (canonicalFile file iids sids) ≡ fileLength iids sids
-  unfolding canonicalFile
-  canonical-length = bed-length iids sids (callCode file iids sids)
 
 -- 4. "that file is accepted for the same counts", and its canonical file is itself
 pub canonical-again :

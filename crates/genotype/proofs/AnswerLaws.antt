@@ -59,6 +59,10 @@ pub old-if-not : {A : Type 0} (a : Answer) (new old : A) → isDone a ≡ false 
 unfolding ifDone isDone
 old-if-not a new old e = rw e
 
+-- a test that tells whether an answer is done
+pub is-done-of : (a b : Answer) (t : Bool) → a ≡ b → t ≡ isDone a → (v : Bool) → t ≡ v → isDone b ≡ v
+is-done-of a b t e f v g = sym (ap isDone e) ∙ sym f ∙ g
+
 -- ---- checks in a row: each lets the later ones speak, or refuses whatever they say
 pub data Stage (F : Answer → Answer) : Type 0 where
   lets : ((later : Answer) → F later ≡ later) → Stage F

@@ -1,6 +1,6 @@
 -- Laws of codes and of packed blocks, over plain numbers and lists.
 use mathlib.Core.Path.{_≡_, refl, sym, ap, subst, _∙_}
-use mathlib.Core.List.{List, [], _∷_}
+use mathlib.Core.List.{List}
 use Prim.Native.Nat.{ℕ, zero, suc, _+_, _-_, _*_, _/_, _%_, _^_, _<_, _≤_}
 use native.Mathlib.Nat.{zero-div, add-zero}
 use native.Mathlib.Omega.{arith}
@@ -10,7 +10,7 @@ use Rattle.genotype.specs.Lists.{tabulate}
 use Rattle.genotype.specs.Block.{blockWidth}
 use Rattle.genotype.specs.Code.{codeAt, itemCode, codeTable, packedByte, packed}
 use Rattle.genotype.proofs.Tests.{by-lt}
-use Rattle.genotype.proofs.Tabulate.{length-tabulate, getD-tabulate, is-tabulate}
+use Rattle.genotype.proofs.Tabulate.{length-tabulate, getD-tabulate}
 use Rattle.genotype.proofs.Widths.{width-none, width-some}
 
 -- "A table of 1,024 entries gives the code for every byte and place."
@@ -46,7 +46,7 @@ unfolding codeAt
 place-code c0 c1 c2 c3 h0 h1 h2 h3 = (omega arith, omega arith, omega arith, omega arith)
 
 -- a byte is its four codes put together
-quarters :
+pub quarters :
     (b p q r : ℕ) → p ≡ b / 4 → q ≡ p / 4 → r ≡ q / 4 → r < 4 → b ≡ b % 4 + 4 * (p % 4) + 16 * (q % 4) + 64 * (r % 4)
 quarters b p q r ep eq er h =
     let x : r % 4 ≡ r = omega arith in
@@ -163,9 +163,6 @@ padded-equal n x y px py same =
     (λ i h.
     by-lt i n (same i)
     (λ g. px .pads i g (subst (λ (k : ℕ). i < 4 * k) (px .right-length) h) ∙ sym (py .pads i g (subst (λ (k : ℕ). i < 4 * k) (px .right-length) h))))
-
-pub equal-codes : (x y : List ℕ) → x ≡ y → (i : ℕ) → itemCode x i ≡ itemCode y i
-equal-codes x y e i = ap (λ (block : List ℕ). itemCode block i) e
 
 packed-byte-below : (codes : List ℕ) → Codes codes → (k : ℕ) → k < blockWidth (length codes) → getD (packed codes) k 0 < 256
 unfolding packed packedByte

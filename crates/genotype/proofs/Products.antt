@@ -1,5 +1,5 @@
 -- Exact tests of a product, by a quotient: laws over plain numbers.
-use mathlib.Core.Path.{_≡_, refl, sym, ap, _∙_}
+use mathlib.Core.Path.{_≡_, sym, ap, _∙_}
 use mathlib.Core.Bool.{true, false}
 use Prim.Native.Nat.{ℕ, _+_, _*_, _/_, _%_, _≤_, _<_}
 use native.Mathlib.Nat.{zero-mul, mul-comm, pos-of-ne-zero, le-div-iff-mul-le, div-add-mod', mul-mod-right, mul-div-right}

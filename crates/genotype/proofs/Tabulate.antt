@@ -1,7 +1,7 @@
--- Laws of `tabulate`.
+-- Laws of `tabulate`, and of elements by place.
 use mathlib.Core.Path.{_≡_, refl, sym, ap, _∙_}
 use mathlib.Core.List.{List, [], _∷_, map}
-use Prim.Native.Nat.{ℕ, zero, suc, _<_, _≤_}
+use Prim.Native.Nat.{ℕ, zero, suc, _<_}
 use native.Mathlib.Nat.{le-of-suc-le-suc, not-suc-le-zero}
 use native.Mathlib.Omega.{arith}
 use lib.ListN.{length, getD}
@@ -35,3 +35,9 @@ pub map-tabulate : {A B : Type 0} (h : A → B) (n : ℕ) (f : ℕ → A) → ma
 unfolding tabulate
 map-tabulate h zero f = refl
 map-tabulate h (suc n) f = ap (λ l. h (f 0) ∷ l) (map-tabulate h n (λ k. f (suc k)))
+
+-- inside a list the default is nothing
+pub getD-inside : {A : Type 0} (l : List A) (k : ℕ) (d e : A) → k < length l → getD l k d ≡ getD l k e
+getD-inside [] k d e h = absurd (omega arith)
+getD-inside (x ∷ l) zero d e h = refl
+getD-inside (x ∷ l) (suc k) d e h = getD-inside l k d e (omega arith)

@@ -1,11 +1,12 @@
 -- Laws of values and codes, once over the width.
 use mathlib.Core.Path.{_≡_, refl, sym, ap, subst, _∙_}
 use mathlib.Core.Bool.{Bool, true, false, not, _&&_, _||_, cond}
-use mathlib.Core.List.{List, [], _∷_}
+use mathlib.Core.List.{[], _∷_}
 use mathlib.Core.Option.{Option, some, none}
 use Prim.Native.Nat.{ℕ, zero, suc, _<_}
 use native.Mathlib.Omega.{arith}
 use lib.Ieee.{eq}
+use lib.ListN.{length}
 use Rattle.genotype.specs.Value.{Width, i8, float, sameInt, values, valueOf, codeOf, sameOrNan}
 
 -- ---- the values of the codes, by the flag
@@ -17,6 +18,11 @@ module _ (w : Width) (flag : Bool) (missing : w .Value) where
   pub values-other : flag ≡ false → values w flag missing ≡ (w .zero ∷ missing ∷ w .one ∷ w .two ∷ [])
   unfolding values
   values-other e = rw e
+
+pub four-values : (w : Width) (flag : Bool) (missing : w .Value) → length (values w flag missing) ≡ 4
+unfolding values
+four-values w true missing = refl
+four-values w false missing = refl
 
 -- ---- the code of a value, by the tests in order
 module _ (w : Width) (flag : Bool) (missing v : w .Value) where

@@ -1,5 +1,5 @@
 -- Laws of block widths, over plain numbers.
-use mathlib.Core.Path.{_≡_, refl, sym, ap, subst, _∙_}
+use mathlib.Core.Path.{_≡_, sym, ap, subst, _∙_}
 use Prim.Native.Nat.{ℕ, _+_, _-_, _*_, _/_, _^_, _≤_, _<_}
 use native.Mathlib.Nat.{zero-mul, le-div-iff-mul-le, div-lt-iff-lt-mul}
 use native.Mathlib.Omega.{arith}
@@ -7,10 +7,9 @@ use borrow.Author.Tests.{ne-eqb, eq-eqb, le-leb, lt-leb, leb-true}
 use lib.Dec.{leb}
 use lib.IntN.{pos}
 use mathlib.Core.List.{[], _∷_}
-use mathlib.Core.Bool.{true, false}
-use Rattle.genotype.specs.Answer.{done, refused, countLimit, isDone}
-use Rattle.genotype.specs.Block.{blockWidth, fileLength, divAnswer}
-use Rattle.genotype.proofs.AnswerLaws.{check-done, count-done}
+use Rattle.genotype.specs.Answer.{done, refused, countLimit, isDone, checkCount}
+use Rattle.genotype.specs.Block.{blockWidth, fileLength, divAnswer, checkSize}
+use Rattle.genotype.proofs.AnswerLaws.{check-done, count-done, Stage, check-stage, count-stage, then-stage}
 
 -- "Block width is 0 for nothing in a block"
 pub width-none : (n : ℕ) → n ≡ 0 → blockWidth n ≡ 0
@@ -81,3 +80,8 @@ width-given i s w e =
     let l = leb-true (fileLength i s) (2 ^ 64 - 1) (d2 .0) in
     let g : done (pos w ∷ []) ≡ done (pos (blockWidth i) ∷ []) = e ∙ has-width i s (d0 .0) (d1 .0) l in
     record { first-fits = d0 .0; second-fits = d1 .0; length-fits = l; width-is = cc }
+
+-- the counts and the size, as checks in a row
+pub size-stage : (items blocks : ℕ) → Stage (λ later. checkCount items (checkCount blocks (checkSize items blocks later)))
+unfolding checkSize
+size-stage items blocks = then-stage (count-stage items) (then-stage (count-stage blocks) (check-stage (leb (fileLength items blocks) (2 ^ 64 - 1)) 4))

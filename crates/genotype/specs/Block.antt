@@ -1,8 +1,8 @@
 -- Blocks: how wide one is, and what refusal 4 says of its width.
-use mathlib.Core.Bool.{Bool, true, false, cond}
-use mathlib.Core.List.{List, [], _∷_}
+use mathlib.Core.Bool.{cond}
+use mathlib.Core.List.{[], _∷_}
 use Prim.Native.Nat.{ℕ, _+_, _-_, _*_, _/_, _^_}
-use lib.IntN.{ℤ, pos}
+use lib.IntN.{pos}
 use lib.Dec.{leb, eqb}
 use Rattle.genotype.specs.Answer.{Answer, done, check, checkCount}
 

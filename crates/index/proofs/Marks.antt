@@ -23,10 +23,6 @@ map-append : (a b : List ℕ) → map pos (a ++ b) ≡ map pos a ++ map pos b
 map-append [] b = refl
 map-append (x ∷ a) b = ap (λ (l : List ℤ). pos x ∷ l) (map-append a b)
 
-pub none-before : (marks : List ℕ) → markedBefore marks 0 ≡ []
-unfolding markedBefore numbersBelow
-none-before marks = refl
-
 pub all-marked : (marks : List ℕ) (i : ℕ) → i ≤ length marks → length marks ≤ i → marked marks ≡ markedBefore marks i
 unfolding markedBefore marked
 all-marked marks i a b = ap (λ (n : ℕ). map pos (numbersBelow n (isMarked marks))) (omega arith)

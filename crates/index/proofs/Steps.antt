@@ -13,7 +13,7 @@ use mir.Syntax.{w64}
 use mir.Val.{toZ}
 use mir.Facts.{toZ-pos}
 use Rattle.genotype.specs.Lists.{tabulate}
-use Rattle.genotype.proofs.Tabulate.{length-tabulate}
+use Rattle.genotype.proofs.Tabulate.{length-tabulate, map-tabulate}
 use Rattle.index.specs.declared.RangeNdSlice.{RangeNdSlice}
 use Rattle.index.specs.Numbers.{numbersBelow, distances, forward, backward}
 use Rattle.index.specs.Inner.{Walk, stepsBelow, numberAt, numbers}
@@ -85,11 +85,6 @@ module _ (step : ℕ) (p : 0 < step) where
   unfolding numbersBelow tabulate
   multiples zero = rw (none 0 step p refl) refl
   multiples (suc n) = one-on n (divides n) refl (multiples n)
-
-map-tabulate : {A B : Type 0} (g : A → B) (n : ℕ) (f : ℕ → A) → map g (tabulate n f) ≡ tabulate n (λ k. g (f k))
-unfolding tabulate
-map-tabulate g zero f = refl
-map-tabulate g (suc n) f = ap (λ l. g (f 0) ∷ l) (map-tabulate g n (λ k. f (suc k)))
 
 -- the numbers of a slice by place
 module _ (start end step : ℕ) (p : 0 < step) where

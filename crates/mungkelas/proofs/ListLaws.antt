@@ -1,5 +1,5 @@
 -- What a caller gives of a range or a slice, as an index.
-use mathlib.Core.Path.{_≡_, refl, sym, ap, subst, _∙_}
+use mathlib.Core.Path.{_≡_, refl, ap, subst}
 use mathlib.Core.Bool.{Bool, true, false}
 use mathlib.Core.List.{List, []}
 use Prim.Native.Nat.{ℕ}
@@ -12,8 +12,6 @@ use Rattle.index.specs.declared.Bound.{Bound}
 use Rattle.index.specs.declared.Bound.the-variants as Bound
 use Rattle.index.specs.declared.SliceEnd.{SliceEnd}
 use Rattle.index.specs.declared.SliceEnd.the-variants as SliceEnd
-use Rattle.index.specs.declared.RangeAny.{RangeAny}
-use Rattle.index.specs.declared.SliceInfo1.{SliceInfo1}
 use Rattle.index.specs.declared.Index.{Index}
 use Rattle.index.specs.Checks.{indexAnswer, indexBuffer}
 use Rattle.bed_answer.specs.declared.BedAnswer.{BedAnswer}

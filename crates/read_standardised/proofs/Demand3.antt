@@ -7,7 +7,7 @@ use Prim.Native.Nat.{ℕ, _-_, _*_, _^_, _<_, _≤_}
 use native.Mathlib.Omega.{arith}
 use lib.IntN.{ℤ}
 use lib.ListN.{length}
-use lib.Ieee.{Float, binary64, prec}
+use lib.Ieee.{Float, binary64}
 use Rattle.genotype.specs.Answer.{done, isDone}
 use Rattle.genotype.specs.Block.{fileLength}
 use Rattle.bed_file.specs.File.{acceptAnswer}

@@ -1,14 +1,13 @@
 -- Demand 3 at small files: each theorem once, its hypotheses closed by computation.
-use mathlib.Core.Path.{_≡_, refl, sym, ap, _∙_}
+use mathlib.Core.Path.{_≡_, refl}
 use mathlib.Core.Bool.{Bool, true, false}
 use mathlib.Core.List.{List, [], _∷_}
-use mathlib.Core.Option.{none}
 use Prim.Native.Nat.{ℕ, _-_, _^_, _≤_}
 use lib.Dec.{lit≤}
 use lib.IntN.{ℤ, pos, negsuc}
 use lib.ListN.{length}
 use lib.Ieee.{Float, nan, binary64, isNan}
-use Rattle.genotype.specs.Answer.{Answer, done, refused, isDone, ifDone}
+use Rattle.genotype.specs.Answer.{refused, isDone, ifDone}
 use Rattle.genotype.specs.Block.{blockWidth, fileLength}
 use Rattle.genotype.specs.Entry.{isGood, means, firstBad}
 use Rattle.genotype.specs.Lists.{tabulate}
@@ -20,7 +19,7 @@ use Rattle.standardise.specs.Standardised.{value, markerAnswer, markersAnswer, 
 use Rattle.bed_read.specs.Calls.{block, codeIn, callCode}
 use Rattle.bed_read.specs.Reading.{checkLists, readCode, codesRead, valuesRead}
 use Rattle.bed_file.specs.File.{isMode1, items, blocks, checkFile, acceptAnswer}
-use Rattle.read_standardised.specs.Demand.{IsAccepted, CallsAgree, GoodList, meant, NamesEachOnce, RightLengths, Way, inTurn, joinedCall, answersOf, valuesOf, statsOf}
+use Rattle.read_standardised.specs.Demand.{IsAccepted, CallsAgree, GoodList, meant, NamesEachOnce, RightLengths, Way, answersOf, valuesOf, statsOf}
 use Rattle.read_standardised.specs.Joined.{joinedChecks, readNan, joinedAnswer}
 use Rattle.read_standardised.specs.SmallHerds.{F, lastByteF2, inMode0}
 use Rattle.canonical.specs.Canonical.{fileOrder, canonicalFile, canonicalAnswer, canonicalBuffer}

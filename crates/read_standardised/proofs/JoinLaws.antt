@@ -1,5 +1,5 @@
 -- The joined call's checks in order, and that it is reading and standardising in turn. Over plain numbers and lists.
-use mathlib.Core.Path.{_≡_, refl, sym, ap, subst, _∙_}
+use mathlib.Core.Path.{_≡_, refl, sym, ap, _∙_}
 use mathlib.Core.Bool.{Bool, true, false}
 use mathlib.Core.List.{List, [], _∷_, map}
 use Prim.Native.Nat.{ℕ, _*_, _<_, _≤_}
@@ -18,7 +18,6 @@ use Rattle.genotype.specs.Entry.{firstBad}
 use Rattle.bed_file.specs.File.{isMode1, checkFile}
 use Rattle.bed_read.specs.Reading.{checkLists, readAnswer, readCode, codesRead, valuesRead, readBuffer}
 use Rattle.bed_file.proofs.FileLaws.{file-stage}
-use Rattle.bed_read.proofs.ReadLaws.{readable}
 use Rattle.statistics.specs.Statistics.{statsPerMarker}
 use Rattle.standardise.specs.Standardised.{bufferChecks, lowestRefused, newStats, newValues, standardiseAnswer, laterStats, laterValues}
 use Rattle.standardise.proofs.CallLaws.{checks-pass}

@@ -1,43 +1,29 @@
 -- Two sides that differ only in the file, and two that differ only in the animal list. Over the format.
-use mathlib.Core.Path.{_≡_, refl, sym, ap, subst, _∙_}
-use mathlib.Core.Bool.{Bool, true, false, cond}
+use mathlib.Core.Path.{_≡_, sym, ap, subst, _∙_}
+use mathlib.Core.Bool.{Bool, true, false}
 use mathlib.Core.List.{List, [], _∷_}
 use mathlib.Core.Logic.{inr}
-use Prim.Native.Nat.{ℕ, zero, suc, _+_, _*_, _<_, _≤_}
-use native.Mathlib.Omega.{arith}
+use Prim.Native.Nat.{ℕ, _*_, _<_}
 use borrow.Author.Tests.{eq-eqb}
 use lib.Dec.{eqb}
 use lib.IntN.{ℤ, pos}
 use lib.ListN.{length, getD}
 use lib.Ieee.{Float, nan, Format}
-use Rattle.genotype.specs.Answer.{Answer, done, isDone, ifDone}
+use Rattle.genotype.specs.Answer.{Answer, done, isDone}
 use Rattle.genotype.specs.Entry.{means}
 use Rattle.genotype.specs.Value.{float, valueOf}
-use Rattle.genotype.specs.Matrix.{matrixPlace, matrix}
-use Rattle.genotype.proofs.MatrixLaws.{getD-matrix}
-use Rattle.bed_read.specs.Reading.{readAnswer, readCode, valuesRead, readBuffer}
+use Rattle.bed_read.specs.Reading.{readAnswer, readCode, valuesRead}
 use Rattle.bed_read.specs.Calls.{callCode}
-use Rattle.statistics.specs.declared.MarkerStats.{MarkerStats}
-use Rattle.statistics.specs.Statistics.{statsPerMarker, statsAt, foundFor}
+use Rattle.statistics.specs.Statistics.{statsPerMarker}
 use Rattle.statistics.specs.Calls.{IsCall, FewEnough}
-use Rattle.statistics.proofs.CountLaws.{foundFor-ext}
-use Rattle.statistics.proofs.Exact.{reordered-stats, names-same}
-use Rattle.standardise.specs.Standardised.{markerAnswer, markersAnswer, keptOrNew, applied, value, found, mayChange, lowestRefused, newStats, newValues, standardiseAnswer, laterStats, laterValues}
-use Rattle.standardise.proofs.Theorems.{reordered-same-answer, reordered-same-stats, reordered-moved-values}
-use Rattle.read_standardised.specs.Joined.{readNan, joinedAnswer, joinedStats, joinedValues}
+use Rattle.standardise.specs.Standardised.{value, lowestRefused, newStats, newValues, standardiseAnswer, laterStats, laterValues}
+use Rattle.standardise.proofs.Theorems.{reordered-lowest, reordered-new-stats, reordered-new-values, reordered-same-answer, reordered-same-stats, reordered-moved-values}
+use Rattle.read_standardised.specs.Joined.{readNan}
 use Rattle.canonical.specs.Canonical.{fileOrder}
 use Rattle.read_standardised.specs.Demand.{IsAccepted, CallsAgree, GoodList, meant, NamesEachOnce, RightLengths, Way, inTurn, joinedCall, asRead, answersOf, valuesOf, statsOf}
 use Rattle.read_standardised.proofs.JoinLaws.{as-read-is, answer-is, values-are, stats-are}
 use Rattle.read_standardised.proofs.SumLaws.{same-sums, names-length, meant-below}
-use Rattle.read_standardised.proofs.ReadLaws.{matrix-same, read-done, values-same, length-read, cell-read, call-read, length-order, order-means, order-good}
-
--- the lowest refused marker's answer, by what is found for each
-markers-same : (g h : ℕ → MarkerStats) (n : ℕ) → ((m : ℕ) → m < n → g m ≡ h m) → markersAnswer g n ≡ markersAnswer h n
-unfolding markersAnswer
-markers-same g h zero e = refl
-markers-same g h (suc n) e =
-    ap (λ (a : Answer). ifDone a (markerAnswer n (g n)) a) (markers-same g h n (λ m l. e m (omega arith)))
-    ∙ ap (λ (x : MarkerStats). ifDone (markersAnswer h n) (markerAnswer n x) (markersAnswer h n)) (e n (omega arith))
+use Rattle.read_standardised.proofs.ReadLaws.{read-done, values-same, length-read, cell-read, call-read, length-order, order-means, order-good}
 
 -- ---- a side whose file is accepted, whose lists are good, and whose buffers have the right lengths
 module _ (f : Format) (file : List ℕ) (iids sids : ℕ) (flag : Bool) (il sl : List ℤ) (order : Bool) (val stats : List Float)
@@ -195,47 +181,6 @@ module _ (f : Format) (file : List ℕ) (iids sids : ℕ) (flag : Bool) (il sl :
         ∙ ap (λ (n : ℕ). value order n (length sl) (laterValues f order n (length sl) (asRead f file iids sids flag fo sl order val stats) useStats stats apply) (meant iids il k) m) (sym fo-long)
 
   -- ---- the joined call, which checks no list's length for 18
-  found-moved : (m : ℕ) → m < length sl → found f order iids (length sl) here false stats m ≡ found f order iids (length sl) there false stats m
-  unfolding found foundFor
-  found-moved m h =
-      foundFor-ext f (λ k. value order iids (length sl) here k m) (λ k. value order iids (length sl) there (meant iids il k) m) false (statsAt stats m) iids (λ k b. moved k m b h)
-      ∙ reordered-stats f (λ k. value order iids (length sl) there (meant iids il k) m) (λ i. value order iids (length sl) there i m) iids
-      (λ k b. there-call (meant iids il k) m (below k b) h) (λ i b. there-call i m b h) few (names-same (meant iids il) iids (λ i. value order iids (length sl) there i m) (same-sums iids il names))
-
-  lowest-moved : lowestRefused f order iids (length sl) here false stats ≡ lowestRefused f order iids (length sl) there false stats
-  unfolding lowestRefused
-  lowest-moved = markers-same (found f order iids (length sl) here false stats) (found f order iids (length sl) there false stats) (length sl) found-moved
-
-  new-stats-moved : newStats f order iids (length sl) here false stats ≡ newStats f order iids (length sl) there false stats
-  unfolding newStats
-  new-stats-moved =
-      matrix-same false statsPerMarker (length sl) (λ c m. keptOrNew (found f order iids (length sl) here false stats m) c (getD stats (m * statsPerMarker + c) nan))
-      (λ c m. keptOrNew (found f order iids (length sl) there false stats m) c (getD stats (m * statsPerMarker + c) nan))
-      (λ c m a b. ap (λ (x : MarkerStats). keptOrNew x c (getD stats (m * statsPerMarker + c) nan)) (found-moved m b))
-
-  new-value : (xs : List Float) (i m : ℕ) → i < iids → m < length sl
-      → value order iids (length sl) (newValues f order iids (length sl) xs false stats true) i m
-      ≡ cond (cond order (isDone (lowestRefused f order iids (length sl) xs false stats)) true)
-      (applied f (found f order iids (length sl) xs false stats m) (value order iids (length sl) xs i m)) (value order iids (length sl) xs i m)
-  unfolding newValues mayChange value
-  new-value xs i m hi hm = go (cond order (isDone (lowestRefused f order iids (length sl) xs false stats)) true)
-    where
-      new : ℕ → ℕ → Float
-      new i m = applied f (found f order iids (length sl) xs false stats m) (getD xs (matrixPlace order iids (length sl) i m) nan)
-
-      go : (b : Bool) → getD (cond b (matrix order iids (length sl) new) xs) (matrixPlace order iids (length sl) i m) nan ≡ cond b (new i m) (getD xs (matrixPlace order iids (length sl) i m) nan)
-      go true = getD-matrix iids (length sl) i m hi hm order new nan
-      go false = refl
-
-  new-value-moved : (k m : ℕ) → k < iids → m < length sl
-      → value order iids (length sl) (newValues f order iids (length sl) here false stats true) k m
-      ≡ value order iids (length sl) (newValues f order iids (length sl) there false stats true) (meant iids il k) m
-  new-value-moved k m hk hm =
-      new-value here k m hk hm
-      ∙ (λ j. cond (cond order (isDone (lowest-moved j)) true) (applied f (found-moved m hm j) (moved k m hk hm j)) (moved k m hk hm j))
-      ∙ sym (new-value there (meant iids il k) m (below k hk) hm)
-
-  -- the joined call of each side
   here-17 : eqb (statsPerMarker * length sl) (length stats) ≡ true
   here-17 = right-17 f file iids sids flag il sl order val stats acc (names .good-list) gs len
 
@@ -256,7 +201,7 @@ module _ (f : Format) (file : List ℕ) (iids sids : ℕ) (flag : Bool) (il sl :
       ap (λ (x : Answer). x ∷ [])
       (answer-is f file iids sids flag il sl order val stats here-17 here-read
       ∙ ap (λ (n : ℕ). lowestRefused f order n (length sl) here false stats) il-long
-      ∙ lowest-moved
+      ∙ reordered-lowest f order iids (length sl) there here false stats (meant iids il) (same-sums iids il names) same-length moved (inr (few, there-call))
       ∙ ap (λ (n : ℕ). lowestRefused f order n (length sl) there false stats) (sym fo-long)
       ∙ sym (answer-is f file iids sids flag fo sl order val stats here-17 there-read))
 
@@ -266,7 +211,7 @@ module _ (f : Format) (file : List ℕ) (iids sids : ℕ) (flag : Bool) (il sl :
   lists-stats joinedCall =
       stats-are f file iids sids flag il sl order val stats here-17 here-read
       ∙ ap (λ (n : ℕ). newStats f order n (length sl) here false stats) il-long
-      ∙ new-stats-moved
+      ∙ reordered-new-stats f order iids (length sl) there here false stats (meant iids il) (same-sums iids il names) same-length moved (inr (few, there-call))
       ∙ ap (λ (n : ℕ). newStats f order n (length sl) there false stats) (sym fo-long)
       ∙ sym (stats-are f file iids sids flag fo sl order val stats here-17 there-read)
 
@@ -278,6 +223,6 @@ module _ (f : Format) (file : List ℕ) (iids sids : ℕ) (flag : Bool) (il sl :
   lists-values joinedCall k m hk hm =
       ap (λ (x : List Float). value order (length il) (length sl) x k m) (values-are f file iids sids flag il sl order val stats here-17 here-read)
       ∙ ap (λ (n : ℕ). value order n (length sl) (newValues f order n (length sl) here false stats true) k m) il-long
-      ∙ new-value-moved k m (subst (λ (n : ℕ). k < n) il-long hk) hm
+      ∙ reordered-new-values f order iids (length sl) there here false stats (meant iids il) (same-sums iids il names) same-length moved (inr (few, there-call)) true k m (subst (λ (n : ℕ). k < n) il-long hk) hm
       ∙ ap (λ (n : ℕ). value order n (length sl) (newValues f order n (length sl) there false stats true) (meant iids il k) m) (sym fo-long)
       ∙ ap (λ (x : List Float). value order (length fo) (length sl) x (meant iids il k) m) (sym (values-are f file iids sids flag fo sl order val stats here-17 there-read))

@@ -1,15 +1,14 @@
 -- The worked examples that document 01 marks P, by computation.
 use mathlib.Core.Path.{_≡_, refl, ap}
-use mathlib.Core.Bool.{true, false}
 use mathlib.Core.List.{List, []}
 use Prim.Native.Nat.{ℕ, _-_, _^_}
-use Rattle.genotype.specs.Answer.{refused, check, checkCount, checkEntry, isDone, ifDone}
+use Rattle.genotype.specs.Answer.{refused, check, checkCount, isDone, ifDone}
 use Rattle.genotype.specs.Block.{blockWidth, checkSize, divAnswer}
 use Rattle.genotype.specs.Code.{codeAt, itemCode, packedByte, packed}
 use Rattle.genotype.specs.Entry.{isGood, means, meaning, firstBad}
 use Rattle.genotype.specs.Lists.{tabulate}
 use Rattle.genotype.specs.Matrix.{matrix}
-use Rattle.genotype.specs.Value.{Width, values, valueOf, sameInt, sameOrNan, codeOf}
+use Rattle.genotype.specs.Value.{values, valueOf, sameInt, sameOrNan, codeOf}
 use Rattle.index.specs.Numbers.{numbersBelow, fromCount, sliceEnd, distances, backward, stepped, sliceList, indexList}
 use Rattle.index.specs.Checks.{checkEnd, checkSlice, checkIndex, listAnswer, listBuffer, indexAnswer, indexBuffer}
 use Rattle.bed_file.specs.File.{isMode1, items, blocks, acceptAnswer}
@@ -20,7 +19,7 @@ use Rattle.canonical.specs.Canonical.{fileOrder, canonicalFile, canonicalAnswer
 use Rattle.bed_write.specs.Writing.{joined, bedFile}
 use Rattle.bed_write.specs.Packing.{placeCode, orZero, packedCodes, orElse, firstOf, ifBad, firstBadAnimal, newBefore, encodeBuffer}
 use Rattle.read_standardised.specs.Demand.{IsAccepted}
-use Rattle.read_standardised.specs.SmallHerds.{F, lastByteF2, ten, counted, SmallHerds}
+use Rattle.read_standardised.specs.SmallHerds.{SmallHerds}
 
 last : (file : List ℕ) (outLength : ℕ) → IsAccepted file 5 (2 ^ 63 - 1) → canonicalAnswer file 5 (2 ^ 63 - 1) outLength ≡ refused 4 []
 unfolding canonicalAnswer checkSize check checkCount blockWidth isDone

@@ -4,8 +4,8 @@ use mathlib.Core.Bool.{true, false}
 use mathlib.Core.List.{List, [], _∷_}
 use mathlib.Core.Option.{some, none}
 use Prim.Native.Nat.{ℕ, _-_, _^_}
-use lib.IntN.{ℤ, pos, negsuc}
-use Rattle.genotype.specs.Answer.{done, refused, countLimit}
+use lib.IntN.{pos, negsuc}
+use Rattle.genotype.specs.Answer.{done, refused}
 use Rattle.genotype.specs.Block.{divAnswer}
 use Rattle.genotype.specs.Entry.{meaning}
 use Rattle.genotype.specs.Value.{Width, i8}

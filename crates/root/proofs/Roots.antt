@@ -134,6 +134,9 @@ mid-is f K k q a = ap₂ (λ (x y : ℕ). x + y) (at-count f K k q a) (next-coun
     join : (x y : ℕ) → y * x + suc y * x ≡ (2 * y + 1) * x
     join x y = omega arith
 
+pub squared : (o x : ℕ) → o * x * (o * x) ≡ o * o * (x * x)
+squared o x = omega arith
+
 mid-tie : (f : Format) (N K : ℕ) → N < ones f * hid f → K < ones f * hid f → 4 * (count f (ofBits f N) * 2 ^ low f) ≡ mid f K * mid f K → ⊥
 mid-tie f N K i u e =
     let v = fields f N i in
@@ -144,14 +147,11 @@ mid-tie f N K i u e =
     ap (λ (z : ℕ). 4 * (z * 2 ^ low f)) (at-count f N (v .k) (v .q) (v .at)) ∙ four (v .q) (2 ^ v .k) (2 ^ low f)
     ∙ ap (λ (z : ℕ). v .q * z) (ap (λ (z : ℕ). 2 ^ 2 * z) (sym (pow-add 2 (v .k) (low f))) ∙ sym (pow-add 2 2 (v .k + low f))) in
     let right : mid f K * mid f K ≡ o * o * 2 ^ (a .k + a .k) =
-    ap (λ (z : ℕ). z * z) (mid-is f K (a .k) (a .q) (a .at)) ∙ square o x ∙ ap (λ (z : ℕ). o * o * z) (sym (pow-add 2 (a .k) (a .k))) in
+    ap (λ (z : ℕ). z * z) (mid-is f K (a .k) (a .q) (a .at)) ∙ squared o x ∙ ap (λ (z : ℕ). o * o * z) (sym (pow-add 2 (a .k) (a .k))) in
     never (hid f) (a .q) (a .k) (v .q) (2 + (v .k + low f)) (v .at .digits) (a .at .leading) (omega arith) (sym right ∙ sym e ∙ left)
   where
     four : (n a b : ℕ) → 4 * (n * a * b) ≡ n * (2 ^ 2 * (a * b))
     four n a b = omega arith
-
-    square : (o x : ℕ) → o * x * (o * x) ≡ o * o * (x * x)
-    square o x = omega arith
 
 -- ---- the root by its pattern
 -- the variance's own pattern

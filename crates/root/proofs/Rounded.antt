@@ -12,7 +12,7 @@ use lib.Ieee.Positive.{positive}
 use Rattle.root.specs.Root.{count, scaled, root}
 use Rattle.root.specs.Whole.{IsWholeRoot, IsScaled}
 use Rattle.root.proofs.Patterns.{At, at-count, subnormal-at, normal-at, hid-pos, here-or-on}
-use Rattle.root.proofs.Roots.{mid, mid-is, root-at}
+use Rattle.root.proofs.Roots.{mid, mid-is, root-at, squared}
 use Rattle.root.proofs.Wholes.{root-under, root-over}
 
 -- ---- a format's numbers
@@ -165,9 +165,6 @@ below-mid : (f : Format) (K k q m : ℕ) → At f (suc K) k (suc q) → hid f �
     → mid f K * mid f K < m * (2 ^ k * 2 ^ k)
 below-mid f K k q m a l u g = go k a (here-or-on q (hid f))
   where
-    squared : (o x : ℕ) → o * x * (o * x) ≡ o * o * (x * x)
-    squared o x = omega arith
-
     plain : (j : ℕ) → At f K j q → mid f K * mid f K < m * (2 ^ j * 2 ^ j)
     plain j b =
         subst (λ (z : ℕ). z < m * (2 ^ j * 2 ^ j)) (sym (ap (λ (z : ℕ). z * z) (mid-is f K j q b) ∙ squared (2 * q + 1) (2 ^ j)))
@@ -228,9 +225,6 @@ rounded f v d e s r p g w = go ((s + 1) / 2) refl
 
     most : d * (1 + e % 2) ≤ 4 * hid f - 2
     most = digits-most (hid f) d (e % 2) (mod-lt e (lit< tt)) (g .short)
-
-    squared : (o x : ℕ) → o * x * (o * x) ≡ o * o * (x * x)
-    squared o x = omega arith
 
     go : (q : ℕ) → (s + 1) / 2 ≡ q → (e / 2 * hid f + q < ones f * hid f) × (ofBits f (e / 2 * hid f + q) ≡ root f v)
     go zero z = absurd (not-le-of-lt (hid-pos f) (subst (λ (x : ℕ). hid f ≤ x) z (half-least (hid f) (d * (1 + e % 2)) s r (hid-pos f) least most w)))

@@ -12,14 +12,14 @@ use lib.Ieee.{Float, nan, Format, div}
 use borrow.Author.Tests.{eqb-true, eqb-false, lt-ltb, le-ltb, le-leb, lt-leb}
 use Rattle.genotype.specs.Matrix.{matrixPlace, matrix}
 use Rattle.genotype.proofs.Tests.{by-test, by-lt, leb-both}
-use Rattle.genotype.proofs.MatrixLaws.{length-matrix, getD-matrix}
+use Rattle.genotype.proofs.MatrixLaws.{length-matrix, getD-matrix, matrix-ext}
 use Rattle.statistics.specs.declared.Stats.{Stats}
 use Rattle.statistics.specs.Statistics.{one, isInfinite, standardised, statsAt}
 use Rattle.standardise.specs.Standardised.{value}
 use Rattle.standardise.specs.Steps.{scaledAt, IsLoaded, written, from, markersApplied, allApplied}
 use Rattle.statistics.specs.Statistics.{scaledBy}
 use Rattle.standardise.proofs.StoreLaws.{written-places}
-use Rattle.standardise.proofs.CellLaws.{own-cells, matrix-ext, written-cells, upTo, upTo-below, upTo-above, none-new, all-new}
+use Rattle.standardise.proofs.CellLaws.{own-cells, written-cells, upTo, upTo-below, upTo-above, none-new, all-new}
 use Rattle.standardise.proofs.ChoiceLaws.{scaled-standardised}
 
 -- ---- what is loaded

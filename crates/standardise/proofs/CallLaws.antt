@@ -12,14 +12,13 @@ use borrow.Author.Tests.{le-leb, lt-leb, eqb-true, eqb-false}
 use Rattle.genotype.specs.Answer.{Answer, done, refused, countLimit, isDone, ifDone}
 use Rattle.genotype.specs.Matrix.{matrixPlace, matrix}
 use Rattle.genotype.proofs.Tests.{by-test}
-use Rattle.genotype.proofs.MatrixLaws.{getD-matrix}
+use Rattle.genotype.proofs.MatrixLaws.{getD-matrix, matrix-ext}
 use Rattle.statistics.specs.declared.Stats.{Stats}
 use Rattle.statistics.specs.declared.MarkerStats.{MarkerStats}
 use Rattle.statistics.specs.declared.MarkerStats.the-variants.{Found, NoIndividuals, IllegalSnpMean}
 use Rattle.statistics.specs.Statistics.{statsPerMarker, statsAt, inPlaces, foundFor, standardised}
 use Rattle.standardise.specs.Standardised.{markerAnswer, markersAnswer, bufferChecks, keptOrNew, applied, value, found, lowestRefused, standardiseAnswer, newStats, mayChange, newValues, laterStats, laterValues}
 use Rattle.standardise.specs.Steps.{allApplied}
-use Rattle.standardise.proofs.CellLaws.{matrix-ext}
 
 -- ---- the checks, in order
 module _ (iids sids : ℕ) (val stats : List Float) (later : Answer) where

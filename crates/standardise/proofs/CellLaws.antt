@@ -12,7 +12,7 @@ use lib.Ieee.{Float, nan}
 use borrow.Author.Tests.{lt-ltb, le-ltb}
 use Rattle.genotype.specs.Matrix.{matrixPlace, matrix}
 use Rattle.genotype.proofs.Tests.{leb-both}
-use Rattle.genotype.proofs.MatrixLaws.{length-matrix, place-below, getD-matrix}
+use Rattle.genotype.proofs.MatrixLaws.{length-matrix, place-below, getD-matrix, matrix-ext}
 use Rattle.standardise.specs.Steps.{written}
 use Rattle.standardise.proofs.StoreLaws.{length-written, getD-written}
 
@@ -45,10 +45,6 @@ module _ (order : Bool) (rows cols : ℕ) where
 
           cols-ok : m < cols
           cols-ok = b
-
-  pub matrix-ext : (g h : ℕ → ℕ → Float) → ((i m : ℕ) → i < rows → m < cols → g i m ≡ h i m) → matrix order rows cols g ≡ matrix order rows cols h
-  matrix-ext g h e =
-      is-matrix (matrix order rows cols g) h (length-matrix order rows cols g) (λ i m a b. getD-matrix rows cols i m a b order g nan ∙ e i m a b)
 
   -- a matrix of its own cells
   pub own-cells : (xs : List Float) → length xs ≡ rows * cols → xs ≡ matrix order rows cols (λ i m. getD xs (matrixPlace order rows cols i m) nan)

@@ -12,7 +12,7 @@ use lib.Ieee.{Float, nan, Format}
 use Rattle.genotype.specs.Answer.{Answer, done, refused, check, checkCount, countLimit, isDone, ifDone}
 use Rattle.genotype.specs.Value.{float, values, valueOf}
 use Rattle.genotype.specs.Matrix.{matrixPlace, matrix}
-use Rattle.genotype.proofs.MatrixLaws.{getD-matrix}
+use Rattle.genotype.proofs.MatrixLaws.{getD-matrix, matrix-ext}
 use Rattle.statistics.specs.declared.MarkerStats.{MarkerStats}
 use Rattle.statistics.specs.declared.MarkerStats.the-variants.{NoIndividuals}
 use Rattle.statistics.specs.Statistics.{statsPerMarker, statsAt, foundFor, markerStats}
@@ -21,7 +21,6 @@ use Rattle.statistics.proofs.CountLaws.{foundFor-ext}
 use Rattle.statistics.proofs.Exact.{reordered-stats, names-below, names-same}
 use Rattle.standardise.specs.Standardised.{markerAnswer, markersAnswer, bufferChecks, keptOrNew, applied, value, found, lowestRefused, standardiseAnswer, newStats, mayChange, newValues, laterStats, laterValues}
 use Rattle.standardise.specs.Steps.{laterValue}
-use Rattle.standardise.proofs.CellLaws.{matrix-ext}
 
 -- ---- what rests on what is found for the markers
 markersAnswer-ext : (g h : ℕ → MarkerStats) (n : ℕ) → ((m : ℕ) → m < n → g m ≡ h m) → markersAnswer g n ≡ markersAnswer h n
@@ -37,43 +36,57 @@ checks-same iids sids val val′ stats later l =
     ap (λ (n : ℕ). checkCount iids (checkCount sids (check (eqb (iids * sids) n) 15 (check (eqb (statsPerMarker * sids) (length stats)) 17 later)))) l
 
 module _ (f : Format) (iids sids : ℕ) (order order′ : Bool) (val val′ : List Float) (useStats : Bool) (stats : List Float)
-    (l : length val ≡ length val′) (same : (m : ℕ) → m < sids → found f order iids sids val useStats stats m ≡ found f order′ iids sids val′ useStats stats m) where
+    (same : (m : ℕ) → m < sids → found f order iids sids val useStats stats m ≡ found f order′ iids sids val′ useStats stats m) where
   lowest-same : lowestRefused f order iids sids val useStats stats ≡ lowestRefused f order′ iids sids val′ useStats stats
   unfolding lowestRefused
   lowest-same = markersAnswer-ext (found f order iids sids val useStats stats) (found f order′ iids sids val′ useStats stats) sids same
 
-  answer-same : standardiseAnswer f order iids sids val useStats stats ≡ standardiseAnswer f order′ iids sids val′ useStats stats
-  unfolding standardiseAnswer
-  answer-same = checks-same iids sids val val′ stats (lowestRefused f order iids sids val useStats stats) l ∙ ap (bufferChecks iids sids val′ stats) lowest-same
-
-  stats-same : laterStats f order iids sids val useStats stats ≡ laterStats f order′ iids sids val′ useStats stats
-  unfolding laterStats newStats
-  stats-same =
-      ap (λ (a : Answer). ifDone a (newStats f order iids sids val useStats stats) stats) (checks-same iids sids val val′ stats (done []) l)
-      ∙ ap (λ (x : List Float). ifDone (bufferChecks iids sids val′ stats (done [])) (cond useStats stats x) stats)
+  new-stats-same : newStats f order iids sids val useStats stats ≡ newStats f order′ iids sids val′ useStats stats
+  unfolding newStats
+  new-stats-same =
+      ap (cond useStats stats)
       (matrix-ext false statsPerMarker sids (λ c m. keptOrNew (found f order iids sids val useStats stats m) c (getD stats (m * statsPerMarker + c) nan))
       (λ c m. keptOrNew (found f order′ iids sids val′ useStats stats m) c (getD stats (m * statsPerMarker + c) nan))
       (λ c m a b. ap (λ (x : MarkerStats). keptOrNew x c (getD stats (m * statsPerMarker + c) nan)) (same m b)))
 
+  module _ (l : length val ≡ length val′) where
+    answer-same : standardiseAnswer f order iids sids val useStats stats ≡ standardiseAnswer f order′ iids sids val′ useStats stats
+    unfolding standardiseAnswer
+    answer-same = checks-same iids sids val val′ stats (lowestRefused f order iids sids val useStats stats) l ∙ ap (bufferChecks iids sids val′ stats) lowest-same
+
+    stats-same : laterStats f order iids sids val useStats stats ≡ laterStats f order′ iids sids val′ useStats stats
+    unfolding laterStats
+    stats-same =
+        ap (λ (a : Answer). ifDone a (newStats f order iids sids val useStats stats) stats) (checks-same iids sids val val′ stats (done []) l)
+        ∙ ap (λ (x : List Float). ifDone (bufferChecks iids sids val′ stats (done [])) x stats) new-stats-same
+
 -- whether a call changes values
-abbrev pub changes : Format → Bool → ℕ → ℕ → List Float → Bool → List Float → Bool → Bool
+abbrev changes : Format → Bool → ℕ → ℕ → List Float → Bool → List Float → Bool → Bool
 changes f order iids sids val useStats stats apply = isDone (bufferChecks iids sids val stats (done [])) && (apply && mayChange f order iids sids val useStats stats)
 
--- a value afterwards
+-- a value once the buffers are checked, and afterwards
 module _ (f : Format) (order : Bool) (iids sids : ℕ) (val : List Float) (useStats : Bool) (stats : List Float) (apply : Bool) (i m : ℕ) (hi : i < iids) (hm : m < sids) where
-  pub later-value : value order iids sids (laterValues f order iids sids val useStats stats apply) i m
-      ≡ laterValue f (changes f order iids sids val useStats stats apply) (found f order iids sids val useStats stats m) (value order iids sids val i m)
-  unfolding laterValues newValues value laterValue
-  later-value = go (isDone (bufferChecks iids sids val stats (done []))) (apply && mayChange f order iids sids val useStats stats)
+  new-value : value order iids sids (newValues f order iids sids val useStats stats apply) i m
+      ≡ laterValue f (apply && mayChange f order iids sids val useStats stats) (found f order iids sids val useStats stats m) (value order iids sids val i m)
+  unfolding newValues value laterValue
+  new-value = go (apply && mayChange f order iids sids val useStats stats)
     where
       new : ℕ → ℕ → Float
       new i m = applied f (found f order iids sids val useStats stats m) (getD val (matrixPlace order iids sids i m) nan)
 
-      go : (b t : Bool) → getD (cond b (cond t (matrix order iids sids new) val) val) (matrixPlace order iids sids i m) nan ≡ cond (b && t) (new i m) (getD val (matrixPlace order iids sids i m) nan)
-      go true true = getD-matrix iids sids i m hi hm order new nan
-      go true false = refl
-      go false true = refl
-      go false false = refl
+      go : (t : Bool) → getD (cond t (matrix order iids sids new) val) (matrixPlace order iids sids i m) nan ≡ cond t (new i m) (getD val (matrixPlace order iids sids i m) nan)
+      go true = getD-matrix iids sids i m hi hm order new nan
+      go false = refl
+
+  later-value : value order iids sids (laterValues f order iids sids val useStats stats apply) i m
+      ≡ laterValue f (changes f order iids sids val useStats stats apply) (found f order iids sids val useStats stats m) (value order iids sids val i m)
+  unfolding laterValues laterValue
+  later-value = go (isDone (bufferChecks iids sids val stats (done [])))
+    where
+      go : (b : Bool) → value order iids sids (cond b (newValues f order iids sids val useStats stats apply) val) i m
+          ≡ laterValue f (b && (apply && mayChange f order iids sids val useStats stats)) (found f order iids sids val useStats stats m) (value order iids sids val i m)
+      go true = new-value
+      go false = refl
 
 same-cell : (f : Format) {a b : Bool} {x y : MarkerStats} {u v : Float} → a ≡ b → x ≡ y → u ≡ v → laterValue f a x u ≡ laterValue f b y v
 same-cell f p q r = λ i. laterValue f (p i) (q i) (r i)
@@ -110,10 +123,10 @@ module _ (f : Format) (iids sids : ℕ) (rows cols : List Float) (useStats : Boo
   orders-found m h = foundFor-ext f (λ i. value true iids sids rows i m) (λ i. value false iids sids cols i m) useStats (statsAt stats m) iids (λ i k. cells i m k h)
 
   pub orders-same-answer : standardiseAnswer f true iids sids rows useStats stats ≡ standardiseAnswer f false iids sids cols useStats stats
-  orders-same-answer = answer-same f iids sids true false rows cols useStats stats l orders-found
+  orders-same-answer = answer-same f iids sids true false rows cols useStats stats orders-found l
 
   pub orders-same-stats : laterStats f true iids sids rows useStats stats ≡ laterStats f false iids sids cols useStats stats
-  orders-same-stats = stats-same f iids sids true false rows cols useStats stats l orders-found
+  orders-same-stats = stats-same f iids sids true false rows cols useStats stats orders-found l
 
   pub orders-same-values : isDone (standardiseAnswer f true iids sids rows useStats stats) ≡ true → (apply : Bool) (i m : ℕ) → i < iids → m < sids
       → value true iids sids (laterValues f true iids sids rows useStats stats apply) i m ≡ value false iids sids (laterValues f false iids sids cols useStats stats apply) i m
@@ -169,15 +182,30 @@ module _ (f : Format) (order : Bool) (iids sids : ℕ) (val val′ : List Float)
           reordered-stats f (λ k. value order iids sids val (π k) m) (λ i. value order iids sids val i m) iids (λ k b. calls (π k) m (names-below π iids names k b) h) (λ i b. calls i m b h) few
           (names-same π iids (λ i. value order iids sids val i m) names)
 
-  pub reordered-same-answer : standardiseAnswer f order iids sids val′ useStats stats ≡ standardiseAnswer f order iids sids val useStats stats
-  reordered-same-answer = answer-same f iids sids order order val′ val useStats stats l reordered-found
+  -- the answer of the markers, the statistics and the values once the buffers are checked
+  pub reordered-lowest : lowestRefused f order iids sids val′ useStats stats ≡ lowestRefused f order iids sids val useStats stats
+  reordered-lowest = lowest-same f iids sids order order val′ val useStats stats reordered-found
 
-  pub reordered-same-stats : laterStats f order iids sids val′ useStats stats ≡ laterStats f order iids sids val useStats stats
-  reordered-same-stats = stats-same f iids sids order order val′ val useStats stats l reordered-found
+  pub reordered-new-stats : newStats f order iids sids val′ useStats stats ≡ newStats f order iids sids val useStats stats
+  reordered-new-stats = new-stats-same f iids sids order order val′ val useStats stats reordered-found
 
   may-same : mayChange f order iids sids val′ useStats stats ≡ mayChange f order iids sids val useStats stats
   unfolding mayChange
-  may-same = ap (λ (a : Answer). cond order (isDone a) true) (lowest-same f iids sids order order val′ val useStats stats l reordered-found)
+  may-same = ap (λ (a : Answer). cond order (isDone a) true) reordered-lowest
+
+  pub reordered-new-values : (apply : Bool) (k m : ℕ) → k < iids → m < sids
+      → value order iids sids (newValues f order iids sids val′ useStats stats apply) k m ≡ value order iids sids (newValues f order iids sids val useStats stats apply) (π k) m
+  reordered-new-values apply k m hk hm =
+      new-value f order iids sids val′ useStats stats apply k m hk hm
+      ∙ same-cell f (λ j. apply && may-same j) (reordered-found m hm) (moved k m hk hm)
+      ∙ sym (new-value f order iids sids val useStats stats apply (π k) m (names-below π iids names k hk) hm)
+
+  -- and after the call
+  pub reordered-same-answer : standardiseAnswer f order iids sids val′ useStats stats ≡ standardiseAnswer f order iids sids val useStats stats
+  reordered-same-answer = answer-same f iids sids order order val′ val useStats stats reordered-found l
+
+  pub reordered-same-stats : laterStats f order iids sids val′ useStats stats ≡ laterStats f order iids sids val useStats stats
+  reordered-same-stats = stats-same f iids sids order order val′ val useStats stats reordered-found l
 
   pub reordered-moved-values : (apply : Bool) (k m : ℕ) → k < iids → m < sids
       → value order iids sids (laterValues f order iids sids val′ useStats stats apply) k m ≡ value order iids sids (laterValues f order iids sids val useStats stats apply) (π k) m

@@ -196,8 +196,15 @@ fn value(r: &mut Rng, kind: Kind, missing: u64, bad_in: u64) -> u64 {
     }
 }
 
-/// Two counts: small, one of them sometimes 0 and the other then anything.
+/// The size of a long draw, see `long`.
+const LONG: u64 = 1100;
+
+/// Two counts: small, one of them sometimes 0 and the other then anything. Of a long draw: one near a step of the loops.
 fn counts(r: &mut Rng, most: u64) -> (u64, u64) {
+    if most == LONG {
+        let (many, few) = (r.pick(&[64, 128, 256, 1024]) + r.below(5) - 2, 1 + r.below(5));
+        return if r.flag() == 0 { (many, few) } else { (few, many) };
+    }
     match r.below(24) {
         0 => (0, r.edge()),
         1 => (r.edge(), 0),
@@ -218,10 +225,19 @@ fn room(a: u64, b: u64) -> usize {
     }
 }
 
+/// Mostly small; sometimes large enough for whatever is done in steps of 16 or so.
 pub fn draw(name: &str, r: &mut Rng) -> Case {
-    let kind = if name.ends_with("i8") { Kind::I8 } else { Kind::F64 };
-    // Mostly small; sometimes large enough for whatever is done in steps of 16 or so.
     let most = if r.once_in(25) { 70 } else { 9 };
+    sized(name, r, most)
+}
+
+/// One side of a matrix about as long as a step of the library's loops: 64, 128, 256 or 1,024.
+pub fn long(name: &str, r: &mut Rng) -> Case {
+    sized(name, r, LONG)
+}
+
+fn sized(name: &str, r: &mut Rng, most: u64) -> Case {
+    let kind = if name.ends_with("i8") { Kind::I8 } else { Kind::F64 };
     let args = match name {
         "open_and_check" => {
             let n = r.below(7) as usize;
@@ -255,7 +271,8 @@ pub fn draw(name: &str, r: &mut Rng) -> Case {
             let (iids, sids) = counts(r, most);
             let mode = if r.once_in(30) { r.below(256) } else { r.flag() };
             let file = file(r, mode, iids, sids);
-            let (iid_index, sid_index) = (r.list(iids, most + 1), r.list(sids, most));
+            let (iid_most, sid_most) = if most == LONG { (iids + 1, sids) } else { (most + 1, most) };
+            let (iid_index, sid_index) = (r.list(iids, iid_most), r.list(sids, sid_most));
             let right = iid_index.len() * sid_index.len();
             let mut args = vec![B(file), N(iids), N(sids), N(r.flag()), B(iid_index), B(sid_index.clone())];
             let n = r.length(right);
@@ -345,7 +362,7 @@ pub fn draw(name: &str, r: &mut Rng) -> Case {
             let n = r.below(15) as usize;
             vec![N(count), N(start), N(r.flag()), N(end), N(step), B(r.old(Kind::I64, n))]
         }
-        "file_ata_piece" | "file_aat_piece" => piece(name == "file_ata_piece", if most > 9 { 24 } else { 5 }, r),
+        "file_ata_piece" | "file_aat_piece" => piece(name == "file_ata_piece", if most == LONG { LONG } else if most > 9 { 24 } else { 5 }, r),
         "root_f64" => vec![N(root_draw(r))],
         _ => panic!("no call {name}"),
     };
@@ -354,6 +371,11 @@ pub fn draw(name: &str, r: &mut Rng) -> Case {
 
 fn piece(ata: bool, most: u64, r: &mut Rng) -> Vec<Arg> {
     let (rows, cols) = match r.below(20) {
+        n if most == LONG => match n % 3 {
+            0 => (254 + r.below(5), 1 + r.below(20)),
+            1 => (1 + r.below(20), 254 + r.below(5)),
+            _ => (60 + r.below(12), 30 + r.below(8)),
+        },
         0 => (r.edge(), r.below(4)),
         1 => (r.below(4), r.edge()),
         2 => ((1 << 61) * r.below(5) + r.below(3), r.below(6)),

@@ -169,7 +169,7 @@ impl Words {
 fn compare(words: &Words, seed: u64, folder: &Folder) -> u64 {
     let (draws, root_draws) = (words.number("draws", 100_000), words.number("roots", 20_000_000));
     println!("the original: {}, cut out of its source", env!("CUT"));
-    println!("seed {seed}, {draws} draws for each call, {root_draws} for the root");
+    println!("seed {seed}, {draws} draws for each call and {} long ones, {root_draws} for the root", draws / 50);
     let mut different = 0;
     for (i, (name, _)) in CALLS.iter().enumerate() {
         if words.get("call").is_some_and(|only| only != *name) {
@@ -183,6 +183,7 @@ fn compare(words: &Words, seed: u64, folder: &Folder) -> u64 {
             roots(&mut seen, &mut rng, root_draws);
         } else {
             (0..draws).for_each(|_| judge(&mut seen, &draw::draw(name, &mut rng), folder));
+            (0..draws / 50).for_each(|_| judge(&mut seen, &draw::long(name, &mut rng), folder));
         }
         if let Some(least) = seen.least.take() {
             seen.different.1 = shrink(least, folder);

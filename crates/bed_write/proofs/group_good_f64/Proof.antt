@@ -1,5 +1,4 @@
 -- `group_good_f64`: each of the four places.
-use borrow.Author.Needs.{needs}
 use native.Mathlib.Omega.{arith}
 use Rattle.bed_write.proofs.group_good_f64.Statement.{statement}
 use Rattle.bed_write.proofs.group_good_f64.Tie as tie

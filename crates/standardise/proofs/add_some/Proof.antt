@@ -1,5 +1,4 @@
 -- `add_some`: one value more, or four numbers.
-use Prim.Native.Nat.{ℕ}
 use Rattle.standardise.proofs.FourLaws.{one-passed, four-passed}
 use borrow.Author.Needs.{needs}
 use lib.Ieee.{ofBits, binary64}

@@ -1,7 +1,6 @@
 -- `count_tile`: the animals passed are counted.
 use Prim.Native.Nat.{_+_, _*_, _-_, _≤_}
 use Rattle.standardise.proofs.TileLaws.{TileCounted, tile-none, tile-more, tile-four, tile-all, row-inside, rows-inside}
-use borrow.Author.Needs.{needs}
 use lib.Ieee.{binary64}
 use native.Mathlib.Omega.{arith}
 use Rattle.standardise.proofs.count_tile.Statement.{statement}

@@ -7,7 +7,8 @@ use Rattle.genotype.specs.Block.{blockWidth}
 use Rattle.genotype.specs.Value.{float}
 use borrow.Author.Needs.{needs}
 use Rattle.block.proofs.CheckLaws.{decodable}
-use Rattle.block.proofs.ColumnLaws.{column-new, column-kept, is-done-of}
+use Rattle.genotype.proofs.AnswerLaws.{is-done-of}
+use Rattle.block.proofs.ColumnLaws.{column-new, column-kept}
 use Rattle.block.proofs.decode.decode1_f64.Statement.{statement}
 use Rattle.block.proofs.decode.decode1_f64.Tie as tie
 

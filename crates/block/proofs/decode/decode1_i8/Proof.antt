@@ -9,7 +9,8 @@ use Rattle.genotype.specs.Block.{blockWidth}
 use Rattle.genotype.specs.Value.{i8, values}
 use borrow.Author.Needs.{needs}
 use Rattle.block.proofs.CheckLaws.{decodable}
-use Rattle.block.proofs.ColumnLaws.{column-new, column-kept, is-done-of}
+use Rattle.genotype.proofs.AnswerLaws.{is-done-of}
+use Rattle.block.proofs.ColumnLaws.{column-new, column-kept}
 use Rattle.block.proofs.decode.decode1_i8.Statement.{statement}
 use Rattle.block.proofs.decode.decode1_i8.Tie as tie
 

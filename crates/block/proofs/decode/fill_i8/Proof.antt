@@ -2,7 +2,7 @@
 use mathlib.Core.Path.{refl, ap, _∙_}
 use Prim.Native.Nat.{ℕ, _-_}
 use native.Mathlib.Omega.{arith}
-use borrow.Author.Needs.{needs, sfits-of}
+use borrow.Author.Needs.{sfits-of}
 use mir.Syntax.{w8}
 use mir.ValLaws.{toZ-ofZ}
 use lib.IntN.{pos}

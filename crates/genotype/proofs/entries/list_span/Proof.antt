@@ -1,5 +1,4 @@
 -- `list_span`: the span so far and the bytes that are left make the span of the whole list.
-use mathlib.Core.Path.{_≡_}
 use Prim.Native.Nat.{_-_}
 use native.Mathlib.Omega.{arith}
 use borrow.Author.Needs.{needs}

@@ -1,5 +1,4 @@
 -- `magnitude`: −1 − e does not wrap, and neither cast loses anything.
-use mathlib.Core.Path.{sym, _∙_}
 use Rattle.genotype.proofs.entries.magnitude.Statement.{statement}
 use Rattle.genotype.proofs.entries.magnitude.Tie as tie
 use Rattle.genotype.proofs.SignedLaws.{turned, turned-fits, fronted, casts, cast-is}

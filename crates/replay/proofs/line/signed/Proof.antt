@@ -1,5 +1,5 @@
 -- The number fits.
-use Prim.Native.Nat.{_-_, _%_}
+use Prim.Native.Nat.{_-_}
 use native.Mathlib.Omega.{arith}
 use mir.Syntax.{w64}
 use Rattle.replay.proofs.Signed.{fits-back}
