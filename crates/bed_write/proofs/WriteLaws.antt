@@ -3,7 +3,7 @@ use mathlib.Core.Path.{_≡_, refl, sym, ap, subst, _∙_}
 use mathlib.Core.Bool.{Bool, true, false, cond}
 use mathlib.Core.List.{List, [], _∷_}
 use mathlib.Core.Option.{Option, some, none}
-use Prim.Native.Nat.{ℕ, _+_, _-_, _*_, _^_, _<_, _≤_}
+use Prim.Native.Nat.{ℕ, _+_, _-_, _*_, _^_, _<_, _≤_, _/_}
 use native.Mathlib.Nat.{mul-comm, le-refl}
 use native.Mathlib.Omega.{arith}
 use borrow.Author.Tests.{eqb-true, leb-true, eq-eqb, ne-eqb, lt-ltb, le-ltb}
@@ -201,6 +201,11 @@ pub grow :
     (Q : ℕ → ℕ → Type 0) → ((k x y : ℕ) → x ≤ y → Q k x → Q k y) → (i x y : ℕ) → x ≤ y → ((k : ℕ) → k < i → Q k x) → Q i y → (k : ℕ) → k < i + 1 → Q k y
 grow Q mono i x y h before here k l =
     by-lt k i (λ b. mono k x y h (before k b)) (λ b. let e : i ≡ k = omega arith in subst (λ (j : ℕ). Q j y) e here)
+
+-- nothing counted so far and nothing here: a number of 4 or more would be counted
+pub none-counted : (number : ℕ → ℕ) (i bad n : ℕ) → (bad ≡ 0 → (k : ℕ) → k < i → number k < 4) → n ≡ number i → bad + n / 4 ≡ 0 → (k : ℕ) → k < i + 1 → number k < 4
+none-counted number i bad n before e z k l =
+    by-lt k i (λ b. before (omega arith) k b) (λ b. let q : i ≡ k = omega arith in subst (λ (j : ℕ). number j < 4) q (let h : n < 4 = omega arith in omega arith))
 
 -- ---- a matrix whose numbers are found by place
 module _ (number : ℕ → ℕ) (order : Bool) (iids sids : ℕ) where

@@ -68,25 +68,44 @@ fn code_i8(value: i8, table: &[u8; 256]) -> u8
     table[at]
 }
 
+fn wide(code: u8) -> usize
+    ensures { λ r. ⌜ r ≡ code ⌝ }
+{
+    code as usize
+}
+
+fn narrow(code: usize) -> u8
+    requires { ⌜ code < 5 ⌝ }
+    ensures { λ r. ⌜ r ≡ code ⌝ }
+{
+    code as u8
+}
+
 // One of two numbers by a test, without a branch.
-fn choose(test: bool, yes: u8, no: u8) -> u8
+fn choose(test: bool, yes: usize, no: usize) -> usize
     requires { ⌜ (yes < 5) × (no < 5) ⌝ }
     ensures { λ r. ⌜ (r ≡ cond test yes no) × (r < 5) ⌝ }
 {
-    let k = test as u8;
+    let k = test as usize;
     k * yes + (1 - k) * no
 }
 
-// Only a NaN is not equal to itself.
-fn code_f64(value: f64, is_a1_counted: bool, missing: f64) -> u8
-    ensures { λ r. ⌜ r ≡ orFour (codeOf float «is_a1_counted» missing value) ⌝ }
+// The code of a value, or 4, as wide as the value, so that several can be made at once. Only a NaN is not equal to itself.
+fn number_f64(value: f64, is_a1_counted: bool, missing: f64) -> usize
+    ensures { λ r. ⌜ (r ≡ orFour (codeOf float «is_a1_counted» missing value)) × (r < 5) ⌝ }
 {
     let nan = choose(missing == missing, 4, 1);
     let number = choose(value == value, 4, nan);
     let absent = choose(value == missing, 1, number);
-    let two = choose(value == 2.0, code_of_two(is_a1_counted), absent);
+    let two = choose(value == 2.0, wide(code_of_two(is_a1_counted)), absent);
     let one = choose(value == 1.0, 2, two);
-    choose(value == 0.0, code_of_zero(is_a1_counted), one)
+    choose(value == 0.0, wide(code_of_zero(is_a1_counted)), one)
+}
+
+fn code_f64(value: f64, is_a1_counted: bool, missing: f64) -> u8
+    ensures { λ r. ⌜ r ≡ orFour (codeOf float «is_a1_counted» missing value) ⌝ }
+{
+    narrow(number_f64(value, is_a1_counted, missing))
 }
 
 // The code of place k of the group of values that stand `stride` apart from `start` on, of which `left` are there.
@@ -156,9 +175,9 @@ fn group_f64(
 fn good_code_f64(value: f64, is_a1_counted: bool) -> u8
     ensures { λ r. ⌜ ((missing : Float) → orFour (codeOf float «is_a1_counted» missing value) < 4 → r ≡ orFour (codeOf float «is_a1_counted» missing value)) ⌝ }
 {
-    let two = choose(value == 2.0, code_of_two(is_a1_counted), 1);
+    let two = choose(value == 2.0, wide(code_of_two(is_a1_counted)), 1);
     let one = choose(value == 1.0, 2, two);
-    choose(value == 0.0, code_of_zero(is_a1_counted), one)
+    narrow(choose(value == 0.0, wide(code_of_zero(is_a1_counted)), one))
 }
 
 // The code of place k of a group, and the codes of a whole group, of values that are known not to be bad.

@@ -16,17 +16,17 @@ use super::WriteAnswer;
 use genotype::entries::IidIndex;
 use genotype::entries::SidIndex;
 
-// The largest number of all values, along the grain: below 4 if none is bad.
-fn worst_f64(val: &[f64], is_a1_counted: bool, missing: f64) -> u8
-    ensures { λ r. ⌜ ((k : ℕ) → k < length (now (val .entry)) → byTests «is_a1_counted» missing (now (val .entry)) k ≤ r) ⌝ }
+// How many values are bad, along the grain.
+fn bad_count_f64(val: &[f64], is_a1_counted: bool, missing: f64) -> usize
+    ensures { λ r. ⌜ (r ≡ 0 → (k : ℕ) → k < length (now (val .entry)) → byTests «is_a1_counted» missing (now (val .entry)) k < 4) ⌝ }
 {
-    let mut worst = 0;
+    let mut bad = 0;
     let mut i = 0;
     while i < val.len() {
-        worst = super::worse(worst, crate::code_f64(val[i], is_a1_counted, missing));
+        bad += crate::number_f64(val[i], is_a1_counted, missing) / 4;
         i += 1;
     }
-    worst
+    bad
 }
 
 fn first_bad_f64(
@@ -76,7 +76,7 @@ fn search_f64(
     requires { ⌜ «iid_count» * «sid_count» ≡ length (now val) ⌝ }
     ensures { λ r. ⌜ (badSays r ≡ firstOver «iid_count» «sid_count» (placed (byTests «is_a1_counted» missing (now (val .entry))) «animal_order» «iid_count» «sid_count»)) ⌝ }
 {
-    if worst_f64(val, is_a1_counted, missing) < 4 {
+    if bad_count_f64(val, is_a1_counted, missing) == 0 {
         return BadCall::Nothing;
     }
     first_bad_f64(
