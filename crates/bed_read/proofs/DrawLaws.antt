@@ -8,7 +8,17 @@ use lib.Seq.{getD-set-same, getD-set-other, set-out}
 use Rattle.genotype.specs.Lists.{tabulate}
 use Rattle.genotype.proofs.Tests.{by-lt}
 use Rattle.genotype.proofs.Tabulate.{is-tabulate}
-use Rattle.bed_read.specs.Inner.{Drawn}
+use Rattle.bed_read.specs.Inner.{setTwo, Drawn}
+
+-- two places set
+module _ {A : Type 0} where
+  pub two-long : (out new : List A) (p : ℕ) (v w : A) → new ≡ setTwo out p v w → length new ≡ length out
+  unfolding setTwo
+  two-long out new p v w e = ap length e ∙ length-set (set out p v) (p + 1) w ∙ length-set out p v
+
+  pub two-set : (out : List A) (p : ℕ) (v w x y : A) → v ≡ x → w ≡ y → set (set out p v) (p + 1) w ≡ setTwo out p x y
+  unfolding setTwo
+  two-set out p v w x y e f = ap (λ (z : A). set (set out p z) (p + 1) w) e ∙ ap (set (set out p x) (p + 1)) f
 
 module _ {A : Type 0} (d : A) where
   -- one store of what belongs there
@@ -66,71 +76,98 @@ module _ {A : Type 0} (d : A) where
         first zero t h b = refl
         first (suc j) t h b = absurd (omega arith)
 
-    -- one place more of four lines
-    module _ (k p0 p1 p2 p3 : ℕ) (v0 v1 v2 v3 : A) (out : List A) (f : Drawn d 4 m place value old k out) (h : k < m)
-        (at0 : p0 ≡ place 0 k) (at1 : p1 ≡ place 1 k) (at2 : p2 ≡ place 2 k) (at3 : p3 ≡ place 3 k)
-        (l0 : p0 < length old) (l1 : p1 < length old) (l2 : p2 < length old) (l3 : p3 < length old)
-        (s0 : v0 ≡ value 0 k) (s1 : v1 ≡ value 1 k) (s2 : v2 ≡ value 2 k) (s3 : v3 ≡ value 3 k) where
-      abbrev out1 : List A
-      out1 = set out p0 v0
+    -- two neighbouring places of one of four lines
+    module _ (r : ℕ) (hm : r + 2 ≤ m) (j : ℕ) (hj : j < 4) (out new : List A) (p : ℕ) (at : p ≡ place j r) (next : p + 1 ≡ place j (r + 1)) (l : p + 1 < length out)
+        (e : new ≡ setTwo out p (value j r) (value j (r + 1))) where
+      module _ (G : ℕ → A) (a : (j t : ℕ) → j < 4 → t < m → value j t ≡ G (place j t)) where
+        first-right : value j r ≡ G p
+        first-right = a j r hj (omega arith) ∙ ap G (sym at)
 
-      abbrev out2 : List A
-      out2 = set out1 p1 v1
+        next-right : value j (r + 1) ≡ G (p + 1)
+        next-right = a j (r + 1) hj (omega arith) ∙ ap G (sym next)
 
-      abbrev out3 : List A
-      out3 = set out2 p2 v2
+        keeps-pair : (q : ℕ) → getD out q d ≡ G q → getD new q d ≡ G q
+        unfolding setTwo
+        keeps-pair q f =
+            ap (λ (x : List A). getD x q d) e
+            ∙ keeps G (set out p (value j r)) (p + 1) (value j (r + 1)) next-right q (keeps G out p (value j r) first-right q f)
 
-      abbrev out4 : List A
-      out4 = set out3 p3 v3
+        first-here : getD new (place j r) d ≡ G (place j r)
+        unfolding setTwo
+        first-here =
+            subst (λ (x : ℕ). getD new x d ≡ G x) at
+            (ap (λ (x : List A). getD x p d) e
+            ∙ keeps G (set out p (value j r)) (p + 1) (value j (r + 1)) next-right p (here G out p (value j r) first-right (omega arith)))
+
+        next-here : getD new (place j (r + 1)) d ≡ G (place j (r + 1))
+        unfolding setTwo
+        next-here =
+            subst (λ (x : ℕ). getD new x d ≡ G x) next
+            (ap (λ (x : List A). getD x (p + 1) d) e
+            ∙ here G (set out p (value j r)) (p + 1) (value j (r + 1)) next-right (let z = length-set out p (value j r) in omega arith))
+
+        pair-here : (t : ℕ) → r ≤ t → t < r + 2 → getD new (place j t) d ≡ G (place j t)
+        pair-here t b c =
+            by-lt t (r + 1) (λ x. let q : r ≡ t = omega arith in subst (λ (y : ℕ). getD new (place j y) d ≡ G (place j y)) q first-here)
+            (λ x. let q : r + 1 ≡ t = omega arith in subst (λ (y : ℕ). getD new (place j y) d ≡ G (place j y)) q next-here)
+
+    -- of all four
+    module _ (k r p0 p1 p2 p3 : ℕ) (out out1 out2 out3 out4 : List A) (f : Drawn d 4 m place value old k out) (hr : r ≤ k) (hm : r + 2 ≤ m)
+        (at0 : p0 ≡ place 0 r) (at1 : p1 ≡ place 1 r) (at2 : p2 ≡ place 2 r) (at3 : p3 ≡ place 3 r)
+        (next0 : p0 + 1 ≡ place 0 (r + 1)) (next1 : p1 + 1 ≡ place 1 (r + 1)) (next2 : p2 + 1 ≡ place 2 (r + 1)) (next3 : p3 + 1 ≡ place 3 (r + 1))
+        (l0 : p0 + 1 < length old) (l1 : p1 + 1 < length old) (l2 : p2 + 1 < length old) (l3 : p3 + 1 < length old)
+        (e0 : out1 ≡ setTwo out p0 (value 0 r) (value 0 (r + 1))) (e1 : out2 ≡ setTwo out1 p1 (value 1 r) (value 1 (r + 1)))
+        (e2 : out3 ≡ setTwo out2 p2 (value 2 r) (value 2 (r + 1))) (e3 : out4 ≡ setTwo out3 p3 (value 3 r) (value 3 (r + 1))) where
+      in0 : p0 + 1 < length out
+      in0 = omega (arith, l0, f .long)
 
       long1 : length out1 ≡ length old
-      long1 = length-set out p0 v0 ∙ f .long
+      long1 = two-long out out1 p0 (value 0 r) (value 0 (r + 1)) e0 ∙ f .long
+
+      in1 : p1 + 1 < length out1
+      in1 = omega (arith, l1, long1)
 
       long2 : length out2 ≡ length old
-      long2 = length-set out1 p1 v1 ∙ long1
+      long2 = two-long out1 out2 p1 (value 1 r) (value 1 (r + 1)) e1 ∙ long1
+
+      in2 : p2 + 1 < length out2
+      in2 = omega (arith, l2, long2)
 
       long3 : length out3 ≡ length old
-      long3 = length-set out2 p2 v2 ∙ long2
+      long3 = two-long out2 out3 p2 (value 2 r) (value 2 (r + 1)) e2 ∙ long2
+
+      in3 : p3 + 1 < length out3
+      in3 = omega (arith, l3, long3)
 
       module _ (G : ℕ → A) (a : (j t : ℕ) → j < 4 → t < m → value j t ≡ G (place j t)) where
-        r0 : v0 ≡ G p0
-        r0 = s0 ∙ a 0 k (omega arith) h ∙ ap G (sym at0)
+        keeps3 : (q : ℕ) → getD out3 q d ≡ G q → getD out4 q d ≡ G q
+        keeps3 = keeps-pair r hm 3 (omega arith) out3 out4 p3 at3 next3 in3 e3 G a
 
-        r1 : v1 ≡ G p1
-        r1 = s1 ∙ a 1 k (omega arith) h ∙ ap G (sym at1)
+        keeps2 : (q : ℕ) → getD out2 q d ≡ G q → getD out4 q d ≡ G q
+        keeps2 q x = keeps3 q (keeps-pair r hm 2 (omega arith) out2 out3 p2 at2 next2 in2 e2 G a q x)
 
-        r2 : v2 ≡ G p2
-        r2 = s2 ∙ a 2 k (omega arith) h ∙ ap G (sym at2)
+        keeps1 : (q : ℕ) → getD out1 q d ≡ G q → getD out4 q d ≡ G q
+        keeps1 q x = keeps2 q (keeps-pair r hm 1 (omega arith) out1 out2 p1 at1 next1 in1 e1 G a q x)
 
-        r3 : v3 ≡ G p3
-        r3 = s3 ∙ a 3 k (omega arith) h ∙ ap G (sym at3)
+        keeps0 : (q : ℕ) → getD out q d ≡ G q → getD out4 q d ≡ G q
+        keeps0 q x = keeps1 q (keeps-pair r hm 0 (omega arith) out out1 p0 at0 next0 in0 e0 G a q x)
 
-        from2 : (q : ℕ) → getD out2 q d ≡ G q → getD out4 q d ≡ G q
-        from2 q r = keeps G out3 p3 v3 r3 q (keeps G out2 p2 v2 r2 q r)
+        puts-four : (j t : ℕ) → j < 4 → r ≤ t → t < r + 2 → getD out4 (place j t) d ≡ G (place j t)
+        puts-four zero t h b c = keeps1 (place 0 t) (pair-here r hm 0 h out out1 p0 at0 next0 in0 e0 G a t b c)
+        puts-four (suc zero) t h b c = keeps2 (place 1 t) (pair-here r hm 1 h out1 out2 p1 at1 next1 in1 e1 G a t b c)
+        puts-four (suc (suc zero)) t h b c = keeps3 (place 2 t) (pair-here r hm 2 h out2 out3 p2 at2 next2 in2 e2 G a t b c)
+        puts-four (suc (suc (suc zero))) t h b c = pair-here r hm 3 h out3 out4 p3 at3 next3 in3 e3 G a t b c
+        puts-four (suc (suc (suc (suc j)))) t h b c = absurd (omega arith)
 
-        from0 : (q : ℕ) → getD out q d ≡ G q → getD out4 q d ≡ G q
-        from0 q r = from2 q (keeps G out1 p1 v1 r1 q (keeps G out p0 v0 r0 q r))
-
-        now-there : (j : ℕ) → j < 4 → getD out4 (place j k) d ≡ G (place j k)
-        now-there zero b =
-            subst (λ (y : ℕ). getD out4 y d ≡ G y) at0 (from2 p0 (keeps G out1 p1 v1 r1 p0 (here G out p0 v0 r0 (omega (arith, l0, f .long)))))
-        now-there (suc zero) b = subst (λ (y : ℕ). getD out4 y d ≡ G y) at1 (from2 p1 (here G out1 p1 v1 r1 (omega (arith, l1, long1))))
-        now-there (suc (suc zero)) b =
-            subst (λ (y : ℕ). getD out4 y d ≡ G y) at2 (keeps G out3 p3 v3 r3 p2 (here G out2 p2 v2 r2 (omega (arith, l2, long2))))
-        now-there (suc (suc (suc zero))) b = subst (λ (y : ℕ). getD out4 y d ≡ G y) at3 (here G out3 p3 v3 r3 (omega (arith, l3, long3)))
-        now-there (suc (suc (suc (suc j)))) b = absurd (omega arith)
-
-        puts-four : (j t : ℕ) → j < 4 → t < k + 1 → getD out4 (place j t) d ≡ G (place j t)
-        puts-four j t b c =
-            by-lt t k (λ x. from0 (place j t) (f .draws G a .1 j t b x))
-            (λ x. let q : k ≡ t = omega (arith, c, x) in subst (λ (y : ℕ). getD out4 (place j y) d ≡ G (place j y)) q (now-there j b))
-
-      pub drawn-four : Drawn d 4 m place value old (k + 1) (set (set (set (set out p0 v0) p1 v1) p2 v2) p3 v3)
+      pub drawn-four : Drawn d 4 m place value old (r + 2) out4
       drawn-four =
           record {
-            bound = omega (arith, h);
-            long = length-set out3 p3 v3 ∙ long3;
-            draws = λ G a. (λ q r. from0 G a q (f .draws G a .0 q r), puts-four G a);
+            bound = hm;
+            long = two-long out3 out4 p3 (value 3 r) (value 3 (r + 1)) e3 ∙ long3;
+            draws = λ G a. (
+              λ q x. keeps0 G a q (f .draws G a .0 q x),
+              λ j t h b. by-lt t r (λ x. keeps0 G a (place j t) (f .draws G a .1 j t h (omega arith))) (λ x. puts-four G a j t h x b),
+            );
           }
 
   module _ (m : ℕ) (place : ℕ → ℕ → ℕ) (value : ℕ → ℕ → A) (old : List A) (lines : ℕ) where

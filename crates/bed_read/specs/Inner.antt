@@ -5,7 +5,7 @@ use mathlib.Core.List.{List, map}
 use mathlib.Core.Option.{none}
 use Prim.Native.Nat.{ℕ, _+_, _-_, _*_, _/_, _%_, _<_, _≤_}
 use lib.IntN.{ℤ, pos}
-use lib.ListN.{length, getD}
+use lib.ListN.{length, getD, set}
 use Rattle.genotype.specs.Block.{blockWidth, fileLength}
 use Rattle.genotype.specs.Code.{codeAt, codeTable}
 use Rattle.genotype.specs.Entry.{firstBad, means}
@@ -89,6 +89,10 @@ lineValue true v file iids sids iidList sidList o t = v (readCode file iids sids
 lineValue false v file iids sids iidList sidList o t = v (readCode file iids sids iidList sidList t o)
 
 -- ---- filling a matrix
+-- places p and p + 1 set
+unfoldable pub setTwo : {A : Type 0} → List A → ℕ → A → A → List A
+setTwo out p v w = set (set out p v) (p + 1) w
+
 -- the first k places of some lines of m places are stored: value j t at place j t. Said for every list G of values that has them there:
 -- what agreed with G still does, and those places do
 pub record Drawn {A : Type 0} (d : A) (lines m : ℕ) (place : ℕ → ℕ → ℕ) (value : ℕ → ℕ → A) (old : List A) (k : ℕ) (new : List A) : Type 0 where

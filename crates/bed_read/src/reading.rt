@@ -301,14 +301,28 @@ fn is_along(mode_1: bool, animal_order: bool) -> bool
     animal_order
 }
 
-// How many lines may be read four at a time: all where a line is a block, else none.
-fn lines_by_four(mode_1: bool, animal_order: bool, lines: usize) -> usize
-    ensures { λ r. ⌜ (r ≤ lines) × (0 < r → isBlock «mode_1» «animal_order» ≡ true) ⌝ }
+// How many lines may be read four at a time, for n places of each: all where a line is a block and there are two places, else none.
+fn lines_by_four(mode_1: bool, animal_order: bool, lines: usize, n: usize) -> usize
+    ensures { λ r. ⌜ (r ≤ lines) × (0 < r → (isBlock «mode_1» «animal_order» ≡ true) × (2 ≤ n)) ⌝ }
 {
+    if n < 2 {
+        return 0;
+    }
     if is_along(mode_1, animal_order) {
         return lines;
     }
     0
+}
+
+// Where the next two of n places begin, of which k are done: at the end the last two, of which one may be done.
+fn pair_at(k: usize, n: usize) -> usize
+    requires { ⌜ (k < n) × (2 ≤ n) ⌝ }
+    ensures { λ r. ⌜ (r ≤ k) × (k < r + 2) × (r + 2 ≤ n) ⌝ }
+{
+    if k + 1 < n {
+        return k;
+    }
+    n - 2
 }
 
 // The end of the tile that starts at `from`: 1,024 neighbouring items or 128 neighbouring blocks, or what is left.

@@ -8,7 +8,7 @@ ghost use lib.ListN.{length, getD};
 ghost use Rattle.genotype.specs.Code.{codeTable};
 ghost use Rattle.genotype.specs.Value.{float, values};
 ghost use Rattle.bed_read.specs.Reading.{readAnswer, codesRead, readBuffer};
-ghost use Rattle.bed_read.specs.Inner.{Ready, lengthOf, InOrder, Resolved, Inside, valueIn, ByCode, valueAt, Drawn, ReadTo};
+ghost use Rattle.bed_read.specs.Inner.{Ready, lengthOf, InOrder, Resolved, Inside, valueIn, ByCode, valueAt, setTwo, Drawn, ReadTo};
 ghost use Rattle.bed_read.specs.Says.{readSays};
 use super::ReadAnswer;
 use super::Shape;
@@ -95,7 +95,27 @@ fn read_line(
     }
 }
 
-// The same of four blocks, whose lines are `inner` places apart.
+// Two entries of one block, at neighbouring places.
+fn read_pair(
+    file: &[u8],
+    start: usize,
+    byte: usize,
+    place: usize,
+    next_byte: usize,
+    next_place: usize,
+    table: &[f64; 1024],
+    at: usize,
+    val: &mut [f64],
+)
+    requires { ⌜ ByCode (now table) nan × (start + byte < length (now file)) × (place < 4) × (start + «next_byte» < length (now file)) × («next_place» < 4) × (at + 1 < length (now val)) ⌝ }
+    ensures { λ _. ⌜ now (val .exit) ≡ setTwo (now (val .entry)) at (valueAt (valueIn (now (table .entry)) nan) (now (file .entry)) (start + byte) place) (valueAt (valueIn (now (table .entry)) nan) (now (file .entry)) (start + «next_byte») «next_place») ⌝ }
+{
+    let next = at + 1;
+    val[at] = call_value(file, start + byte, place, table);
+    val[next] = call_value(file, start + next_byte, next_place, table);
+}
+
+// The same as `read_line` of four blocks, whose lines are `inner` places apart: two entries a turn.
 fn read_four(
     file: &[u8],
     starts: &[usize; 4],
@@ -107,7 +127,7 @@ fn read_four(
     n: usize,
     val: &mut [f64],
 )
-    requires { ⌜ ByCode (now table) nan × ((j : ℕ) → j < 4 → Inside (now file) (getD (now starts) j 0) 0 (now bytes) (now places) n) × (n ≤ 1024) × (at + 3 * inner + n ≤ length (now val)) ⌝ }
+    requires { ⌜ ByCode (now table) nan × ((j : ℕ) → j < 4 → Inside (now file) (getD (now starts) j 0) 0 (now bytes) (now places) n) × (2 ≤ n) × (n ≤ 1024) × (at + 3 * inner + n ≤ length (now val)) ⌝ }
     ensures { λ _. ⌜ Drawn nan 4 n (λ j k. at + j * inner + k) (λ j k. valueAt (valueIn (now (table .entry)) nan) (now (file .entry)) (getD (now (starts .entry)) j 0 + getD (now (bytes .entry)) k 0) (getD (now (places .entry)) k 0)) (now (val .entry)) n (now (val .exit)) ⌝ }
 {
     let start0 = starts[0];
@@ -116,17 +136,61 @@ fn read_four(
     let start3 = starts[3];
     let mut k = 0;
     while k < n {
-        let byte = bytes[k];
-        let place = places[k];
-        let t0 = at + k;
+        let first = super::pair_at(k, n);
+        let next = first + 1;
+        let byte = bytes[first];
+        let place = places[first];
+        let next_byte = bytes[next];
+        let next_place = places[next];
+        let t0 = at + first;
         let t1 = t0 + inner;
         let t2 = t1 + inner;
         let t3 = t2 + inner;
-        val[t0] = call_value(file, start0 + byte, place, table);
-        val[t1] = call_value(file, start1 + byte, place, table);
-        val[t2] = call_value(file, start2 + byte, place, table);
-        val[t3] = call_value(file, start3 + byte, place, table);
-        k += 1;
+        read_pair(
+            file,
+            start0,
+            byte,
+            place,
+            next_byte,
+            next_place,
+            table,
+            t0,
+            val,
+        );
+        read_pair(
+            file,
+            start1,
+            byte,
+            place,
+            next_byte,
+            next_place,
+            table,
+            t1,
+            val,
+        );
+        read_pair(
+            file,
+            start2,
+            byte,
+            place,
+            next_byte,
+            next_place,
+            table,
+            t2,
+            val,
+        );
+        read_pair(
+            file,
+            start3,
+            byte,
+            place,
+            next_byte,
+            next_place,
+            table,
+            t3,
+            val,
+        );
+        k = first + 2;
     }
 }
 
@@ -172,7 +236,7 @@ fn read_tile(
 {
     let inner = super::length_of(!animal_order, iid_index.len(), sid_index.len());
     let outer = super::length_of(animal_order, iid_index.len(), sid_index.len());
-    let fours = super::lines_by_four(shape.mode1, animal_order, outer);
+    let fours = super::lines_by_four(shape.mode1, animal_order, outer, until - from);
     let mut o = 0;
     while o + 4 <= fours {
         let starts = super::four_starts(file, shape, iid_index, sid_index, animal_order, o);

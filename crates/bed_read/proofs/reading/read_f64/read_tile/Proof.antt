@@ -45,6 +45,9 @@ length-of-requires c κs = search needs
 length-of-requires-2 : tie.Need-length-of-requires-2 Inv-loop μ-loop Inv-loop2 μ-loop2
 length-of-requires-2 c κs = search needs
 
+sub-lines-by-four : tie.Need-sub-lines-by-four Inv-loop μ-loop Inv-loop2 μ-loop2
+sub-lines-by-four c = omega (arith, c .before .before .before .before .pre .3)
+
 lines-by-four-requires : tie.Need-lines-by-four-requires Inv-loop μ-loop Inv-loop2 μ-loop2
 lines-by-four-requires c κs = search needs
 
@@ -78,7 +81,8 @@ read-four-requires : tie.Need-read-four-requires Inv-loop μ-loop Inv-loop2 μ-l
 read-four-requires c κs =
     let s = c .before .before .before .before .before .before .before .before .before .before in (
       s .pre .1,
-      four-inside (s .args .table .now) nan (s .args .file .now) _ _ _ _ _ _ (s .pre .0) (s .args .animal-order) _ (c .before .before .before .before .before .before .before .length-of .ensures) _ (c .before .before .before .before .loop .val) (c .before .before .before .before .loop .o) _ _ _ _ (s .pre .4) (s .pre .2) (c .before .before .before .before .loop .inv) (c .before .before .four-starts .result) (c .before .before .four-starts .ensures) (c .before .before .before .before .before .lines-by-four .ensures .1 (omega (arith, c .before .before .before .loop-test .taken))) (four-there (c .before .before .before)),
+      four-inside (s .args .table .now) nan (s .args .file .now) _ _ _ _ _ _ (s .pre .0) (s .args .animal-order) _ (c .before .before .before .before .before .before .before .length-of .ensures) _ (c .before .before .before .before .loop .val) (c .before .before .before .before .loop .o) _ _ _ _ (s .pre .4) (s .pre .2) (c .before .before .before .before .loop .inv) (c .before .before .four-starts .result) (c .before .before .four-starts .ensures) (c .before .before .before .before .before .lines-by-four .ensures .1 (omega (arith, c .before .before .before .loop-test .taken)) .0) (four-there (c .before .before .before)),
+      c .before .before .before .before .before .lines-by-four .ensures .1 (omega (arith, c .before .before .before .loop-test .taken)) .1,
       s .pre .5,
       omega (arith, four-ends (c .before .before .before) _ (c .before .before .before .before .loop .inv .rows .long), s .pre .3, s .pre .4, c .before .before .before .before .before .before .before .length-of .ensures),
     )
@@ -92,7 +96,7 @@ loop-less c = omega (arith, c .before .before .before .before .before .before .l
 loop-again : tie.Need-loop-again Inv-loop μ-loop Inv-loop2 μ-loop2
 loop-again c =
     let s = c .before .before .before .before .before .before .before .before .before .before .before .before .before in
-    four-read (s .args .table .now) nan (s .args .file .now) _ _ _ _ _ _ (s .pre .0) (s .args .animal-order) _ (c .before .before .before .before .before .before .before .before .before .before .length-of .ensures) _ _ (c .before .before .before .before .before .before .before .loop .o) _ _ _ _ (s .pre .4) (s .pre .2) (c .before .before .before .before .before .before .before .loop .inv) (c .before .before .before .before .before .four-starts .result) (c .before .before .before .before .before .four-starts .ensures) (c .before .before .before .before .before .before .before .before .lines-by-four .ensures .1 (omega (arith, c .before .before .before .before .before .before .loop-test .taken))) (four-there (c .before .before .before .before .before .before)) (c .before .before .read-four .ensures)
+    four-read (s .args .table .now) nan (s .args .file .now) _ _ _ _ _ _ (s .pre .0) (s .args .animal-order) _ (c .before .before .before .before .before .before .before .before .before .before .length-of .ensures) _ _ (c .before .before .before .before .before .before .before .loop .o) _ _ _ _ (s .pre .4) (s .pre .2) (c .before .before .before .before .before .before .before .loop .inv) (c .before .before .before .before .before .four-starts .result) (c .before .before .before .before .before .four-starts .ensures) (c .before .before .before .before .before .before .before .before .lines-by-four .ensures .1 (omega (arith, c .before .before .before .before .before .before .loop-test .taken)) .0) (four-there (c .before .before .before .before .before .before)) (c .before .before .read-four .ensures)
 
 loop2-holds : tie.Need-loop2-holds Inv-loop μ-loop Inv-loop2 μ-loop2
 loop2-holds c = c .before .loop .inv
@@ -144,4 +148,4 @@ returns : tie.Need-returns Inv-loop μ-loop Inv-loop2 μ-loop2
 returns c = tile-all _ nan _ _ _ _ _ _ (c .before .loop2 .inv) (omega (arith, c .loop2-test .left, c .before .before .before .before .before .length-of2 .ensures)) (c .before .before .before .before .before .before .before .before .before .pre .4)
 
 pub read-tile-spec : {M : Type 1} → statement M
-read-tile-spec = tie.close (tie.spec Inv-loop μ-loop Inv-loop2 μ-loop2 length-of-requires length-of-requires-2 lines-by-four-requires loop-holds add-loop four-starts-requires mul-read-four add-read-four sub-read-four read-four-requires add-o loop-less loop-again loop2-holds part-at-requires mul-read-line add-read-line sub-read-line read-line-requires add-o-2 loop2-less loop2-again same-length returns)
+read-tile-spec = tie.close (tie.spec Inv-loop μ-loop Inv-loop2 μ-loop2 length-of-requires length-of-requires-2 sub-lines-by-four lines-by-four-requires loop-holds add-loop four-starts-requires mul-read-four add-read-four sub-read-four read-four-requires add-o loop-less loop-again loop2-holds part-at-requires mul-read-line add-read-line sub-read-line read-line-requires add-o-2 loop2-less loop2-again same-length returns)
