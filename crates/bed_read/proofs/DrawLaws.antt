@@ -12,13 +12,22 @@ use Rattle.bed_read.specs.Inner.{setTwo, Drawn}
 
 -- two places set
 module _ {A : Type 0} where
-  pub two-long : (out new : List A) (p : ℕ) (v w : A) → new ≡ setTwo out p v w → length new ≡ length out
+  two-long : (out new : List A) (p : ℕ) (v w : A) → new ≡ setTwo out p v w → length new ≡ length out
   unfolding setTwo
   two-long out new p v w e = ap length e ∙ length-set (set out p v) (p + 1) w ∙ length-set out p v
 
-  pub two-set : (out : List A) (p : ℕ) (v w x y : A) → v ≡ x → w ≡ y → set (set out p v) (p + 1) w ≡ setTwo out p x y
+  pub square-long : (out new : List A) (p q : ℕ) (a b v w : A) → new ≡ setTwo (setTwo out p a b) q v w → length new ≡ length out
+  square-long out new p q a b v w e = two-long (setTwo out p a b) new q v w e ∙ two-long out (setTwo out p a b) p a b refl
+
+  pub square-set :
+      (out : List A) (p q : ℕ) (a b v w a′ b′ v′ w′ : A) → a ≡ a′ → b ≡ b′ → v ≡ v′ → w ≡ w′
+      → set (set (set (set out p a) (p + 1) b) q v) (q + 1) w ≡ setTwo (setTwo out p a′ b′) q v′ w′
   unfolding setTwo
-  two-set out p v w x y e f = ap (λ (z : A). set (set out p z) (p + 1) w) e ∙ ap (set (set out p x) (p + 1)) f
+  square-set out p q a b v w a′ b′ v′ w′ ea eb ev ew =
+      ap (λ (z : A). set (set (set (set out p z) (p + 1) b) q v) (q + 1) w) ea
+      ∙ ap (λ (z : A). set (set (set (set out p a′) (p + 1) z) q v) (q + 1) w) eb
+      ∙ ap (λ (z : A). set (set (set (set out p a′) (p + 1) b′) q z) (q + 1) w) ev
+      ∙ ap (set (set (set (set out p a′) (p + 1) b′) q v′) (q + 1)) ew
 
 module _ {A : Type 0} (d : A) where
   -- one store of what belongs there
@@ -159,7 +168,7 @@ module _ {A : Type 0} (d : A) where
         puts-four (suc (suc (suc zero))) t h b c = pair-here r hm 3 h out3 out4 p3 at3 next3 in3 e3 G a t b c
         puts-four (suc (suc (suc (suc j)))) t h b c = absurd (omega arith)
 
-      pub drawn-four : Drawn d 4 m place value old (r + 2) out4
+      drawn-four : Drawn d 4 m place value old (r + 2) out4
       drawn-four =
           record {
             bound = hm;
@@ -169,6 +178,19 @@ module _ {A : Type 0} (d : A) where
               λ j t h b. by-lt t r (λ x. keeps0 G a (place j t) (f .draws G a .1 j t h (omega arith))) (λ x. puts-four G a j t h x b),
             );
           }
+
+    -- as two squares
+    pub drawn-squares :
+        (k r p0 p1 p2 p3 : ℕ) (out out2 out4 : List A) → Drawn d 4 m place value old k out → r ≤ k → r + 2 ≤ m
+        → p0 ≡ place 0 r → p1 ≡ place 1 r → p2 ≡ place 2 r → p3 ≡ place 3 r
+        → p0 + 1 ≡ place 0 (r + 1) → p1 + 1 ≡ place 1 (r + 1) → p2 + 1 ≡ place 2 (r + 1) → p3 + 1 ≡ place 3 (r + 1)
+        → p0 + 1 < length old → p1 + 1 < length old → p2 + 1 < length old → p3 + 1 < length old
+        → out2 ≡ setTwo (setTwo out p0 (value 0 r) (value 0 (r + 1))) p1 (value 1 r) (value 1 (r + 1))
+        → out4 ≡ setTwo (setTwo out2 p2 (value 2 r) (value 2 (r + 1))) p3 (value 3 r) (value 3 (r + 1))
+        → Drawn d 4 m place value old (r + 2) out4
+    drawn-squares k r p0 p1 p2 p3 out out2 out4 f hr hm at0 at1 at2 at3 next0 next1 next2 next3 l0 l1 l2 l3 e1 e3 =
+        drawn-four k r p0 p1 p2 p3 out (setTwo out p0 (value 0 r) (value 0 (r + 1))) out2 (setTwo out2 p2 (value 2 r) (value 2 (r + 1))) out4 f hr hm
+        at0 at1 at2 at3 next0 next1 next2 next3 l0 l1 l2 l3 refl e1 refl e3
 
   module _ (m : ℕ) (place : ℕ → ℕ → ℕ) (value : ℕ → ℕ → A) (old : List A) (lines : ℕ) where
     pub drawn-to : (k j : ℕ) (new : List A) → Drawn d lines m place value old k new → k ≡ j → Drawn d lines m place value old j new

@@ -58,6 +58,9 @@ byte-item v file start b p k h e =
     let r : p ≡ k % 4 = omega arith in
     ap (λ (x : ℕ). valueAt v file x p) q ∙ ap (valueAt v file (start + k / 4)) r
 
+pub inside-less : (file : List ℕ) (byte place : ℕ) (bytes places : List ℕ) (m n : ℕ) → m ≤ n → Inside file byte place bytes places n → Inside file byte place bytes places m
+inside-less file byte place bytes places m n h i = record { byte-in = λ k b. i .byte-in k (omega arith); place-in = λ k b. i .place-in k (omega arith) }
+
 -- ---- by what is known of the mode
 pub as-item : (b : Bool) (w n : ℕ) → b ≡ false → (n / 4 ≡ partByte b w n) × (n % 4 ≡ partPlace b n)
 unfolding partByte partPlace
@@ -280,11 +283,11 @@ module _ (m : Bool) (w iids sids : ℕ) (il sl : List ℤ) (animals : Bool) wher
   four-there o b0 b1 b2 b3 e0 e1 e2 e3 (suc (suc (suc (suc j)))) h = absurd (omega arith)
 
   module _ (from : ℕ) where
-    pub resolved-none : (bytes places : List ℕ) → length bytes ≡ 1024 → length places ≡ 1024 → Resolved m w iids sids il sl animals from (from + 0) bytes places
+    pub resolved-none : (bytes places : List ℕ) → length bytes ≡ 2048 → length places ≡ 2048 → Resolved m w iids sids il sl animals from (from + 0) bytes places
     resolved-none bytes places b p = record { bytes-long = b; places-long = p; byte-is = λ k h. absurd (omega arith); place-is = λ k h. absurd (omega arith) }
 
     pub resolved-more :
-        (k b p : ℕ) (bytes places : List ℕ) → Resolved m w iids sids il sl animals from (from + k) bytes places → k < 1024
+        (k b p : ℕ) (bytes places : List ℕ) → Resolved m w iids sids il sl animals from (from + k) bytes places → k < 2048
         → b ≡ byteAt m w iids sids il sl animals (from + k) → p ≡ placeAt m iids sids il sl animals (from + k)
         → Resolved m w iids sids il sl animals from (from + (k + 1)) (set bytes k b) (set places k p)
     resolved-more k b p bytes places r h eb ep =

@@ -51,10 +51,14 @@ fn read_in_order(file: &[u8], start: usize, table: &[i8; 1024], at: usize, n: us
         let k1 = k + 1;
         let k2 = k + 2;
         let k3 = k + 3;
-        val[k] = call_value(file, byte, 0, table);
-        val[k1] = call_value(file, byte, 1, table);
-        val[k2] = call_value(file, byte, 2, table);
-        val[k3] = call_value(file, byte, 3, table);
+        let v0 = call_value(file, byte, 0, table);
+        let v1 = call_value(file, byte, 1, table);
+        let v2 = call_value(file, byte, 2, table);
+        let v3 = call_value(file, byte, 3, table);
+        val[k] = v0;
+        val[k1] = v1;
+        val[k2] = v2;
+        val[k3] = v3;
         b += 1;
     }
     let mut i = 4 * whole;
@@ -70,14 +74,14 @@ fn read_line(
     file: &[u8],
     byte: usize,
     place: usize,
-    bytes: &[usize; 1024],
-    places: &[usize; 1024],
+    bytes: &[usize; 2048],
+    places: &[usize; 2048],
     table: &[i8; 1024],
     at: usize,
     n: usize,
     val: &mut [i8],
 )
-    requires { ⌜ ByCode (now table) (pos 0) × Inside (now file) byte place (now bytes) (now places) n × (n ≤ 1024) × (at + n ≤ length (now val)) ⌝ }
+    requires { ⌜ ByCode (now table) (pos 0) × Inside (now file) byte place (now bytes) (now places) n × (n ≤ 2048) × (at + n ≤ length (now val)) ⌝ }
     ensures { λ _. ⌜ Drawn (pos 0) 1 n (λ _ k. at + k) (λ _ k. valueAt (valueIn (now (table .entry)) (pos 0)) (now (file .entry)) (byte + getD (now (bytes .entry)) k 0) (place + getD (now (places .entry)) k 0)) (now (val .entry)) n (now (val .exit)) ⌝ }
 {
     let mut k = 0;
@@ -88,39 +92,53 @@ fn read_line(
     }
 }
 
-// Two entries of one block, at neighbouring places.
-fn read_pair(
+// Entries k and k + 1 of two blocks: from place `at` on of one line, and `inner` places later.
+fn read_square(
     file: &[u8],
     start: usize,
-    byte: usize,
-    place: usize,
-    next_byte: usize,
-    next_place: usize,
+    other: usize,
+    bytes: &[usize; 2048],
+    places: &[usize; 2048],
+    k: usize,
     table: &[i8; 1024],
     at: usize,
+    inner: usize,
     val: &mut [i8],
 )
-    requires { ⌜ ByCode (now table) (pos 0) × (start + byte < length (now file)) × (place < 4) × (start + «next_byte» < length (now file)) × («next_place» < 4) × (at + 1 < length (now val)) ⌝ }
-    ensures { λ _. ⌜ now (val .exit) ≡ setTwo (now (val .entry)) at (valueAt (valueIn (now (table .entry)) (pos 0)) (now (file .entry)) (start + byte) place) (valueAt (valueIn (now (table .entry)) (pos 0)) (now (file .entry)) (start + «next_byte») «next_place») ⌝ }
+    requires { ⌜ ByCode (now table) (pos 0) × Inside (now file) start 0 (now bytes) (now places) (k + 2) × Inside (now file) other 0 (now bytes) (now places) (k + 2) × (k + 2 ≤ 2048) × (at + inner + 2 ≤ length (now val)) ⌝ }
+    ensures { λ _. ⌜ now (val .exit) ≡ setTwo (setTwo (now (val .entry)) at (valueAt (valueIn (now (table .entry)) (pos 0)) (now (file .entry)) (start + getD (now (bytes .entry)) k 0) (getD (now (places .entry)) k 0)) (valueAt (valueIn (now (table .entry)) (pos 0)) (now (file .entry)) (start + getD (now (bytes .entry)) (k + 1) 0) (getD (now (places .entry)) (k + 1) 0))) (at + inner) (valueAt (valueIn (now (table .entry)) (pos 0)) (now (file .entry)) (other + getD (now (bytes .entry)) k 0) (getD (now (places .entry)) k 0)) (valueAt (valueIn (now (table .entry)) (pos 0)) (now (file .entry)) (other + getD (now (bytes .entry)) (k + 1) 0) (getD (now (places .entry)) (k + 1) 0)) ⌝ }
 {
-    let next = at + 1;
-    val[at] = call_value(file, start + byte, place, table);
-    val[next] = call_value(file, start + next_byte, next_place, table);
+    let next = k + 1;
+    let byte = bytes[k];
+    let place = places[k];
+    let next_byte = bytes[next];
+    let next_place = places[next];
+    let v0 = call_value(file, start + byte, place, table);
+    let v1 = call_value(file, start + next_byte, next_place, table);
+    let w0 = call_value(file, other + byte, place, table);
+    let w1 = call_value(file, other + next_byte, next_place, table);
+    let at1 = at + 1;
+    let below = at + inner;
+    let below1 = below + 1;
+    val[at] = v0;
+    val[at1] = v1;
+    val[below] = w0;
+    val[below1] = w1;
 }
 
 // The same as `read_line` of four blocks, whose lines are `inner` places apart: two entries a turn.
 fn read_four(
     file: &[u8],
     starts: &[usize; 4],
-    bytes: &[usize; 1024],
-    places: &[usize; 1024],
+    bytes: &[usize; 2048],
+    places: &[usize; 2048],
     table: &[i8; 1024],
     at: usize,
     inner: usize,
     n: usize,
     val: &mut [i8],
 )
-    requires { ⌜ ByCode (now table) (pos 0) × ((j : ℕ) → j < 4 → Inside (now file) (getD (now starts) j 0) 0 (now bytes) (now places) n) × (2 ≤ n) × (n ≤ 1024) × (at + 3 * inner + n ≤ length (now val)) ⌝ }
+    requires { ⌜ ByCode (now table) (pos 0) × ((j : ℕ) → j < 4 → Inside (now file) (getD (now starts) j 0) 0 (now bytes) (now places) n) × (2 ≤ n) × (n ≤ 2048) × (at + 3 * inner + n ≤ length (now val)) ⌝ }
     ensures { λ _. ⌜ Drawn (pos 0) 4 n (λ j k. at + j * inner + k) (λ j k. valueAt (valueIn (now (table .entry)) (pos 0)) (now (file .entry)) (getD (now (starts .entry)) j 0 + getD (now (bytes .entry)) k 0) (getD (now (places .entry)) k 0)) (now (val .entry)) n (now (val .exit)) ⌝ }
 {
     let start0 = starts[0];
@@ -130,57 +148,30 @@ fn read_four(
     let mut k = 0;
     while k < n {
         let first = super::pair_at(k, n);
-        let next = first + 1;
-        let byte = bytes[first];
-        let place = places[first];
-        let next_byte = bytes[next];
-        let next_place = places[next];
         let t0 = at + first;
-        let t1 = t0 + inner;
-        let t2 = t1 + inner;
-        let t3 = t2 + inner;
-        read_pair(
+        let t2 = t0 + 2 * inner;
+        read_square(
             file,
             start0,
-            byte,
-            place,
-            next_byte,
-            next_place,
+            start1,
+            bytes,
+            places,
+            first,
             table,
             t0,
+            inner,
             val,
         );
-        read_pair(
-            file,
-            start1,
-            byte,
-            place,
-            next_byte,
-            next_place,
-            table,
-            t1,
-            val,
-        );
-        read_pair(
+        read_square(
             file,
             start2,
-            byte,
-            place,
-            next_byte,
-            next_place,
+            start3,
+            bytes,
+            places,
+            first,
             table,
             t2,
-            val,
-        );
-        read_pair(
-            file,
-            start3,
-            byte,
-            place,
-            next_byte,
-            next_place,
-            table,
-            t3,
+            inner,
             val,
         );
         k = first + 2;
@@ -219,12 +210,12 @@ fn read_tile(
     animal_order: bool,
     from: usize,
     until: usize,
-    bytes: &[usize; 1024],
-    places: &[usize; 1024],
+    bytes: &[usize; 2048],
+    places: &[usize; 2048],
     table: &[i8; 1024],
     val: &mut [i8],
 )
-    requires { ⌜ Ready (now file) (shape .mode1) (shape .width) (shape .iids) (shape .sids) (now «iid_index») (now «sid_index») × ByCode (now table) (pos 0) × Resolved (shape .mode1) (shape .width) (shape .iids) (shape .sids) (now «iid_index») (now «sid_index») (not «animal_order») from until (now bytes) (now places) × (from < until) × (until ≤ lengthOf (not «animal_order») (now «iid_index») (now «sid_index»)) × (until - from ≤ 1024) × ReadTo «animal_order» (now table) (pos 0) (now file) (shape .iids) (shape .sids) (now «iid_index») (now «sid_index») (now val) from ⌝ }
+    requires { ⌜ Ready (now file) (shape .mode1) (shape .width) (shape .iids) (shape .sids) (now «iid_index») (now «sid_index») × ByCode (now table) (pos 0) × Resolved (shape .mode1) (shape .width) (shape .iids) (shape .sids) (now «iid_index») (now «sid_index») (not «animal_order») from until (now bytes) (now places) × (from < until) × (until ≤ lengthOf (not «animal_order») (now «iid_index») (now «sid_index»)) × (until - from ≤ 2048) × ReadTo «animal_order» (now table) (pos 0) (now file) (shape .iids) (shape .sids) (now «iid_index») (now «sid_index») (now val) from ⌝ }
     ensures { λ _. ⌜ ReadTo «animal_order» (now (table .entry)) (pos 0) (now (file .entry)) (shape .iids) (shape .sids) (now («iid_index» .entry)) (now («sid_index» .entry)) (now (val .exit)) until ⌝ }
 {
     let inner = super::length_of(!animal_order, iid_index.len(), sid_index.len());
@@ -281,8 +272,8 @@ fn read_matrix(
         return;
     }
     let inner = super::length_of(!animal_order, iid_index.len(), sid_index.len());
-    let mut bytes = [0usize; 1024];
-    let mut places = [0usize; 1024];
+    let mut bytes = [0usize; 2048];
+    let mut places = [0usize; 2048];
     let mut from = 0;
     while from < inner {
         let until = super::tile_end(shape.mode1, animal_order, from, inner);

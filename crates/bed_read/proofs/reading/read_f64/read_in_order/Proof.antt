@@ -55,32 +55,32 @@ add-k3 c = omega arith
 call-value-requires : tie.Need-call-value-requires Inv-loop μ-loop Inv-loop2 μ-loop2
 call-value-requires c κs = (omega (arith, c .before .before .before .before .pre .1, c .loop-test .taken), omega arith, c .before .before .before .before .pre .0)
 
-mul-val : tie.Need-mul-val Inv-loop μ-loop Inv-loop2 μ-loop2
-mul-val c = omega (arith, c .before .before .loop .inv .long, c .before .loop-test .taken, c .before .before .before .before .before .pre .2)
-
-slice-write-val : tie.Need-slice-write-val Inv-loop μ-loop Inv-loop2 μ-loop2
-slice-write-val c = omega (arith, c .before .before .loop .inv .long, c .before .loop-test .taken, c .before .before .before .before .before .pre .2)
-
 call-value-requires-2 : tie.Need-call-value-requires-2 Inv-loop μ-loop Inv-loop2 μ-loop2
 call-value-requires-2 c κs = (omega (arith, c .before .before .before .before .before .pre .1, c .before .loop-test .taken), omega arith, c .before .before .before .before .before .pre .0)
-
-mul-val-2 : tie.Need-mul-val-2 Inv-loop μ-loop Inv-loop2 μ-loop2
-mul-val-2 c = omega (arith, c .before .before .before .loop .inv .long, c .before .before .loop-test .taken, c .before .before .before .before .before .before .pre .2)
-
-slice-write-val-2 : tie.Need-slice-write-val-2 Inv-loop μ-loop Inv-loop2 μ-loop2
-slice-write-val-2 c = simp length-set (omega (arith, c .before .before .before .loop .inv .long, c .before .before .loop-test .taken, c .before .before .before .before .before .before .pre .2))
 
 call-value-requires-3 : tie.Need-call-value-requires-3 Inv-loop μ-loop Inv-loop2 μ-loop2
 call-value-requires-3 c κs = (omega (arith, c .before .before .before .before .before .before .pre .1, c .before .before .loop-test .taken), omega arith, c .before .before .before .before .before .before .pre .0)
 
-mul-val-3 : tie.Need-mul-val-3 Inv-loop μ-loop Inv-loop2 μ-loop2
-mul-val-3 c = omega (arith, c .before .before .before .before .loop .inv .long, c .before .before .before .loop-test .taken, c .before .before .before .before .before .before .before .pre .2)
-
-slice-write-val-3 : tie.Need-slice-write-val-3 Inv-loop μ-loop Inv-loop2 μ-loop2
-slice-write-val-3 c = simp length-set (omega (arith, c .before .before .before .before .loop .inv .long, c .before .before .before .loop-test .taken, c .before .before .before .before .before .before .before .pre .2))
-
 call-value-requires-4 : tie.Need-call-value-requires-4 Inv-loop μ-loop Inv-loop2 μ-loop2
 call-value-requires-4 c κs = (omega (arith, c .before .before .before .before .before .before .before .pre .1, c .before .before .before .loop-test .taken), omega arith, c .before .before .before .before .before .before .before .pre .0)
+
+mul-val : tie.Need-mul-val Inv-loop μ-loop Inv-loop2 μ-loop2
+mul-val c = omega (arith, c .before .before .before .before .before .loop .inv .long, c .before .before .before .before .loop-test .taken, c .before .before .before .before .before .before .before .before .pre .2)
+
+slice-write-val : tie.Need-slice-write-val Inv-loop μ-loop Inv-loop2 μ-loop2
+slice-write-val c = omega (arith, c .before .before .before .before .before .loop .inv .long, c .before .before .before .before .loop-test .taken, c .before .before .before .before .before .before .before .before .pre .2)
+
+mul-val-2 : tie.Need-mul-val-2 Inv-loop μ-loop Inv-loop2 μ-loop2
+mul-val-2 c = omega (arith, c .before .before .before .before .before .loop .inv .long, c .before .before .before .before .loop-test .taken, c .before .before .before .before .before .before .before .before .pre .2)
+
+slice-write-val-2 : tie.Need-slice-write-val-2 Inv-loop μ-loop Inv-loop2 μ-loop2
+slice-write-val-2 c = simp length-set (omega (arith, c .before .before .before .before .before .loop .inv .long, c .before .before .before .before .loop-test .taken, c .before .before .before .before .before .before .before .before .pre .2))
+
+mul-val-3 : tie.Need-mul-val-3 Inv-loop μ-loop Inv-loop2 μ-loop2
+mul-val-3 c = omega (arith, c .before .before .before .before .before .loop .inv .long, c .before .before .before .before .loop-test .taken, c .before .before .before .before .before .before .before .before .pre .2)
+
+slice-write-val-3 : tie.Need-slice-write-val-3 Inv-loop μ-loop Inv-loop2 μ-loop2
+slice-write-val-3 c = simp length-set (omega (arith, c .before .before .before .before .before .loop .inv .long, c .before .before .before .before .loop-test .taken, c .before .before .before .before .before .before .before .before .pre .2))
 
 mul-val-4 : tie.Need-mul-val-4 Inv-loop μ-loop Inv-loop2 μ-loop2
 mul-val-4 c = omega (arith, c .before .before .before .before .before .loop .inv .long, c .before .before .before .before .loop-test .taken, c .before .before .before .before .before .before .before .before .pre .2)
@@ -163,4 +163,4 @@ returns : tie.Need-returns Inv-loop μ-loop Inv-loop2 μ-loop2
 returns c = drawn-end nan _ _ _ _ _ _ _ (so-far (c .before)) (c .loop2-test .left)
 
 pub read-in-order-spec : {M : Type 1} → statement M
-read-in-order-spec = tie.close (tie.spec Inv-loop μ-loop Inv-loop2 μ-loop2 loop-holds add-byte mul-k add-k add-k1 add-k2 add-k3 call-value-requires mul-val slice-write-val call-value-requires-2 mul-val-2 slice-write-val-2 call-value-requires-3 mul-val-3 slice-write-val-3 call-value-requires-4 mul-val-4 slice-write-val-4 add-b loop-less loop-again mul-i loop2-holds add-k-2 add-call-value call-value-requires-5 mul-val-5 slice-write-val-5 add-i loop2-less loop2-again same-length returns)
+read-in-order-spec = tie.close (tie.spec Inv-loop μ-loop Inv-loop2 μ-loop2 loop-holds add-byte mul-k add-k add-k1 add-k2 add-k3 call-value-requires call-value-requires-2 call-value-requires-3 call-value-requires-4 mul-val slice-write-val mul-val-2 slice-write-val-2 mul-val-3 slice-write-val-3 mul-val-4 slice-write-val-4 add-b loop-less loop-again mul-i loop2-holds add-k-2 add-call-value call-value-requires-5 mul-val-5 slice-write-val-5 add-i loop2-less loop2-again same-length returns)

@@ -57,26 +57,26 @@ add-k3 c = omega arith
 call-value-requires : tie.Need-call-value-requires Inv-loop μ-loop Inv-loop2 μ-loop2
 call-value-requires c κs = (omega (arith, c .before .before .before .pre .1, c .loop-test .taken), omega arith, c .before .before .before .pre .0)
 
-slice-set-from-val : tie.Need-slice-set-from-val Inv-loop μ-loop Inv-loop2 μ-loop2
-slice-set-from-val c = omega (arith, c .before .before .loop .inv .long, c .before .loop-test .taken, c .before .before .before .before .pre .2)
-
 call-value-requires-2 : tie.Need-call-value-requires-2 Inv-loop μ-loop Inv-loop2 μ-loop2
 call-value-requires-2 c κs = (omega (arith, c .before .before .before .before .pre .1, c .before .loop-test .taken), omega arith, c .before .before .before .before .pre .0)
-
-slice-set-from-val-2 : tie.Need-slice-set-from-val-2 Inv-loop μ-loop Inv-loop2 μ-loop2
-slice-set-from-val-2 c = simp length-set (omega (arith, c .before .before .before .loop .inv .long, c .before .before .loop-test .taken, c .before .before .before .before .before .pre .2))
 
 call-value-requires-3 : tie.Need-call-value-requires-3 Inv-loop μ-loop Inv-loop2 μ-loop2
 call-value-requires-3 c κs = (omega (arith, c .before .before .before .before .before .pre .1, c .before .before .loop-test .taken), omega arith, c .before .before .before .before .before .pre .0)
 
-slice-set-from-val-3 : tie.Need-slice-set-from-val-3 Inv-loop μ-loop Inv-loop2 μ-loop2
-slice-set-from-val-3 c = simp length-set (omega (arith, c .before .before .before .before .loop .inv .long, c .before .before .before .loop-test .taken, c .before .before .before .before .before .before .pre .2))
-
 call-value-requires-4 : tie.Need-call-value-requires-4 Inv-loop μ-loop Inv-loop2 μ-loop2
 call-value-requires-4 c κs = (omega (arith, c .before .before .before .before .before .before .pre .1, c .before .before .before .loop-test .taken), omega arith, c .before .before .before .before .before .before .pre .0)
 
-slice-set-from-val-4 : tie.Need-slice-set-from-val-4 Inv-loop μ-loop Inv-loop2 μ-loop2
-slice-set-from-val-4 c = simp length-set (omega (arith, c .before .before .before .before .before .loop .inv .long, c .before .before .before .before .loop-test .taken, c .before .before .before .before .before .before .before .pre .2))
+slice-set-from-v0 : tie.Need-slice-set-from-v0 Inv-loop μ-loop Inv-loop2 μ-loop2
+slice-set-from-v0 c = omega (arith, c .before .before .before .before .before .loop .inv .long, c .before .before .before .before .loop-test .taken, c .before .before .before .before .before .before .before .pre .2)
+
+slice-set-from-v1 : tie.Need-slice-set-from-v1 Inv-loop μ-loop Inv-loop2 μ-loop2
+slice-set-from-v1 c = simp length-set (omega (arith, c .before .before .before .before .before .loop .inv .long, c .before .before .before .before .loop-test .taken, c .before .before .before .before .before .before .before .pre .2))
+
+slice-set-from-v2 : tie.Need-slice-set-from-v2 Inv-loop μ-loop Inv-loop2 μ-loop2
+slice-set-from-v2 c = simp length-set (omega (arith, c .before .before .before .before .before .loop .inv .long, c .before .before .before .before .loop-test .taken, c .before .before .before .before .before .before .before .pre .2))
+
+slice-set-from-v3 : tie.Need-slice-set-from-v3 Inv-loop μ-loop Inv-loop2 μ-loop2
+slice-set-from-v3 c = simp length-set (omega (arith, c .before .before .before .before .before .loop .inv .long, c .before .before .before .before .loop-test .taken, c .before .before .before .before .before .before .before .pre .2))
 
 add-b : tie.Need-add-b Inv-loop μ-loop Inv-loop2 μ-loop2
 add-b c = omega arith
@@ -124,8 +124,8 @@ add-call-value c = omega (arith, c .loop2-test .taken, c .before .before .before
 call-value-requires-5 : tie.Need-call-value-requires-5 Inv-loop μ-loop Inv-loop2 μ-loop2
 call-value-requires-5 c κs = (omega (arith, c .loop2-test .taken, c .before .before .before .before .before .pre .1), omega arith, c .before .before .before .before .before .pre .0)
 
-slice-set-from-val-5 : tie.Need-slice-set-from-val-5 Inv-loop μ-loop Inv-loop2 μ-loop2
-slice-set-from-val-5 c = omega (arith, so-far (c .before .before) .long, c .before .loop2-test .taken, c .before .before .before .before .before .before .pre .2)
+slice-set-from-val : tie.Need-slice-set-from-val Inv-loop μ-loop Inv-loop2 μ-loop2
+slice-set-from-val c = omega (arith, so-far (c .before .before) .long, c .before .loop2-test .taken, c .before .before .before .before .before .before .pre .2)
 
 add-i : tie.Need-add-i Inv-loop μ-loop Inv-loop2 μ-loop2
 add-i c = omega arith
@@ -150,4 +150,4 @@ returns : tie.Need-returns Inv-loop μ-loop Inv-loop2 μ-loop2
 returns c = drawn-end (pos 0) _ _ _ _ _ _ _ (so-far (c .before)) (c .loop2-test .left)
 
 pub read-in-order-spec : {M : Type 1} → statement M
-read-in-order-spec = tie.close (tie.spec Inv-loop μ-loop Inv-loop2 μ-loop2 loop-holds add-byte mul-k add-k add-k1 add-k2 add-k3 call-value-requires slice-set-from-val call-value-requires-2 slice-set-from-val-2 call-value-requires-3 slice-set-from-val-3 call-value-requires-4 slice-set-from-val-4 add-b loop-less loop-again mul-i loop2-holds add-k-2 add-call-value call-value-requires-5 slice-set-from-val-5 add-i loop2-less loop2-again same-length returns)
+read-in-order-spec = tie.close (tie.spec Inv-loop μ-loop Inv-loop2 μ-loop2 loop-holds add-byte mul-k add-k add-k1 add-k2 add-k3 call-value-requires call-value-requires-2 call-value-requires-3 call-value-requires-4 slice-set-from-v0 slice-set-from-v1 slice-set-from-v2 slice-set-from-v3 add-b loop-less loop-again mul-i loop2-holds add-k-2 add-call-value call-value-requires-5 slice-set-from-val add-i loop2-less loop2-again same-length returns)
