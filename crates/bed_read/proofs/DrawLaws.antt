@@ -8,26 +8,29 @@ use lib.Seq.{getD-set-same, getD-set-other, set-out}
 use Rattle.genotype.specs.Lists.{tabulate}
 use Rattle.genotype.proofs.Tests.{by-lt}
 use Rattle.genotype.proofs.Tabulate.{is-tabulate}
-use Rattle.bed_read.specs.Inner.{setTwo, Drawn}
+use Rattle.bed_read.specs.Inner.{setTwo, setPairs, Drawn}
 
 -- two places set
 module _ {A : Type 0} where
-  two-long : (out new : List A) (p : ℕ) (v w : A) → new ≡ setTwo out p v w → length new ≡ length out
+  pub two-long : (out new : List A) (p : ℕ) (v w : A) → new ≡ setTwo out p v w → length new ≡ length out
   unfolding setTwo
   two-long out new p v w e = ap length e ∙ length-set (set out p v) (p + 1) w ∙ length-set out p v
 
-  pub square-long : (out new : List A) (p q : ℕ) (a b v w : A) → new ≡ setTwo (setTwo out p a b) q v w → length new ≡ length out
-  square-long out new p q a b v w e = two-long (setTwo out p a b) new q v w e ∙ two-long out (setTwo out p a b) p a b refl
-
-  pub square-set :
-      (out : List A) (p q : ℕ) (a b v w a′ b′ v′ w′ : A) → a ≡ a′ → b ≡ b′ → v ≡ v′ → w ≡ w′
-      → set (set (set (set out p a) (p + 1) b) q v) (q + 1) w ≡ setTwo (setTwo out p a′ b′) q v′ w′
+  pub two-set : (out : List A) (p : ℕ) (v w x y : A) → v ≡ x → w ≡ y → set (set out p v) (p + 1) w ≡ setTwo out p x y
   unfolding setTwo
-  square-set out p q a b v w a′ b′ v′ w′ ea eb ev ew =
-      ap (λ (z : A). set (set (set (set out p z) (p + 1) b) q v) (q + 1) w) ea
-      ∙ ap (λ (z : A). set (set (set (set out p a′) (p + 1) z) q v) (q + 1) w) eb
-      ∙ ap (λ (z : A). set (set (set (set out p a′) (p + 1) b′) q z) (q + 1) w) ev
-      ∙ ap (set (set (set (set out p a′) (p + 1) b′) q v′) (q + 1)) ew
+  two-set out p v w x y e f = ap (λ (z : A). set (set out p z) (p + 1) w) e ∙ ap (set (set out p x) (p + 1)) f
+
+  -- in four lines
+  pub pairs-set :
+      (out out1 out2 out3 out4 : List A) (at n k : ℕ) (f : ℕ → ℕ → A) → out1 ≡ setTwo out (at + k) (f 0 k) (f 0 (k + 1))
+      → out2 ≡ setTwo out1 (at + k + n) (f 1 k) (f 1 (k + 1)) → out3 ≡ setTwo out2 (at + k + n + n) (f 2 k) (f 2 (k + 1))
+      → out4 ≡ setTwo out3 (at + k + n + n + n) (f 3 k) (f 3 (k + 1)) → out4 ≡ setPairs out at n k f
+  unfolding setPairs
+  pairs-set out out1 out2 out3 out4 at n k f e1 e2 e3 e4 =
+      e4
+      ∙ ap (λ (x : List A). setTwo x (at + k + n + n + n) (f 3 k) (f 3 (k + 1))) e3
+      ∙ ap (λ (x : List A). setTwo (setTwo x (at + k + n + n) (f 2 k) (f 2 (k + 1))) (at + k + n + n + n) (f 3 k) (f 3 (k + 1))) e2
+      ∙ ap (λ (x : List A). setTwo (setTwo (setTwo x (at + k + n) (f 1 k) (f 1 (k + 1))) (at + k + n + n) (f 2 k) (f 2 (k + 1))) (at + k + n + n + n) (f 3 k) (f 3 (k + 1))) e1
 
 module _ {A : Type 0} (d : A) where
   -- one store of what belongs there
@@ -179,18 +182,14 @@ module _ {A : Type 0} (d : A) where
             );
           }
 
-    -- as two squares
-    pub drawn-squares :
-        (k r p0 p1 p2 p3 : ℕ) (out out2 out4 : List A) → Drawn d 4 m place value old k out → r ≤ k → r + 2 ≤ m
-        → p0 ≡ place 0 r → p1 ≡ place 1 r → p2 ≡ place 2 r → p3 ≡ place 3 r
-        → p0 + 1 ≡ place 0 (r + 1) → p1 + 1 ≡ place 1 (r + 1) → p2 + 1 ≡ place 2 (r + 1) → p3 + 1 ≡ place 3 (r + 1)
-        → p0 + 1 < length old → p1 + 1 < length old → p2 + 1 < length old → p3 + 1 < length old
-        → out2 ≡ setTwo (setTwo out p0 (value 0 r) (value 0 (r + 1))) p1 (value 1 r) (value 1 (r + 1))
-        → out4 ≡ setTwo (setTwo out2 p2 (value 2 r) (value 2 (r + 1))) p3 (value 3 r) (value 3 (r + 1))
-        → Drawn d 4 m place value old (r + 2) out4
-    drawn-squares k r p0 p1 p2 p3 out out2 out4 f hr hm at0 at1 at2 at3 next0 next1 next2 next3 l0 l1 l2 l3 e1 e3 =
-        drawn-four k r p0 p1 p2 p3 out (setTwo out p0 (value 0 r) (value 0 (r + 1))) out2 (setTwo out2 p2 (value 2 r) (value 2 (r + 1))) out4 f hr hm
-        at0 at1 at2 at3 next0 next1 next2 next3 l0 l1 l2 l3 refl e1 refl e3
+  pub drawn-pairs :
+      (m at n : ℕ) (value : ℕ → ℕ → A) (old : List A) (k r : ℕ) (out new : List A) → Drawn d 4 m (λ j t. at + j * n + t) value old k out → r ≤ k → r + 2 ≤ m
+      → at + 3 * n + m ≤ length old → new ≡ setPairs out at n r value → Drawn d 4 m (λ j t. at + j * n + t) value old (r + 2) new
+  unfolding setPairs
+  drawn-pairs m at n value old k r out new f hr hm l e =
+      drawn-four m (λ j t. at + j * n + t) value old k r (at + r) (at + r + n) (at + r + n + n) (at + r + n + n + n) out _ _ _ new f hr hm
+      (omega arith) (omega arith) (omega arith) (omega arith) (omega arith) (omega arith) (omega arith) (omega arith)
+      (omega arith) (omega arith) (omega arith) (omega arith) refl refl refl e
 
   module _ (m : ℕ) (place : ℕ → ℕ → ℕ) (value : ℕ → ℕ → A) (old : List A) (lines : ℕ) where
     pub drawn-to : (k j : ℕ) (new : List A) → Drawn d lines m place value old k new → k ≡ j → Drawn d lines m place value old j new

@@ -45,6 +45,9 @@ module _ (file : List ℕ) where
     unfolding items
     width-zero n = ap (λ (m : Bool). blockWidth (items m iids sids)) (mode-zero n)
 
+pub not-true : false ≡ true → ⊥
+not-true e = let z : _≡_ {A = ℕ} 0 1 = cc in omega arith
+
 pub either-below : (b : Bool) (x y n : ℕ) → x < n → y < n → cond b x y < n
 either-below true x y n h k = h
 either-below false x y n h k = k

@@ -93,6 +93,12 @@ lineValue false v file iids sids iidList sidList o t = v (readCode file iids sid
 unfoldable pub setTwo : {A : Type 0} → List A → ℕ → A → A → List A
 setTwo out p v w = set (set out p v) (p + 1) w
 
+-- places k and k + 1 of four lines, which begin at place `at` and are n apart, set to the values f j k and f j (k + 1)
+unfoldable pub setPairs : {A : Type 0} → List A → ℕ → ℕ → ℕ → (ℕ → ℕ → A) → List A
+setPairs out at n k f =
+    setTwo (setTwo (setTwo (setTwo out (at + k) (f 0 k) (f 0 (k + 1))) (at + k + n) (f 1 k) (f 1 (k + 1))) (at + k + n + n) (f 2 k) (f 2 (k + 1)))
+    (at + k + n + n + n) (f 3 k) (f 3 (k + 1))
+
 -- the first k places of some lines of m places are stored: value j t at place j t. Said for every list G of values that has them there:
 -- what agreed with G still does, and those places do
 pub record Drawn {A : Type 0} (d : A) (lines m : ℕ) (place : ℕ → ℕ → ℕ) (value : ℕ → ℕ → A) (old : List A) (k : ℕ) (new : List A) : Type 0 where

@@ -314,17 +314,6 @@ fn lines_by_four(mode_1: bool, animal_order: bool, lines: usize, n: usize) -> us
     0
 }
 
-// Where the next two of n places begin, of which k are done: at the end the last two, of which one may be done.
-fn pair_at(k: usize, n: usize) -> usize
-    requires { ⌜ (k < n) × (2 ≤ n) ⌝ }
-    ensures { λ r. ⌜ (r ≤ k) × (k < r + 2) × (r + 2 ≤ n) ⌝ }
-{
-    if k + 1 < n {
-        return k;
-    }
-    n - 2
-}
-
 // The end of the tile that starts at `from`: 2,048 neighbouring items or 128 neighbouring blocks, or what is left.
 fn tile_end(mode_1: bool, animal_order: bool, from: usize, inner: usize) -> usize
     requires { ⌜ from < inner ⌝ }

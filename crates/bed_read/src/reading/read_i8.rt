@@ -8,7 +8,7 @@ ghost use lib.ListN.{length, getD};
 ghost use Rattle.genotype.specs.Code.{codeTable};
 ghost use Rattle.genotype.specs.Value.{i8, values};
 ghost use Rattle.bed_read.specs.Reading.{readAnswer, codesRead, readBuffer};
-ghost use Rattle.bed_read.specs.Inner.{Ready, lengthOf, InOrder, Resolved, Inside, valueIn, ByCode, valueAt, setTwo, Drawn, ReadTo};
+ghost use Rattle.bed_read.specs.Inner.{Ready, lengthOf, InOrder, Resolved, Inside, valueIn, ByCode, valueAt, setTwo, setPairs, Drawn, ReadTo};
 ghost use Rattle.bed_read.specs.Says.{readSays};
 use super::ReadAnswer;
 use super::Shape;
@@ -92,11 +92,32 @@ fn read_line(
     }
 }
 
-// Entries k and k + 1 of two blocks: from place `at` on of one line, and `inner` places later.
-fn read_square(
+// Two entries of one block, at neighbouring places.
+fn read_pair(
     file: &[u8],
     start: usize,
-    other: usize,
+    byte: usize,
+    place: usize,
+    next_byte: usize,
+    next_place: usize,
+    table: &[i8; 1024],
+    at: usize,
+    val: &mut [i8],
+)
+    requires { ⌜ ByCode (now table) (pos 0) × (start + byte < length (now file)) × (place < 4) × (start + «next_byte» < length (now file)) × («next_place» < 4) × (at + 1 < length (now val)) ⌝ }
+    ensures { λ _. ⌜ now (val .exit) ≡ setTwo (now (val .entry)) at (valueAt (valueIn (now (table .entry)) (pos 0)) (now (file .entry)) (start + byte) place) (valueAt (valueIn (now (table .entry)) (pos 0)) (now (file .entry)) (start + «next_byte») «next_place») ⌝ }
+{
+    let next = at + 1;
+    let value = call_value(file, start + byte, place, table);
+    let next_value = call_value(file, start + next_byte, next_place, table);
+    val[at] = value;
+    val[next] = next_value;
+}
+
+// Entries k and k + 1 of four blocks, whose lines are `inner` places apart.
+fn read_pairs(
+    file: &[u8],
+    starts: &[usize; 4],
     bytes: &[usize; 2048],
     places: &[usize; 2048],
     k: usize,
@@ -105,28 +126,65 @@ fn read_square(
     inner: usize,
     val: &mut [i8],
 )
-    requires { ⌜ ByCode (now table) (pos 0) × Inside (now file) start 0 (now bytes) (now places) (k + 2) × Inside (now file) other 0 (now bytes) (now places) (k + 2) × (k + 2 ≤ 2048) × (at + inner + 2 ≤ length (now val)) ⌝ }
-    ensures { λ _. ⌜ now (val .exit) ≡ setTwo (setTwo (now (val .entry)) at (valueAt (valueIn (now (table .entry)) (pos 0)) (now (file .entry)) (start + getD (now (bytes .entry)) k 0) (getD (now (places .entry)) k 0)) (valueAt (valueIn (now (table .entry)) (pos 0)) (now (file .entry)) (start + getD (now (bytes .entry)) (k + 1) 0) (getD (now (places .entry)) (k + 1) 0))) (at + inner) (valueAt (valueIn (now (table .entry)) (pos 0)) (now (file .entry)) (other + getD (now (bytes .entry)) k 0) (getD (now (places .entry)) k 0)) (valueAt (valueIn (now (table .entry)) (pos 0)) (now (file .entry)) (other + getD (now (bytes .entry)) (k + 1) 0) (getD (now (places .entry)) (k + 1) 0)) ⌝ }
+    requires { ⌜ ByCode (now table) (pos 0) × ((j : ℕ) → j < 4 → Inside (now file) (getD (now starts) j 0) 0 (now bytes) (now places) (k + 2)) × (k + 2 ≤ 2048) × (at + 3 * inner + k + 2 ≤ length (now val)) ⌝ }
+    ensures { λ _. ⌜ now (val .exit) ≡ setPairs (now (val .entry)) at inner k (λ j i. valueAt (valueIn (now (table .entry)) (pos 0)) (now (file .entry)) (getD (now (starts .entry)) j 0 + getD (now (bytes .entry)) i 0) (getD (now (places .entry)) i 0)) ⌝ }
 {
     let next = k + 1;
     let byte = bytes[k];
     let place = places[k];
     let next_byte = bytes[next];
     let next_place = places[next];
-    let v0 = call_value(file, start + byte, place, table);
-    let v1 = call_value(file, start + next_byte, next_place, table);
-    let w0 = call_value(file, other + byte, place, table);
-    let w1 = call_value(file, other + next_byte, next_place, table);
-    let at1 = at + 1;
-    let below = at + inner;
-    let below1 = below + 1;
-    val[at] = v0;
-    val[at1] = v1;
-    val[below] = w0;
-    val[below1] = w1;
+    let t0 = at + k;
+    let t1 = t0 + inner;
+    let t2 = t1 + inner;
+    let t3 = t2 + inner;
+    read_pair(
+        file,
+        starts[0],
+        byte,
+        place,
+        next_byte,
+        next_place,
+        table,
+        t0,
+        val,
+    );
+    read_pair(
+        file,
+        starts[1],
+        byte,
+        place,
+        next_byte,
+        next_place,
+        table,
+        t1,
+        val,
+    );
+    read_pair(
+        file,
+        starts[2],
+        byte,
+        place,
+        next_byte,
+        next_place,
+        table,
+        t2,
+        val,
+    );
+    read_pair(
+        file,
+        starts[3],
+        byte,
+        place,
+        next_byte,
+        next_place,
+        table,
+        t3,
+        val,
+    );
 }
 
-// The same as `read_line` of four blocks, whose lines are `inner` places apart: two entries a turn.
+// The same as `read_line` of four blocks: two entries a turn, and the last two, of which one may be done.
 fn read_four(
     file: &[u8],
     starts: &[usize; 4],
@@ -141,41 +199,12 @@ fn read_four(
     requires { ⌜ ByCode (now table) (pos 0) × ((j : ℕ) → j < 4 → Inside (now file) (getD (now starts) j 0) 0 (now bytes) (now places) n) × (2 ≤ n) × (n ≤ 2048) × (at + 3 * inner + n ≤ length (now val)) ⌝ }
     ensures { λ _. ⌜ Drawn (pos 0) 4 n (λ j k. at + j * inner + k) (λ j k. valueAt (valueIn (now (table .entry)) (pos 0)) (now (file .entry)) (getD (now (starts .entry)) j 0 + getD (now (bytes .entry)) k 0) (getD (now (places .entry)) k 0)) (now (val .entry)) n (now (val .exit)) ⌝ }
 {
-    let start0 = starts[0];
-    let start1 = starts[1];
-    let start2 = starts[2];
-    let start3 = starts[3];
     let mut k = 0;
-    while k < n {
-        let first = super::pair_at(k, n);
-        let t0 = at + first;
-        let t2 = t0 + 2 * inner;
-        read_square(
-            file,
-            start0,
-            start1,
-            bytes,
-            places,
-            first,
-            table,
-            t0,
-            inner,
-            val,
-        );
-        read_square(
-            file,
-            start2,
-            start3,
-            bytes,
-            places,
-            first,
-            table,
-            t2,
-            inner,
-            val,
-        );
-        k = first + 2;
+    while k + 2 <= n {
+        read_pairs(file, starts, bytes, places, k, table, at, inner, val);
+        k += 2;
     }
+    read_pairs(file, starts, bytes, places, n - 2, table, at, inner, val);
 }
 
 // A matrix whose lines are blocks and whose places are all items in file order.

@@ -5,7 +5,7 @@ use Prim.Native.Nat.{ℕ, _-_, _/_, _%_, _<_, _≤_}
 use native.Mathlib.Omega.{arith}
 use borrow.Author.Needs.{needs}
 use Rattle.bed_read.specs.Inner.{lengthOf, InOrder}
-use Rattle.bed_read.proofs.PartLaws.{order-none, order-more}
+use Rattle.bed_read.proofs.PartLaws.{not-true, order-none, order-more}
 use Rattle.bed_read.proofs.reading.is_in_order.Statement.{statement}
 use Rattle.bed_read.proofs.reading.is_in_order.Tie as tie
 
@@ -26,10 +26,10 @@ part-at-requires : tie.Need-part-at-requires Inv-loop μ-loop
 part-at-requires c κs = (c .before .before .before .before .pre, omega (arith, c .loop-test .taken, c .before .before .length-of .ensures))
 
 returns : tie.Need-returns Inv-loop μ-loop
-returns c = λ e. let z : _≡_ {A = ℕ} 0 1 = cc in absurd (omega arith)
+returns c = λ e. absurd (not-true e)
 
 returns-2 : tie.Need-returns-2 Inv-loop μ-loop
-returns-2 c = λ e. let z : _≡_ {A = ℕ} 0 1 = cc in absurd (omega arith)
+returns-2 c = λ e. absurd (not-true e)
 
 add-k : tie.Need-add-k Inv-loop μ-loop
 add-k c = omega arith
