@@ -99,29 +99,29 @@ fn read_line(
     }
 }
 
-// Two entries of one block, at neighbouring places.
+// Entries k and k + 1 of one block, at neighbouring places.
 fn read_pair(
     file: &[u8],
     start: usize,
-    byte: usize,
-    place: usize,
-    next_byte: usize,
-    next_place: usize,
+    bytes: &[usize; 2048],
+    places: &[usize; 2048],
+    k: usize,
     table: &[f64; 1024],
     at: usize,
     val: &mut [f64],
 )
-    requires { ⌜ ByCode (now table) nan × (start + byte < length (now file)) × (place < 4) × (start + «next_byte» < length (now file)) × («next_place» < 4) × (at + 1 < length (now val)) ⌝ }
-    ensures { λ _. ⌜ now (val .exit) ≡ setTwo (now (val .entry)) at (valueAt (valueIn (now (table .entry)) nan) (now (file .entry)) (start + byte) place) (valueAt (valueIn (now (table .entry)) nan) (now (file .entry)) (start + «next_byte») «next_place») ⌝ }
+    requires { ⌜ ByCode (now table) nan × Inside (now file) start 0 (now bytes) (now places) (k + 2) × (k + 2 ≤ 2048) × (at + 1 < length (now val)) ⌝ }
+    ensures { λ _. ⌜ now (val .exit) ≡ setTwo (now (val .entry)) at (valueAt (valueIn (now (table .entry)) nan) (now (file .entry)) (start + getD (now (bytes .entry)) k 0) (getD (now (places .entry)) k 0)) (valueAt (valueIn (now (table .entry)) nan) (now (file .entry)) (start + getD (now (bytes .entry)) (k + 1) 0) (getD (now (places .entry)) (k + 1) 0)) ⌝ }
 {
-    let next = at + 1;
-    let value = call_value(file, start + byte, place, table);
-    let next_value = call_value(file, start + next_byte, next_place, table);
+    let next = k + 1;
+    let after = at + 1;
+    let value = call_value(file, start + bytes[k], places[k], table);
+    let next_value = call_value(file, start + bytes[next], places[next], table);
     val[at] = value;
-    val[next] = next_value;
+    val[after] = next_value;
 }
 
-// Entries k and k + 1 of four blocks, whose lines are `inner` places apart.
+// The same of four blocks, whose lines are `inner` places apart.
 fn read_pairs(
     file: &[u8],
     starts: &[usize; 4],
@@ -136,59 +136,14 @@ fn read_pairs(
     requires { ⌜ ByCode (now table) nan × ((j : ℕ) → j < 4 → Inside (now file) (getD (now starts) j 0) 0 (now bytes) (now places) (k + 2)) × (k + 2 ≤ 2048) × (at + 3 * inner + k + 2 ≤ length (now val)) ⌝ }
     ensures { λ _. ⌜ now (val .exit) ≡ setPairs (now (val .entry)) at inner k (λ j i. valueAt (valueIn (now (table .entry)) nan) (now (file .entry)) (getD (now (starts .entry)) j 0 + getD (now (bytes .entry)) i 0) (getD (now (places .entry)) i 0)) ⌝ }
 {
-    let next = k + 1;
-    let byte = bytes[k];
-    let place = places[k];
-    let next_byte = bytes[next];
-    let next_place = places[next];
     let t0 = at + k;
     let t1 = t0 + inner;
     let t2 = t1 + inner;
     let t3 = t2 + inner;
-    read_pair(
-        file,
-        starts[0],
-        byte,
-        place,
-        next_byte,
-        next_place,
-        table,
-        t0,
-        val,
-    );
-    read_pair(
-        file,
-        starts[1],
-        byte,
-        place,
-        next_byte,
-        next_place,
-        table,
-        t1,
-        val,
-    );
-    read_pair(
-        file,
-        starts[2],
-        byte,
-        place,
-        next_byte,
-        next_place,
-        table,
-        t2,
-        val,
-    );
-    read_pair(
-        file,
-        starts[3],
-        byte,
-        place,
-        next_byte,
-        next_place,
-        table,
-        t3,
-        val,
-    );
+    read_pair(file, starts[0], bytes, places, k, table, t0, val);
+    read_pair(file, starts[1], bytes, places, k, table, t1, val);
+    read_pair(file, starts[2], bytes, places, k, table, t2, val);
+    read_pair(file, starts[3], bytes, places, k, table, t3, val);
 }
 
 // The same as `read_line` of four blocks: two entries a turn, and the last two, of which one may be done.
@@ -229,11 +184,11 @@ fn read_blocks(
 {
     let inner = super::length_of(!animal_order, iid_index.len(), sid_index.len());
     let outer = super::length_of(animal_order, iid_index.len(), sid_index.len());
-    let mut o = 0;
-    while o < outer {
-        let part = super::part_at(file, shape, iid_index, sid_index, animal_order, o);
-        read_in_order(file, part.byte, table, o * inner, inner, val);
-        o += 1;
+    let mut line = 0;
+    while line < outer {
+        let part = super::part_at(file, shape, iid_index, sid_index, animal_order, line);
+        read_in_order(file, part.byte, table, line * inner, inner, val);
+        line += 1;
     }
 }
 
