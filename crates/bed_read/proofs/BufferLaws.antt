@@ -6,17 +6,16 @@ use Prim.Native.Nat.{ℕ, _*_, _/_, _%_, _<_}
 use native.Mathlib.Omega.{arith}
 use lib.IntN.{ℤ}
 use lib.ListN.{length, getD}
-use Rattle.genotype.specs.Answer.{Answer, isDone, ifDone}
+use Rattle.genotype.specs.Answer.{Answer, isDone}
 use Rattle.genotype.specs.Block.{blockWidth, fileLength}
 use Rattle.genotype.specs.Code.{codeTable}
-use Rattle.genotype.specs.Lists.{tabulate}
 use Rattle.genotype.specs.Matrix.{matrix}
 use Rattle.genotype.specs.Value.{Width, values, valueOf}
 use Rattle.genotype.proofs.AnswerLaws.{new-if-done, old-if-not}
 use Rattle.genotype.proofs.Tabulate.{tabulate-ext, map-tabulate}
 use Rattle.bed_file.specs.File.{isMode1, items, blocks}
 use Rattle.bed_read.specs.Reading.{readCode, readAnswer, codesRead, valuesRead, readBuffer}
-use Rattle.bed_read.specs.Inner.{Ready, valueIn, ByCode}
+use Rattle.bed_read.specs.Inner.{Ready, valueIn}
 use Rattle.bed_read.proofs.CallLaws.{call-below}
 use Rattle.bed_read.proofs.ReadLaws.{Readable}
 use Rattle.bed_read.proofs.TableLaws.{any-default, made-value}

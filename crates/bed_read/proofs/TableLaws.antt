@@ -5,7 +5,6 @@ use Prim.Native.Nat.{ℕ, zero, suc, _+_, _*_, _/_, _%_, _<_}
 use native.Mathlib.Omega.{arith}
 use lib.ListN.{length, getD, length-map, List·getD-map}
 use Rattle.genotype.specs.Code.{codeAt, codeTable}
-use Rattle.genotype.specs.Lists.{tabulate}
 use Rattle.genotype.proofs.CodeLaws.{table-at, code-below}
 use Rattle.genotype.proofs.Tabulate.{length-tabulate, getD-tabulate, tabulate-ext, map-tabulate}
 use Rattle.bed_read.specs.Inner.{Drawn, valueIn, ByCode, valueAt}

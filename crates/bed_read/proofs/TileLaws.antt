@@ -1,9 +1,9 @@
 -- Filling a matrix tile by tile, over any type of values: g o t is what belongs at place o × inner + t.
-use mathlib.Core.Path.{_≡_, refl, sym, ap, subst, _∙_}
-use mathlib.Core.Bool.{Bool, true, false, not, cond}
+use mathlib.Core.Path.{_≡_, sym, ap, subst, _∙_}
+use mathlib.Core.Bool.{Bool, true, false, not}
 use mathlib.Core.List.{List, map}
 use Prim.Native.Nat.{ℕ, zero, suc, _+_, _-_, _*_, _/_, _%_, _<_, _≤_}
-use native.Mathlib.Nat.{mul-comm, mul-zero, add-zero, suc-mul, add-mul, mul-le-mul-right, div-lt-iff-lt-mul, mod-lt, div-add-mod', div-eq-of-lt, mod-eq-of-lt, mul-add-div-right, mul-add-mod-self-right}
+use native.Mathlib.Nat.{mul-comm, mul-zero, add-zero, add-mul, mul-le-mul-right, div-lt-iff-lt-mul, mod-lt, div-add-mod', div-eq-of-lt, mod-eq-of-lt, mul-add-div-right, mul-add-mod-self-right}
 use native.Mathlib.Omega.{arith}
 use lib.IntN.{ℤ}
 use lib.ListN.{length, getD}

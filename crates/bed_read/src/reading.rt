@@ -167,13 +167,13 @@ fn iid_part(mode_1: bool, width: usize, iid: IidIndex) -> Part
     ensures { λ r. ⌜ (r .byte ≡ partByte (isBlock «mode_1» true) width (iid .0)) × (r .place ≡ partPlace (isBlock «mode_1» true) (iid .0)) ⌝ }
 {
     if mode_1 {
-        return Part {
-            byte: iid.0 / 4,
-            place: iid.0 % 4,
-        };
+        let byte = iid.0 / 4;
+        let place = iid.0 % 4;
+        return Part { byte, place };
     }
+    let start = 3 + iid.0 * width;
     Part {
-        byte: 3 + iid.0 * width,
+        byte: start,
         place: 0,
     }
 }
@@ -184,15 +184,15 @@ fn sid_part(mode_1: bool, width: usize, sid: SidIndex) -> Part
     ensures { λ r. ⌜ (r .byte ≡ partByte (isBlock «mode_1» false) width (sid .0)) × (r .place ≡ partPlace (isBlock «mode_1» false) (sid .0)) ⌝ }
 {
     if mode_1 {
+        let start = 3 + sid.0 * width;
         return Part {
-            byte: 3 + sid.0 * width,
+            byte: start,
             place: 0,
         };
     }
-    Part {
-        byte: sid.0 / 4,
-        place: sid.0 % 4,
-    }
+    let byte = sid.0 / 4;
+    let place = sid.0 % 4;
+    Part { byte, place }
 }
 
 // What entry k of the animal list, or of the marker list, adds.

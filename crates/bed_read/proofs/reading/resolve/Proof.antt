@@ -1,8 +1,6 @@
 -- `resolve`: the entries so far.
-use mathlib.Core.Path.{_≡_}
-use Prim.Native.Nat.{ℕ, _+_, _-_, _<_, _≤_}
+use Prim.Native.Nat.{_+_, _-_, _<_, _≤_}
 use native.Mathlib.Omega.{arith}
-use borrow.Author.Needs.{needs}
 use Rattle.bed_read.specs.Inner.{Resolved}
 use Rattle.bed_read.proofs.PartLaws.{resolved-none, resolved-more, resolved-all}
 use Rattle.bed_read.proofs.reading.resolve.Statement.{statement}

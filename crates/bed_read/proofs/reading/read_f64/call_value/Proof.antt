@@ -1,5 +1,4 @@
 -- `call_value`: the table has the value of the code at the place of the byte.
-use mathlib.Core.Path.{_∙_}
 use native.Mathlib.Omega.{arith}
 use borrow.Author.Needs.{needs}
 use lib.Ieee.{nan}

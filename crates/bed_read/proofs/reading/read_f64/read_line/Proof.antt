@@ -1,10 +1,9 @@
 -- `read_line`: the places so far are stored.
-use mathlib.Core.Path.{_≡_, refl, sym, subst, _∙_}
-use Prim.Native.Nat.{ℕ, _+_, _-_, _<_, _≤_}
+use mathlib.Core.Path.{refl}
+use Prim.Native.Nat.{_+_, _-_}
 use native.Mathlib.Omega.{arith}
-use borrow.Author.Needs.{needs}
-use lib.Ieee.{Float, nan}
-use lib.ListN.{length, getD}
+use lib.Ieee.{nan}
+use lib.ListN.{getD}
 use Rattle.bed_read.specs.Inner.{valueIn, valueAt, Drawn}
 use Rattle.bed_read.proofs.DrawLaws.{drawn-none, drawn-one, drawn-end}
 use Rattle.bed_read.proofs.reading.read_f64.read_line.Statement.{statement}

@@ -1,13 +1,12 @@
 -- `read_matrix`: every line is filled up to the tile.
 use mathlib.Core.Path.{_≡_, refl, sym, subst, _∙_}
-use mathlib.Core.Bool.{not}
-use Prim.Native.Nat.{ℕ, _-_, _<_, _≤_}
+use Prim.Native.Nat.{ℕ, _-_, _≤_}
 use native.Mathlib.Nat.{le-of-lt}
 use native.Mathlib.Omega.{arith}
 use borrow.Author.Needs.{needs}
 use lib.Ieee.{nan}
 use lib.ListN.{length}
-use Rattle.bed_read.specs.Inner.{lengthOf, ReadTo}
+use Rattle.bed_read.specs.Inner.{ReadTo}
 use Rattle.bed_read.proofs.MatrixLaws.{read-none, read-all}
 use Rattle.bed_read.proofs.reading.read_f64.read_matrix.Statement.{statement}
 use Rattle.bed_read.proofs.reading.read_f64.read_matrix.Tie as tie

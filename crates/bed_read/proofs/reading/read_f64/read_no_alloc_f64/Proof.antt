@@ -1,9 +1,9 @@
 -- `read_no_alloc_f64`: the checks, then the whole matrix.
-use mathlib.Core.Path.{_≡_, ap, _∙_}
+use mathlib.Core.Path.{_≡_}
 use mathlib.Core.Bool.{true, false}
-use mathlib.Core.List.{List, map}
+use mathlib.Core.List.{map}
 use borrow.Author.Needs.{needs}
-use lib.Ieee.{Float, nan}
+use lib.Ieee.{nan}
 use lib.ListN.{length, getD}
 use Rattle.genotype.specs.Answer.{isDone}
 use Rattle.genotype.specs.Code.{codeTable}

@@ -1,5 +1,4 @@
 -- `read_pair`: two stores.
-use mathlib.Core.Path.{_∙_}
 use Prim.Native.Nat.{ℕ, _+_, _<_}
 use native.Mathlib.Omega.{arith}
 use borrow.Author.Needs.{needs}

@@ -1,13 +1,13 @@
 -- `value_table`: the places so far are stored.
-use mathlib.Core.Path.{_≡_, refl, sym, ap, subst, _∙_}
+use mathlib.Core.Path.{refl, sym, ap, subst, _∙_}
 use mathlib.Core.List.{List, map}
 use Prim.Native.Nat.{ℕ, _-_, _<_}
 use native.Mathlib.Omega.{arith}
 use borrow.Author.Needs.{needs}
 use lib.Ieee.{Float, nan}
-use lib.ListN.{length, getD}
+use lib.ListN.{getD}
 use Rattle.genotype.specs.Code.{codeTable}
-use Rattle.genotype.specs.Value.{float, values}
+use Rattle.genotype.specs.Value.{values}
 use Rattle.bed_read.specs.Inner.{Drawn}
 use Rattle.bed_read.proofs.DrawLaws.{drawn-none, drawn-one, drawn-end}
 use Rattle.bed_read.proofs.TableLaws.{entry-below, filled-table}

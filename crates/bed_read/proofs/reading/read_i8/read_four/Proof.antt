@@ -1,10 +1,8 @@
 -- `read_four`: the places so far of the four lines are stored.
-use mathlib.Core.Path.{_≡_, _∙_}
-use Prim.Native.Nat.{ℕ, _+_, _-_, _*_, _<_, _≤_}
+use Prim.Native.Nat.{_+_, _-_, _*_}
 use native.Mathlib.Omega.{arith}
-use borrow.Author.Needs.{needs}
 use lib.IntN.{pos}
-use lib.ListN.{length, getD}
+use lib.ListN.{getD}
 use Rattle.bed_read.specs.Inner.{valueIn, valueAt, Drawn}
 use Rattle.bed_read.proofs.DrawLaws.{drawn-none, drawn-pairs, drawn-to}
 use Rattle.bed_read.proofs.PartLaws.{inside-less}

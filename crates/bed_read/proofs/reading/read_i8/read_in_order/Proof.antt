@@ -1,13 +1,13 @@
 -- `read_in_order`: the places so far are stored.
-use mathlib.Core.Path.{_≡_, refl, sym, ap, subst, _∙_}
+use mathlib.Core.Path.{refl, _∙_}
 use mathlib.Core.List.{List}
-use Prim.Native.Nat.{ℕ, _+_, _-_, _*_, _/_, _%_, _<_, _≤_}
+use Prim.Native.Nat.{ℕ, _+_, _-_, _*_, _/_, _%_, _<_}
 use native.Mathlib.Omega.{arith}
-use borrow.Author.Needs.{needs, sfits-of}
+use borrow.Author.Needs.{sfits-of}
 use mir.Syntax.{w8}
 use mir.ValLaws.{toZ-ofZ}
 use lib.IntN.{ℤ, pos}
-use lib.ListN.{length, length-set}
+use lib.ListN.{length-set}
 use Rattle.bed_read.specs.Inner.{valueIn, valueAt, Drawn}
 use Rattle.bed_read.proofs.DrawLaws.{drawn-none, drawn-one, drawn-to, drawn-end}
 use Rattle.bed_read.proofs.PartLaws.{byte-item}

@@ -1,12 +1,12 @@
 -- `read_line`: the places so far are stored.
-use mathlib.Core.Path.{_≡_, refl, sym, subst, _∙_}
-use Prim.Native.Nat.{ℕ, _+_, _-_, _<_, _≤_}
+use mathlib.Core.Path.{refl, _∙_}
+use Prim.Native.Nat.{_+_, _-_}
 use native.Mathlib.Omega.{arith}
-use borrow.Author.Needs.{needs, sfits-of}
+use borrow.Author.Needs.{sfits-of}
 use mir.Syntax.{w8}
 use mir.ValLaws.{toZ-ofZ}
-use lib.IntN.{ℤ, pos}
-use lib.ListN.{length, getD}
+use lib.IntN.{pos}
+use lib.ListN.{getD}
 use Rattle.bed_read.specs.Inner.{valueIn, valueAt, Drawn}
 use Rattle.bed_read.proofs.DrawLaws.{drawn-none, drawn-one, drawn-end}
 use Rattle.bed_read.proofs.reading.read_i8.read_line.Statement.{statement}

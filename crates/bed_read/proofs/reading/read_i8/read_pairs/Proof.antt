@@ -1,5 +1,4 @@
 -- `read_pairs`: two stores in each of four lines.
-use mathlib.Core.Path.{_∙_}
 use native.Mathlib.Omega.{arith}
 use borrow.Author.Needs.{needs}
 use Rattle.bed_read.proofs.DrawLaws.{two-long, pairs-set}

@@ -1,5 +1,5 @@
 -- `value_table`: the places so far are stored.
-use mathlib.Core.Path.{_≡_, refl, sym, ap, subst, _∙_}
+use mathlib.Core.Path.{refl, sym, ap, subst, _∙_}
 use mathlib.Core.List.{List, map}
 use Prim.Native.Nat.{ℕ, _-_, _<_}
 use native.Mathlib.Omega.{arith}
@@ -7,7 +7,7 @@ use borrow.Author.Needs.{needs, sfits-of}
 use mir.Syntax.{w8}
 use mir.ValLaws.{toZ-ofZ}
 use lib.IntN.{ℤ, pos}
-use lib.ListN.{length, getD}
+use lib.ListN.{getD}
 use Rattle.genotype.specs.Code.{codeTable}
 use Rattle.genotype.specs.Value.{i8, values}
 use Rattle.bed_read.specs.Inner.{Drawn}
