@@ -2,11 +2,11 @@
 use mathlib.Core.Path.{_≡_, refl, sym, ap, subst, _∙_}
 use mathlib.Core.Bool.{Bool, true, false, cond}
 use mathlib.Core.List.{List}
-use Prim.Native.Nat.{ℕ, _+_, _*_, _/_, _%_, _<_, _≤_}
+use Prim.Native.Nat.{ℕ, _+_, _*_, _/_, _%_, _<_}
 use native.Mathlib.Nat.{mul-comm}
 use native.Mathlib.Omega.{arith}
 use lib.Arith.{digits-lt}
-use lib.ListN.{length, getD, take, drop}
+use lib.ListN.{length, getD, drop}
 use lib.Seq.{getD-take, getD-drop}
 use Rattle.genotype.specs.Block.{blockWidth, fileLength}
 use Rattle.genotype.specs.Code.{codeAt, itemCode, codeTable}
@@ -79,13 +79,14 @@ module _ (file : List ℕ) (iids sids a s : ℕ) where
     pub byte-below : 3 + b * w + i / 4 < length file
     byte-below = subst (λ (x : ℕ). x < length file) (sym place) (call-inside m (sh .length-is) ha hs)
 
+    pub call-code : callCode file iids sids a s ≡ codeAt (getD file (3 + b * w + i / 4) 0) (i % 4)
+    call-code =
+        call-is m (sh .mode-is)
+        ∙ code-in-byte file (items m iids sids) (blocks m iids sids) (cond m s a) (cond m a s) (sh .length-is) (block-in m ha hs) (item-in m ha hs)
+        ∙ ap (λ (y : ℕ). codeAt (getD file y 0) (cond m a s % 4)) (sym place)
+        ∙ ap (λ (y : ℕ). codeAt (getD file (3 + b * w + i / 4) 0) (y % 4)) (sym ei)
+
     pub code-found :
         (codes : List ℕ) (x r : ℕ) → codes ≡ codeTable → x ≡ getD file (3 + b * w + i / 4) 0 → x < 256
         → r ≡ getD codes (x * 4 + i % 4) 0 → r ≡ callCode file iids sids a s
-    code-found codes x r t e h f =
-        f
-        ∙ table-at codes x x i t refl h
-        ∙ ap (λ (y : ℕ). codeAt y (i % 4)) (e ∙ ap (λ (y : ℕ). getD file y 0) place)
-        ∙ ap (λ (y : ℕ). codeAt (getD file (3 + cond m s a * blockWidth (items m iids sids) + cond m a s / 4) 0) (y % 4)) ei
-        ∙ sym (code-in-byte file (items m iids sids) (blocks m iids sids) (cond m s a) (cond m a s) (sh .length-is) (block-in m ha hs) (item-in m ha hs))
-        ∙ sym (call-is m (sh .mode-is))
+    code-found codes x r t e h f = f ∙ table-at codes x x i t refl h ∙ ap (λ (y : ℕ). codeAt y (i % 4)) e ∙ sym call-code

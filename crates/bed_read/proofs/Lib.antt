@@ -1,9 +1,8 @@
 pub mod CallLaws
 pub mod ReadLaws
-pub mod ColumnLaws
-pub mod LineLaws
-pub mod TileLaws
-pub mod BufferLaws
+pub mod DrawLaws
 pub mod TableLaws
-pub mod AlongLaws
-pub mod HeldLaws
+pub mod TileLaws
+pub mod PartLaws
+pub mod BufferLaws
+pub mod MatrixLaws

@@ -1,18 +1,22 @@
 -- Laws of a table of the values of all codes, over any type of values.
 use mathlib.Core.Path.{_≡_, refl, sym, ap, subst, _∙_}
-use mathlib.Core.List.{List, map}
-use Prim.Native.Nat.{ℕ, _+_, _*_, _/_, _%_, _<_, _≤_}
+use mathlib.Core.List.{List, [], _∷_, map}
+use Prim.Native.Nat.{ℕ, zero, suc, _+_, _*_, _/_, _%_, _<_}
 use native.Mathlib.Omega.{arith}
 use lib.ListN.{length, getD, length-map, List·getD-map}
-use Rattle.genotype.specs.Block.{blockWidth}
-use Rattle.genotype.specs.Code.{codeAt, itemCode, codeTable}
-use Rattle.genotype.specs.Lists.{tabulate}
-use Rattle.genotype.proofs.CodeLaws.{table-at, code-below, width-room}
+use Rattle.genotype.specs.Code.{codeAt, codeTable}
+use Rattle.genotype.proofs.CodeLaws.{table-at, code-below}
 use Rattle.genotype.proofs.Tabulate.{length-tabulate, getD-tabulate, tabulate-ext, map-tabulate}
-use Rattle.bed_read.specs.Inner.{valueIn, ByCode}
-use Rattle.bed_read.proofs.BufferLaws.{any-default}
+use Rattle.bed_read.specs.Inner.{Drawn, valueIn, ByCode, valueAt}
+use Rattle.bed_read.proofs.DrawLaws.{drawn-all}
 
-pub table-length : length codeTable ≡ 1024
+-- an element that is there is the same whatever the default
+pub any-default : {A : Type 0} (l : List A) (k : ℕ) (d e : A) → k < length l → getD l k d ≡ getD l k e
+any-default [] k d e h = absurd (omega arith)
+any-default (x ∷ xs) zero d e h = refl
+any-default (x ∷ xs) (suc k) d e h = any-default xs k d e (omega arith)
+
+table-length : length codeTable ≡ 1024
 unfolding codeTable
 table-length = length-tabulate 1024 (λ k. codeAt (k / 4) (k % 4))
 
@@ -24,11 +28,18 @@ entry-below codes i e h =
     (sym (ap (λ (l : List ℕ). getD l i 0) e ∙ getD-tabulate 1024 (λ k. codeAt (k / 4) (k % 4)) i 0 h))
     (code-below (i / 4) (i % 4))
 
--- the byte of an item is in its block
-pub byte-in : (i n : ℕ) → i < n → i / 4 < blockWidth n
-byte-in i n h = let r = width-room n .0 in omega arith
-
 module _ {A : Type 0} (d : A) where
+  -- a table filled with a value for each code
+  pub filled-table :
+      (f : ℕ → A) (codes : List ℕ) (old new : List A) → codes ≡ codeTable → length old ≡ 1024
+      → Drawn d 1 1024 (λ _ t. t) (λ _ t. f (getD codes t 0)) old 1024 new → new ≡ map f codeTable
+  unfolding codeTable
+  filled-table f codes old new e l r =
+      drawn-all d 1024 (λ _ t. t) (λ _ t. f (getD codes t 0)) old new r l
+      ∙ tabulate-ext 1024 (λ t. f (getD codes t 0)) (λ t. f (codeAt (t / 4) (t % 4)))
+      (λ t h. ap f (ap (λ (x : List ℕ). getD x t 0) e ∙ getD-tabulate 1024 (λ k. codeAt (k / 4) (k % 4)) t 0 h))
+      ∙ sym (map-tabulate f 1024 (λ k. codeAt (k / 4) (k % 4)))
+
   -- a table made of a value for each code
   made-at : (f : ℕ → A) (table : List A) → table ≡ map f codeTable → (x p : ℕ) → x < 256 → p < 4 → getD table (x * 4 + p) d ≡ f (codeAt x p)
   made-at f table e x p h k =
@@ -58,16 +69,10 @@ module _ {A : Type 0} (d : A) where
             ∙ sym (map-tabulate (valueIn table d) 1024 (λ k. codeAt (k / 4) (k % 4)));
       }
 
-  module _ (table : List A) (b : ByCode table d) (block : List ℕ) where
-    -- the value of item j, found at place p of its byte x
-    pub item-value : (x p j : ℕ) → x ≡ getD block (j / 4) 0 → x < 256 → p ≡ j % 4 → getD table (x * 4 + p) d ≡ valueIn table d (itemCode block j)
-    unfolding itemCode
-    item-value x p j e h m =
-        let q : p < 4 = omega arith in
-        made-at (valueIn table d) table (b .by-code) x p h q
-        ∙ ap (λ (y : ℕ). valueIn table d (codeAt y p)) e
-        ∙ ap (λ (y : ℕ). valueIn table d (codeAt (getD block (j / 4) 0) y)) m
-
-    -- the same of an item that an entry means
-    pub item-meant : (x i j : ℕ) → i ≡ j → x ≡ getD block (i / 4) 0 → x < 256 → getD table (x * 4 + i % 4) d ≡ valueIn table d (itemCode block j)
-    item-meant x i j e f h = item-value x (i % 4) i f h refl ∙ ap (λ (y : ℕ). valueIn table d (itemCode block y)) e
+  -- the value at a place of a byte x of the file
+  pub value-there :
+      (table : List A) → ByCode table d → (file : List ℕ) (byte place x : ℕ) → x ≡ getD file byte 0 → x < 256 → place < 4
+      → getD table (x * 4 + place) d ≡ valueAt (valueIn table d) file byte place
+  unfolding valueAt
+  value-there table b file byte place x e h k =
+      made-at (valueIn table d) table (b .by-code) x place h k ∙ ap (λ (y : ℕ). valueIn table d (codeAt y place)) e

@@ -1,20 +1,14 @@
 // Reading into a lent matrix.
 ghost use mathlib.Core.Path.{_≡_};
-ghost use mathlib.Core.Bool.{true, cond};
+ghost use mathlib.Core.Bool.{true, false, cond};
 ghost use mathlib.Core.List.{[]};
-ghost use mathlib.Core.Option.{none};
-ghost use Prim.Native.Nat.{ℕ, _+_, _*_, _<_, _≤_};
-ghost use lib.Dec.{leb};
-ghost use lib.IntN.{pos};
+ghost use Prim.Native.Nat.{ℕ, _+_, _-_, _^_, _<_, _≤_};
 ghost use lib.ListN.{length, getD};
 ghost use Rattle.genotype.specs.Answer.{done, isDone};
-ghost use Rattle.genotype.specs.Code.{codeTable};
-ghost use Rattle.genotype.specs.Block.{blockWidth, fileLength};
-ghost use Rattle.genotype.specs.Entry.{firstBad, means};
+ghost use Rattle.genotype.specs.Block.{blockWidth};
 ghost use Rattle.bed_file.specs.File.{isMode1, items};
-ghost use Rattle.bed_read.specs.Calls.{callCode};
 ghost use Rattle.bed_read.specs.Reading.{checkLists, readAnswer};
-ghost use Rattle.bed_read.specs.Inner.{Shaped};
+ghost use Rattle.bed_read.specs.Inner.{Ready, isBlock, partByte, partPlace, lengthOf, byteAt, placeAt, InOrder, Resolved};
 ghost use Rattle.bed_read.specs.Says.{readSays};
 
 pub mod read_f64;
@@ -134,46 +128,6 @@ struct Shape {
     sids: usize,
 }
 
-struct BlockItem {
-    block: usize,
-    item: usize,
-}
-
-// The block and the item that hold the call of an animal at a marker, by the mode.
-fn block_item(mode_1: bool, iid: IidIndex, sid: SidIndex) -> BlockItem
-    ensures { λ r. ⌜ (r .block ≡ cond «mode_1» (sid .0) (iid .0)) × (r .item ≡ cond «mode_1» (iid .0) (sid .0)) ⌝ }
-{
-    if mode_1 {
-        BlockItem {
-            block: sid.0,
-            item: iid.0,
-        }
-    } else {
-        BlockItem {
-            block: iid.0,
-            item: sid.0,
-        }
-    }
-}
-
-fn wide(byte: u8) -> usize
-    ensures { λ r. ⌜ (r ≡ byte) × (r < 256) ⌝ }
-{
-    byte as usize
-}
-
-// The code of the call of an animal at a marker, by the table of codes.
-fn call_code(file: &[u8], shape: Shape, iid: IidIndex, sid: SidIndex, codes: &[u8; 1024]) -> usize
-    requires { ⌜ Shaped (now file) (shape .mode1) (shape .width) (shape .iids) (shape .sids) × (iid .0 < shape .iids) × (sid .0 < shape .sids) × (now codes ≡ codeTable) ⌝ }
-    ensures { λ r. ⌜ (r < 4) × (r ≡ callCode (now (file .entry)) (shape .iids) (shape .sids) (iid .0) (sid .0)) ⌝ }
-{
-    let at = block_item(shape.mode1, iid, sid);
-    let item = at.item;
-    let byte = 3 + at.block * shape.width + item / 4;
-    let place = wide(file[byte]) * 4 + item % 4;
-    wide(codes[place])
-}
-
 // The shape of an accepted file.
 fn shape_of(file: &[u8], iid_count: usize, sid_count: usize) -> Shape
     requires { ⌜ 3 ≤ length (now file) ⌝ }
@@ -195,55 +149,98 @@ fn shape_of(file: &[u8], iid_count: usize, sid_count: usize) -> Shape
     }
 }
 
-// How many values stand beside each other for one animal in animal order, for one marker in marker order.
-fn inner_count(animal_order: bool, iids: usize, sids: usize) -> usize
-    ensures { λ r. ⌜ r ≡ cond «animal_order» sids iids ⌝ }
+fn wide(byte: u8) -> usize
+    ensures { λ r. ⌜ (r ≡ byte) × (r < 256) ⌝ }
 {
-    if animal_order { sids } else { iids }
+    byte as usize
 }
 
-// The end of the tile that starts at `from`: 64 neighbouring values, or what is left.
-fn tile_end(from: usize, inner: usize) -> usize
-    requires { ⌜ from < inner ⌝ }
-    ensures { λ r. ⌜ (from < r) × (r ≤ inner) ⌝ }
-{
-    if inner - from < 64 {
-        return inner;
-    }
-    from + 64
+// What an animal or a marker adds to where a call stands.
+struct Part {
+    byte: usize,
+    place: usize,
 }
 
-// The item that an entry of the list within a block means: an animal in mode 1, a marker in mode 0.
-fn item_of(mode_1: bool, items: usize, entry: i64) -> usize
-    ensures { λ r. ⌜ r ≡ means items entry ⌝ }
+// An animal is an item of every block in mode 1, a block in mode 0.
+fn iid_part(mode_1: bool, width: usize, iid: IidIndex) -> Part
+    requires { ⌜ partByte (isBlock «mode_1» true) width (iid .0) < 2 ^ 64 ⌝ }
+    ensures { λ r. ⌜ (r .byte ≡ partByte (isBlock «mode_1» true) width (iid .0)) × (r .place ≡ partPlace (isBlock «mode_1» true) (iid .0)) ⌝ }
 {
     if mode_1 {
-        let iid = genotype::entries::iid_of(items, entry);
-        return iid.0;
+        let byte = iid.0 / 4;
+        let place = iid.0 % 4;
+        return Part { byte, place };
     }
-    let sid = genotype::entries::sid_of(items, entry);
-    sid.0
+    let start = 3 + iid.0 * width;
+    Part {
+        byte: start,
+        place: 0,
+    }
 }
 
-// The block that an entry of the other list means: a marker in mode 1, an animal in mode 0.
-fn block_of(mode_1: bool, blocks: usize, entry: i64) -> usize
-    ensures { λ r. ⌜ r ≡ means blocks entry ⌝ }
+// A marker is a block in mode 1, an item of every block in mode 0.
+fn sid_part(mode_1: bool, width: usize, sid: SidIndex) -> Part
+    requires { ⌜ partByte (isBlock «mode_1» false) width (sid .0) < 2 ^ 64 ⌝ }
+    ensures { λ r. ⌜ (r .byte ≡ partByte (isBlock «mode_1» false) width (sid .0)) × (r .place ≡ partPlace (isBlock «mode_1» false) (sid .0)) ⌝ }
 {
     if mode_1 {
-        let sid = genotype::entries::sid_of(blocks, entry);
-        return sid.0;
+        let start = 3 + sid.0 * width;
+        return Part {
+            byte: start,
+            place: 0,
+        };
     }
-    let iid = genotype::entries::iid_of(blocks, entry);
-    iid.0
+    let byte = sid.0 / 4;
+    let place = sid.0 % 4;
+    Part { byte, place }
 }
 
-// Whether a list within a block is 0, 1, 2 and so on.
-fn is_file_order(mode_1: bool, items: usize, item_index: &[i64]) -> bool
-    ensures { λ r. ⌜ (r ≡ true → (k : ℕ) → k < length (now («item_index» .entry)) → means items (getD (now («item_index» .entry)) k (pos 0)) ≡ k) ⌝ }
+// What entry k of the animal list, or of the marker list, adds.
+fn part_at(
+    file: &[u8],
+    shape: Shape,
+    iid_index: &[i64],
+    sid_index: &[i64],
+    animals: bool,
+    k: usize,
+) -> Part
+    requires { ⌜ Ready (now file) (shape .mode1) (shape .width) (shape .iids) (shape .sids) (now «iid_index») (now «sid_index») × (k < lengthOf animals (now «iid_index») (now «sid_index»)) ⌝ }
+    ensures { λ r. ⌜ (r .byte ≡ byteAt (shape .mode1) (shape .width) (shape .iids) (shape .sids) (now («iid_index» .entry)) (now («sid_index» .entry)) animals k) × (r .place ≡ placeAt (shape .mode1) (shape .iids) (shape .sids) (now («iid_index» .entry)) (now («sid_index» .entry)) animals k) ⌝ }
 {
+    if animals {
+        let iid = genotype::entries::iid_of(shape.iids, iid_index[k]);
+        return iid_part(shape.mode1, shape.width, iid);
+    }
+    let sid = genotype::entries::sid_of(shape.sids, sid_index[k]);
+    sid_part(shape.mode1, shape.width, sid)
+}
+
+// The length of the animal list, or of the marker list.
+fn length_of(animals: bool, iids: usize, sids: usize) -> usize
+    ensures { λ r. ⌜ r ≡ cond animals iids sids ⌝ }
+{
+    if animals { iids } else { sids }
+}
+
+// Whether the list's entries are the items 0, 1, 2 and so on.
+fn is_in_order(
+    file: &[u8],
+    shape: Shape,
+    iid_index: &[i64],
+    sid_index: &[i64],
+    animals: bool,
+) -> bool
+    requires { ⌜ Ready (now file) (shape .mode1) (shape .width) (shape .iids) (shape .sids) (now «iid_index») (now «sid_index») ⌝ }
+    ensures { λ r. ⌜ (r ≡ true → InOrder (shape .mode1) (shape .width) (shape .iids) (shape .sids) (now («iid_index» .entry)) (now («sid_index» .entry)) animals (lengthOf animals (now («iid_index» .entry)) (now («sid_index» .entry)))) ⌝ }
+{
+    let n = length_of(animals, iid_index.len(), sid_index.len());
     let mut k = 0;
-    while k < item_index.len() {
-        if item_of(mode_1, items, item_index[k]) != k {
+    while k < n {
+        let part = part_at(file, shape, iid_index, sid_index, animals, k);
+        if part.byte != k / 4 {
+            return false;
+        }
+        if part.place != k % 4 {
             return false;
         }
         k += 1;
@@ -251,33 +248,85 @@ fn is_file_order(mode_1: bool, items: usize, item_index: &[i64]) -> bool
     true
 }
 
-// Where the block that entry k means begins.
-fn block_start(
-    mode_1: bool,
-    width: usize,
-    items: usize,
-    blocks: usize,
-    block_index: &[i64],
-    k: usize,
-    file_len: usize,
-) -> usize
-    requires { ⌜ (width ≡ blockWidth items) × («file_len» ≡ fileLength items blocks) × (firstBad blocks (now «block_index») ≡ none) × (k < length (now «block_index»)) ⌝ }
-    ensures { λ r. ⌜ (r ≡ 3 + means blocks (getD (now («block_index» .entry)) k (pos 0)) * width) × (r + width ≤ «file_len») ⌝ }
+// What the entries from `from` to `until` add.
+fn resolve(
+    file: &[u8],
+    shape: Shape,
+    iid_index: &[i64],
+    sid_index: &[i64],
+    animals: bool,
+    from: usize,
+    until: usize,
+    bytes: &mut [usize; 2048],
+    places: &mut [usize; 2048],
+)
+    requires { ⌜ Ready (now file) (shape .mode1) (shape .width) (shape .iids) (shape .sids) (now «iid_index») (now «sid_index») × (from ≤ until) × (until ≤ lengthOf animals (now «iid_index») (now «sid_index»)) × (until - from ≤ 2048) × (length (now bytes) ≡ 2048) × (length (now places) ≡ 2048) ⌝ }
+    ensures { λ _. ⌜ Resolved (shape .mode1) (shape .width) (shape .iids) (shape .sids) (now («iid_index» .entry)) (now («sid_index» .entry)) animals from until (now (bytes .exit)) (now (places .exit)) ⌝ }
 {
-    let b = block_of(mode_1, blocks, block_index[k]);
-    3 + b * width
+    let mut k = 0;
+    while k < until - from {
+        let part = part_at(file, shape, iid_index, sid_index, animals, from + k);
+        bytes[k] = part.byte;
+        places[k] = part.place;
+        k += 1;
+    }
 }
 
-// How many lines are read at once: one in file order, which is read a byte at a time, else four while there are four.
-fn lines_at_once(in_order: bool, left: usize) -> usize
-    requires { ⌜ 0 < left ⌝ }
-    ensures { λ r. ⌜ (r ≡ cond (leb 4 r) 4 1) × (r ≤ left) ⌝ }
+// The first bytes of four blocks.
+fn four_starts(
+    file: &[u8],
+    shape: Shape,
+    iid_index: &[i64],
+    sid_index: &[i64],
+    animals: bool,
+    o: usize,
+) -> [usize; 4]
+    requires { ⌜ Ready (now file) (shape .mode1) (shape .width) (shape .iids) (shape .sids) (now «iid_index») (now «sid_index») × (o + 4 ≤ lengthOf animals (now «iid_index») (now «sid_index»)) ⌝ }
+    ensures { λ r. ⌜ ((j : ℕ) → j < 4 → getD r j 0 ≡ byteAt (shape .mode1) (shape .width) (shape .iids) (shape .sids) (now («iid_index» .entry)) (now («sid_index» .entry)) animals (o + j)) ⌝ }
 {
-    if in_order {
-        return 1;
+    let a = part_at(file, shape, iid_index, sid_index, animals, o);
+    let b = part_at(file, shape, iid_index, sid_index, animals, o + 1);
+    let c = part_at(file, shape, iid_index, sid_index, animals, o + 2);
+    let d = part_at(file, shape, iid_index, sid_index, animals, o + 3);
+    [a.byte, b.byte, c.byte, d.byte]
+}
+
+// Whether a line is a block.
+fn is_along(mode_1: bool, animal_order: bool) -> bool
+    ensures { λ r. ⌜ r ≡ isBlock «mode_1» «animal_order» ⌝ }
+{
+    if mode_1 {
+        return !animal_order;
     }
-    if left < 4 {
-        return 1;
+    animal_order
+}
+
+// How many lines may be read four at a time, for n places of each: all where a line is a block and there are two places, else none.
+fn lines_by_four(mode_1: bool, animal_order: bool, lines: usize, n: usize) -> usize
+    ensures { λ r. ⌜ (r ≤ lines) × (0 < r → (isBlock «mode_1» «animal_order» ≡ true) × (2 ≤ n)) ⌝ }
+{
+    if n < 2 {
+        return 0;
     }
-    4
+    if is_along(mode_1, animal_order) {
+        return lines;
+    }
+    0
+}
+
+// The end of the tile that starts at `from`: 2,048 neighbouring items or 128 neighbouring blocks, or what is left.
+fn tile_end(mode_1: bool, animal_order: bool, from: usize, inner: usize) -> usize
+    requires { ⌜ from < inner ⌝ }
+    ensures { λ r. ⌜ (from < r) × (r ≤ inner) × (r - from ≤ 2048) ⌝ }
+{
+    if is_along(mode_1, animal_order) {
+        if inner - from < 2048 {
+            return inner;
+        }
+        return from + 2048;
+    }
+    if inner - from < 128 {
+        return inner;
+    }
+    from + 128
 }

@@ -1,7 +1,6 @@
 -- The mode by byte 2, the width by the items of that mode.
-use mathlib.Core.Path.{refl, sym, ap, _∙_}
-use lib.IntN.{pos}
-use Rattle.bed_read.proofs.LineLaws.{mode-one, mode-zero, width-one, width-zero}
+use mathlib.Core.Path.{refl, _∙_}
+use Rattle.bed_read.proofs.PartLaws.{mode-one, mode-zero, width-one, width-zero}
 use borrow.Author.Needs.{needs}
 use Rattle.bed_read.proofs.reading.shape_of.Statement.{statement}
 use Rattle.bed_read.proofs.reading.shape_of.Tie as tie

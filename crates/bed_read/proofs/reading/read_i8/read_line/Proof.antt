@@ -1,98 +1,71 @@
--- `read_line`: a part of the inner list is read at the outer place.
-use mathlib.Core.Path.{_≡_, sym, subst, _∙_}
-use Prim.Native.Nat.{ℕ, _<_, _≤_}
+-- `read_line`: the places so far are stored.
+use mathlib.Core.Path.{refl, _∙_}
+use Prim.Native.Nat.{_+_, _-_}
 use native.Mathlib.Omega.{arith}
+use borrow.Author.Needs.{sfits-of}
+use mir.Syntax.{w8}
+use mir.ValLaws.{toZ-ofZ}
 use lib.IntN.{pos}
-use Rattle.bed_read.proofs.LineLaws.{meant, meant-below, part-good, part-length, cond-yes, cond-not, animal-line, marker-line}
-use borrow.Author.Needs.{needs}
+use lib.ListN.{getD}
+use Rattle.bed_read.specs.Inner.{valueIn, valueAt, Drawn}
+use Rattle.bed_read.proofs.DrawLaws.{drawn-none, drawn-one, drawn-end}
 use Rattle.bed_read.proofs.reading.read_i8.read_line.Statement.{statement}
 use Rattle.bed_read.proofs.reading.read_i8.read_line.Tie as tie
 
-mul-iid-of : tie.Need-mul-iid-of
-mul-iid-of c = let s = c .before .before in let h = (subst (λ (x : ℕ). s .args .o < x) (cond-yes _ _ _ (c .if1 .taken)) (s .pre .3)) in omega arith
+abbrev Inv-loop : tie.InvT-loop
+Inv-loop file byte place bytes places table at n val₀ k₀ val k =
+    Drawn (pos 0) 1 n (λ _ i. at + i) (λ _ i. valueAt (valueIn table (pos 0)) file (byte + getD bytes i 0) (place + getD places i 0)) val₀ k val
 
-shared-slice-copy-out-iid-of : tie.Need-shared-slice-copy-out-iid-of
-shared-slice-copy-out-iid-of c = let s = c .before .before in (subst (λ (x : ℕ). s .args .o < x) (cond-yes _ _ _ (c .if1 .taken)) (s .pre .3))
+abbrev μ-loop : tie.MeasureT-loop
+μ-loop file byte place bytes places table at n val₀ k₀ val k = n - k
 
-iid-of-requires : tie.Need-iid-of-requires
-iid-of-requires c κs = search needs
+loop-holds : tie.Need-loop-holds Inv-loop μ-loop
+loop-holds c = drawn-none (pos 0) _ _ _ _ 1
 
-mul-read-sids : tie.Need-mul-read-sids
-mul-read-sids c = let s = c .before .before .before .before in let h = (subst (λ (x : ℕ). s .args .until ≤ x) (cond-yes _ _ _ (c .before .before .if1 .taken)) (s .pre .5)) in omega arith
+add-t : tie.Need-add-t Inv-loop μ-loop
+add-t c = omega arith
 
-sub-read-sids : tie.Need-sub-read-sids
-sub-read-sids c = omega arith
+mul-call-value : tie.Need-mul-call-value Inv-loop μ-loop
+mul-call-value c = omega arith
 
-part-read-sids-start : tie.Need-part-read-sids-start
-part-read-sids-start c = omega arith
+element-copy-out-call-value : tie.Need-element-copy-out-call-value Inv-loop μ-loop
+element-copy-out-call-value c = omega arith
 
-part-read-sids-end : tie.Need-part-read-sids-end
-part-read-sids-end c = let s = c .before .before .before .before in (subst (λ (x : ℕ). s .args .until ≤ x) (cond-yes _ _ _ (c .before .before .if1 .taken)) (s .pre .5))
+add-call-value : tie.Need-add-call-value Inv-loop μ-loop
+add-call-value c = omega (arith, c .before .before .before .before .pre .1 .byte-in (c .before .before .loop .k) (c .before .loop-test .taken))
 
-read-sids-requires : tie.Need-read-sids-requires
-read-sids-requires c κs = let s = c .before .before .before .before .before .before in (s .pre .0, part-good (s .args .shape .sids) (s .args .sid-index .now) (s .args .from) (s .args .until) (s .pre .4) (subst (λ (x : ℕ). s .args .until ≤ x) (cond-yes _ _ _ (c .before .before .before .before .if1 .taken)) (s .pre .5)) (s .pre .2), meant-below (s .args .shape .iids) (s .args .iid-index .now) _ _ (s .pre .1) (subst (λ (x : ℕ). s .args .o < x) (cond-yes _ _ _ (c .before .before .before .before .if1 .taken)) (s .pre .3)) (c .before .before .before .iid-of-arg .given) (c .before .before .iid-of .ensures), s .pre .6, s .pre .7 ∙ sym (part-length (s .args .shape .sids) (s .args .sid-index .now) (s .args .from) (s .args .until) (s .pre .4) (subst (λ (x : ℕ). s .args .until ≤ x) (cond-yes _ _ _ (c .before .before .before .before .if1 .taken)) (s .pre .5))))
+mul-call-value-2 : tie.Need-mul-call-value-2 Inv-loop μ-loop
+mul-call-value-2 c = omega arith
 
-mul-sid-of : tie.Need-mul-sid-of
-mul-sid-of c = let s = c .before .before in let h = (subst (λ (x : ℕ). s .args .o < x) (cond-not _ _ _ (c .if1 .left)) (s .pre .3)) in omega arith
+element-copy-out-call-value-2 : tie.Need-element-copy-out-call-value-2 Inv-loop μ-loop
+element-copy-out-call-value-2 c = omega arith
 
-shared-slice-copy-out-sid-of : tie.Need-shared-slice-copy-out-sid-of
-shared-slice-copy-out-sid-of c = let s = c .before .before in (subst (λ (x : ℕ). s .args .o < x) (cond-not _ _ _ (c .if1 .left)) (s .pre .3))
+add-call-value-2 : tie.Need-add-call-value-2 Inv-loop μ-loop
+add-call-value-2 c = omega (arith, c .before .before .before .before .before .pre .1 .place-in (c .before .before .before .loop .k) (c .before .before .loop-test .taken))
 
-sid-of-requires : tie.Need-sid-of-requires
-sid-of-requires c κs = search needs
+call-value-requires : tie.Need-call-value-requires Inv-loop μ-loop
+call-value-requires c κs =
+    (c .before .before .before .before .before .pre .1 .byte-in (c .before .before .before .loop .k) (c .before .before .loop-test .taken), c .before .before .before .before .before .pre .1 .place-in (c .before .before .before .loop .k) (c .before .before .loop-test .taken), c .before .before .before .before .before .pre .0)
 
-mul-read-iids : tie.Need-mul-read-iids
-mul-read-iids c = let s = c .before .before .before .before in let h = (subst (λ (x : ℕ). s .args .until ≤ x) (cond-not _ _ _ (c .before .before .if1 .left)) (s .pre .5)) in omega arith
+slice-set-from-val : tie.Need-slice-set-from-val Inv-loop μ-loop
+slice-set-from-val c = omega (arith, c .before .before .before .before .loop .inv .long, c .before .before .before .loop-test .taken, c .before .before .before .before .before .before .pre .3)
 
-sub-read-iids : tie.Need-sub-read-iids
-sub-read-iids c = omega arith
+add-k : tie.Need-add-k Inv-loop μ-loop
+add-k c = omega arith
 
-part-read-iids-start : tie.Need-part-read-iids-start
-part-read-iids-start c = omega arith
+loop-less : tie.Need-loop-less Inv-loop μ-loop
+loop-less c = omega arith
 
-part-read-iids-end : tie.Need-part-read-iids-end
-part-read-iids-end c = let s = c .before .before .before .before in (subst (λ (x : ℕ). s .args .until ≤ x) (cond-not _ _ _ (c .before .before .if1 .left)) (s .pre .5))
+loop-again : tie.Need-loop-again Inv-loop μ-loop
+loop-again c =
+    drawn-one (pos 0) _ _ _ _ _ _ _ _ _ (c .before .before .before .before .loop .inv) (c .before .before .before .loop-test .taken) refl refl (omega (arith, c .before .before .before .loop-test .taken, c .before .before .before .before .before .before .pre .3))
+    (toZ-ofZ w8 _ (sfits-of (c .call-value .ok)) ∙ c .call-value .ensures)
 
-read-iids-requires : tie.Need-read-iids-requires
-read-iids-requires c κs = let s = c .before .before .before .before .before .before in (s .pre .0, part-good (s .args .shape .iids) (s .args .iid-index .now) (s .args .from) (s .args .until) (s .pre .4) (subst (λ (x : ℕ). s .args .until ≤ x) (cond-not _ _ _ (c .before .before .before .before .if1 .left)) (s .pre .5)) (s .pre .1), meant-below (s .args .shape .sids) (s .args .sid-index .now) _ _ (s .pre .2) (subst (λ (x : ℕ). s .args .o < x) (cond-not _ _ _ (c .before .before .before .before .if1 .left)) (s .pre .3)) (c .before .before .before .sid-of-arg .given) (c .before .before .sid-of .ensures), s .pre .6, s .pre .7 ∙ sym (part-length (s .args .shape .iids) (s .args .iid-index .now) (s .args .from) (s .args .until) (s .pre .4) (subst (λ (x : ℕ). s .args .until ≤ x) (cond-not _ _ _ (c .before .before .before .before .if1 .left)) (s .pre .5))))
+same-length : tie.Need-same-length Inv-loop μ-loop
+same-length c = c .before .loop .inv .long
 
-same-length : tie.Need-same-length
-same-length c = search needs
-
-returns : tie.Need-returns
-returns c = let s = c .before .before .before .before .before .before .before .before in
-    animal-line (s .args .values .now) (pos 0) (s .args .file .now) (s .args .shape .iids) (s .args .shape .sids) (s .args .iid-index .now) (s .args .sid-index .now) (s .args .animal-order) (s .args .o) (s .args .from) (s .args .until) (s .pre .4)
-    (c .before .before .before .before .before .before .if1 .taken) (subst (λ (x : ℕ). s .args .until ≤ x) (cond-yes _ _ _ (c .before .before .before .before .before .before .if1 .taken)) (s .pre .5)) _ (meant (s .args .shape .iids) (s .args .iid-index .now) _ _ (s .pre .1) (subst (λ (x : ℕ). s .args .o < x) (cond-yes _ _ _ (c .before .before .before .before .before .before .if1 .taken)) (s .pre .3)) (c .before .before .before .before .before .iid-of-arg .given) (c .before .before .before .before .iid-of .ensures)) _ (c .before .read-sids .ensures)
-
-same-length-2 : tie.Need-same-length-2
-same-length-2 c = search needs
-
-returns-2 : tie.Need-returns-2
-returns-2 c = let s = c .before .before .before .before .before .before .before .before in
-    marker-line (s .args .values .now) (pos 0) (s .args .file .now) (s .args .shape .iids) (s .args .shape .sids) (s .args .iid-index .now) (s .args .sid-index .now) (s .args .animal-order) (s .args .o) (s .args .from) (s .args .until) (s .pre .4)
-    (c .before .before .before .before .before .before .if1 .left) (subst (λ (x : ℕ). s .args .until ≤ x) (cond-not _ _ _ (c .before .before .before .before .before .before .if1 .left)) (s .pre .5)) _ (meant (s .args .shape .sids) (s .args .sid-index .now) _ _ (s .pre .2) (subst (λ (x : ℕ). s .args .o < x) (cond-not _ _ _ (c .before .before .before .before .before .before .if1 .left)) (s .pre .3)) (c .before .before .before .before .before .sid-of-arg .given) (c .before .before .before .before .sid-of .ensures)) _ (c .before .read-iids .ensures)
+returns : tie.Need-returns Inv-loop μ-loop
+returns c = drawn-end (pos 0) _ _ _ _ _ _ _ (c .before .loop .inv) (c .loop-test .left)
 
 pub read-line-spec : {M : Type 1} → statement M
-read-line-spec =
-    tie.close
-    (tie.spec
-    mul-iid-of
-    shared-slice-copy-out-iid-of
-    iid-of-requires
-    mul-read-sids
-    sub-read-sids
-    part-read-sids-start
-    part-read-sids-end
-    read-sids-requires
-    mul-sid-of
-    shared-slice-copy-out-sid-of
-    sid-of-requires
-    mul-read-iids
-    sub-read-iids
-    part-read-iids-start
-    part-read-iids-end
-    read-iids-requires
-    same-length
-    returns
-    same-length-2
-    returns-2)
+read-line-spec = tie.close (tie.spec Inv-loop μ-loop loop-holds add-t mul-call-value element-copy-out-call-value add-call-value mul-call-value-2 element-copy-out-call-value-2 add-call-value-2 call-value-requires slice-set-from-val add-k loop-less loop-again same-length returns)

@@ -1,103 +1,71 @@
--- `read_matrix`: along the blocks, or tile by tile.
-use Prim.Native.Nat.{ℕ}
-use Rattle.bed_read.proofs.HeldLaws.{listed-one, listed-zero, along-sids, along-iids}
-use Rattle.bed_read.proofs.TableLaws.{made-by-code, made-value}
-use Rattle.bed_read.specs.Inner.{valueIn}
-use Rattle.bed_read.specs.Reading.{codesRead}
+-- `read_matrix`: every line is filled up to the tile.
+use mathlib.Core.Path.{_≡_, refl, sym, subst, _∙_}
+use Prim.Native.Nat.{ℕ, _-_, _≤_}
+use native.Mathlib.Nat.{le-of-lt}
+use native.Mathlib.Omega.{arith}
 use borrow.Author.Needs.{needs}
-use lib.Ieee.{Float, nan}
-use lib.IntN.{ℤ, pos}
-use lib.ListN.{length, getD}
-use mathlib.Core.Bool.{Bool}
-use mathlib.Core.List.{List, map}
-use mathlib.Core.Path.{_≡_, sym, ap, _∙_}
-use native.Mathlib.Nat.{mul-comm}
+use lib.IntN.{pos}
+use lib.ListN.{length}
+use Rattle.bed_read.specs.Inner.{ReadTo}
+use Rattle.bed_read.proofs.MatrixLaws.{read-none, read-all}
 use Rattle.bed_read.proofs.reading.read_i8.read_matrix.Statement.{statement}
 use Rattle.bed_read.proofs.reading.read_i8.read_matrix.Tie as tie
 
--- the matrix read, by the order
-abbrev order : tie.Start → Bool → List ℤ
-order s b =
-    map (λ code. getD (s .args .values .now) code (pos 0))
-    (codesRead b (s .args .file .now) (s .args .shape .iids) (s .args .shape .sids) (s .args .iid-index .now) (s .args .sid-index .now))
+abbrev Inv-loop : tie.InvT-loop
+Inv-loop file shape iid-index sid-index animal-order table val₀ inner bytes₀ places₀ from₀ val bytes places from =
+    ReadTo animal-order table (pos 0) file (shape .iids) (shape .sids) iid-index sid-index val from × (length bytes ≡ 2048) × (length places ≡ 2048)
 
-read-tiles-requires : tie.Need-read-tiles-requires
-read-tiles-requires c κs = search needs
+abbrev μ-loop : tie.MeasureT-loop
+μ-loop file shape iid-index sid-index animal-order table val₀ inner bytes₀ places₀ from₀ val bytes places from = inner - from
 
-same-length : tie.Need-same-length
-same-length c = search needs
+start : (s : tie.Start Inv-loop μ-loop) → ReadTo (s .args .animal-order) (s .args .table .now) (pos 0) (s .args .file .now) (s .args .shape .iids) (s .args .shape .sids) (s .args .iid-index .now) (s .args .sid-index .now) (s .args .val .now) 0
+start s = read-none (s .args .table .now) (pos 0) (s .args .file .now) _ _ (s .args .iid-index .now) (s .args .sid-index .now) (s .args .animal-order) (s .args .val .now) (s .pre .2)
 
-returns : tie.Need-returns
-returns c = search needs
+is-in-order-requires : tie.Need-is-in-order-requires Inv-loop μ-loop
+is-in-order-requires c κs = c .before .pre .0
 
-value-table-requires : tie.Need-value-table-requires
-value-table-requires c κs = search needs
+read-blocks-requires : tie.Need-read-blocks-requires Inv-loop μ-loop
+read-blocks-requires c κs = let s = c .before .before .before .before in (s .pre .0, s .pre .1, c .before .before .is-in-order .ensures (c .before .if1 .taken), start s)
 
-read-along-requires : tie.Need-read-along-requires
-read-along-requires c κs =
-    let s = c .before .before .before .before .before .before in (
-      listed-one (s .args .file .now) (s .args .shape .mode1) (s .args .shape .width) (s .args .shape .iids) (s .args .shape .sids) (s .args .iid-index .now) (s .args .sid-index .now) (s .pre .0) (s .pre .1) (s .pre .2) (c .before .before .before .before .if1 .taken),
-      made-by-code (pos 0) (λ code. getD (s .args .values .now) code (pos 0)) _ (c .before .before .value-table .ensures),
-      mul-comm (length (s .args .sid-index .now)) (length (s .args .iid-index .now)) ∙ s .pre .4,
-    )
+same-length : tie.Need-same-length Inv-loop μ-loop
+same-length c = c .before .read-blocks .ensures .long ∙ sym (start (c .before .before .before .before .before .before) .long)
 
-same-length-2 : tie.Need-same-length-2
-same-length-2 c = search needs
+returns : tie.Need-returns Inv-loop μ-loop
+returns c = let s = c .before .before .before .before .before .before in read-all (s .args .table .now) (pos 0) (s .args .file .now) _ _ (s .args .iid-index .now) (s .args .sid-index .now) (s .args .animal-order) _ _ (c .before .read-blocks .ensures) (omega arith)
 
-returns-2 : tie.Need-returns-2
+length-of-requires : tie.Need-length-of-requires Inv-loop μ-loop
+length-of-requires c κs = search needs
+
+loop-holds : tie.Need-loop-holds Inv-loop μ-loop
+loop-holds c = (start (c .before .before .before .before), refl, refl)
+
+tile-end-requires : tie.Need-tile-end-requires Inv-loop μ-loop
+tile-end-requires c κs = c .loop-test .taken
+
+resolve-requires : tie.Need-resolve-requires Inv-loop μ-loop
+resolve-requires c κs =
+    let t = c .before .before .tile-end .ensures in
+    (c .before .before .before .before .before .before .before .before .before .pre .0, le-of-lt (t .0), subst (λ (x : ℕ). c .before .before .tile-end .result ≤ x) (c .before .before .before .before .before .length-of .ensures) (t .1), t .2, c .before .before .before .before .loop .inv .1, c .before .before .before .before .loop .inv .2)
+
+read-tile-requires : tie.Need-read-tile-requires Inv-loop μ-loop
+read-tile-requires c κs =
+    let s = c .before .before .before .before .before .before .before .before .before .before .before .before .before in
+    let t = c .before .before .before .before .before .before .tile-end .ensures in
+    (s .pre .0, s .pre .1, c .before .before .before .resolve .ensures, t .0, subst (λ (x : ℕ). c .before .before .before .before .before .before .tile-end .result ≤ x) (c .before .before .before .before .before .before .before .before .before .length-of .ensures) (t .1), t .2, c .before .before .before .before .before .before .before .before .loop .inv .0)
+
+loop-less : tie.Need-loop-less Inv-loop μ-loop
+loop-less c = omega (arith, c .before .before .before .before .before .before .before .before .tile-end .ensures .0, c .before .before .before .before .before .before .before .before .before .loop-test .taken)
+
+loop-again : tie.Need-loop-again Inv-loop μ-loop
+loop-again c = (c .before .read-tile .ensures, c .before .before .before .before .before .resolve .ensures .bytes-long, c .before .before .before .before .before .resolve .ensures .places-long)
+
+same-length-2 : tie.Need-same-length-2 Inv-loop μ-loop
+same-length-2 c = c .before .loop .inv .0 .long ∙ sym (start (c .before .before .before .before .before .before) .long)
+
+returns-2 : tie.Need-returns-2 Inv-loop μ-loop
 returns-2 c =
-    let s = c .before .before .before .before .before .before .before .before in
-    along-sids (s .args .values .now) (pos 0) _ (s .args .file .now) (s .args .shape .iids) (s .args .shape .sids) (s .args .iid-index .now) (s .args .sid-index .now)
-    (made-value (pos 0) (λ code. getD (s .args .values .now) code (pos 0)) _ (c .before .before .before .before .value-table .ensures)) _ (sym (c .before .before .before .before .before .before .if1 .taken) ∙ s .pre .0 .mode-is)
-    (c .before .read-along .ensures)
-    ∙ ap (order s) (sym (c .before .before .before .before .before .if2 .left))
-
-value-table-requires-2 : tie.Need-value-table-requires-2
-value-table-requires-2 c κs = search needs
-
-read-along-requires-2 : tie.Need-read-along-requires-2
-read-along-requires-2 c κs =
-    let s = c .before .before .before .before .before .before in (
-      listed-zero (s .args .file .now) (s .args .shape .mode1) (s .args .shape .width) (s .args .shape .iids) (s .args .shape .sids) (s .args .iid-index .now) (s .args .sid-index .now) (s .pre .0) (s .pre .1) (s .pre .2) (c .before .before .before .before .if1 .left),
-      made-by-code (pos 0) (λ code. getD (s .args .values .now) code (pos 0)) _ (c .before .before .value-table2 .ensures),
-      s .pre .4,
-    )
-
-same-length-3 : tie.Need-same-length-3
-same-length-3 c = search needs
-
-returns-3 : tie.Need-returns-3
-returns-3 c =
-    let s = c .before .before .before .before .before .before .before .before in
-    along-iids (s .args .values .now) (pos 0) _ (s .args .file .now) (s .args .shape .iids) (s .args .shape .sids) (s .args .iid-index .now) (s .args .sid-index .now)
-    (made-value (pos 0) (λ code. getD (s .args .values .now) code (pos 0)) _ (c .before .before .before .before .value-table2 .ensures)) _ (sym (c .before .before .before .before .before .before .if1 .left) ∙ s .pre .0 .mode-is)
-    (c .before .read-along2 .ensures)
-    ∙ ap (order s) (sym (c .before .before .before .before .before .if3 .taken))
-
-read-tiles-requires-2 : tie.Need-read-tiles-requires-2
-read-tiles-requires-2 c κs = search needs
-
-same-length-4 : tie.Need-same-length-4
-same-length-4 c = search needs
-
-returns-4 : tie.Need-returns-4
-returns-4 c = search needs
+    let s = c .before .before .before .before .before .before in
+    read-all (s .args .table .now) (pos 0) (s .args .file .now) _ _ (s .args .iid-index .now) (s .args .sid-index .now) (s .args .animal-order) _ _ (c .before .loop .inv .0) (subst (λ (x : ℕ). x ≤ c .before .loop .from) (c .before .before .length-of .ensures) (c .loop-test .left))
 
 pub read-matrix-spec : {M : Type 1} → statement M
-read-matrix-spec =
-    tie.close
-    (tie.spec
-    read-tiles-requires
-    same-length
-    returns
-    value-table-requires
-    read-along-requires
-    same-length-2
-    returns-2
-    value-table-requires-2
-    read-along-requires-2
-    same-length-3
-    returns-3
-    read-tiles-requires-2
-    same-length-4
-    returns-4)
+read-matrix-spec = tie.close (tie.spec Inv-loop μ-loop is-in-order-requires read-blocks-requires same-length returns length-of-requires loop-holds tile-end-requires resolve-requires read-tile-requires loop-less loop-again same-length-2 returns-2)

@@ -1,16 +1,37 @@
 -- `read_no_alloc_i8`: the checks, then the whole matrix.
+use mathlib.Core.Path.{_≡_, ap, _∙_}
 use mathlib.Core.Bool.{true, false}
-use mathlib.Core.Path.{ap, _∙_}
-use lib.IntN.{pos}
-use lib.ListN.{length}
+use mathlib.Core.List.{map}
+use borrow.Author.Needs.{needs}
+use lib.IntN.{ℤ, pos}
+use lib.ListN.{length, getD}
 use mir.Syntax.{w8}
 use mir.ValLaws.{toZ-ofZ}
+use Rattle.genotype.specs.Answer.{isDone}
+use Rattle.genotype.specs.Code.{codeTable}
 use Rattle.genotype.specs.Value.{i8, values}
-use Rattle.bed_read.proofs.ReadLaws.{readable}
-use Rattle.bed_read.proofs.BufferLaws.{is-done-of, shaped, iids-stay-good, sids-stay-good, buffer-read, buffer-kept}
-use borrow.Author.Needs.{needs}
+use Rattle.bed_read.specs.Reading.{readAnswer}
+use Rattle.bed_read.specs.Inner.{Ready}
+use Rattle.bed_read.proofs.ReadLaws.{Readable, readable}
+use Rattle.bed_read.proofs.TableLaws.{made-by-code}
+use Rattle.bed_read.proofs.BufferLaws.{is-done-of, ready, buffer-read, buffer-kept}
 use Rattle.bed_read.proofs.reading.read_i8.read_no_alloc_i8.Statement.{statement}
 use Rattle.bed_read.proofs.reading.read_i8.read_no_alloc_i8.Tie as tie
+
+-- what is known once the checks passed
+done : (c : tie.Then1) → isDone (readAnswer (c .before .before .before .before .args .file .now) (c .before .before .before .before .args .iid-count) (c .before .before .before .before .args .sid-count) (c .before .before .before .before .args .iid-index .now) (c .before .before .before .before .args .sid-index .now) (length (c .before .before .before .before .args .val .now))) ≡ true
+done c = is-done-of _ _ _ (c .before .before .check-read .ensures) (c .before .is-done .ensures) true (c .if1 .taken)
+
+facts : (c : tie.Then1) → Readable (c .before .before .before .before .args .file .now) (c .before .before .before .before .args .iid-count) (c .before .before .before .before .args .sid-count) (c .before .before .before .before .args .iid-index .now) (c .before .before .before .before .args .sid-index .now) (length (c .before .before .before .before .args .val .now))
+facts c = readable _ _ _ _ _ _ (done c)
+
+shape : (c : tie.After-shape-of) → Ready (c .before .before .before .before .before .args .file .now) (c .shape-of .result .mode1) (c .shape-of .result .width) (c .shape-of .result .iids) (c .shape-of .result .sids) (c .before .before .before .before .before .args .iid-index .now) (c .before .before .before .before .before .args .sid-index .now)
+shape c = let e = c .shape-of .ensures in ready _ _ _ _ _ _ (facts (c .before)) _ _ _ _ (e .0) (e .1) (e .2) (e .3)
+
+filled : (c : tie.After-value-table) → c .value-table .result ≡ map (λ code. getD (values i8 (c .before .before .before .before .before .before .args .is-a1-counted) (c .before .before .before .before .before .before .args .missing-value)) code (pos 0)) codeTable
+filled c =
+    c .value-table .ensures
+    ∙ ap (λ (x : ℤ). map (λ code. getD (values i8 (c .before .before .before .before .before .before .args .is-a1-counted) x) code (pos 0)) codeTable) (toZ-ofZ w8 (c .before .before .before .before .before .before .args .missing-value) (c .before .before .before .before .before .before .fits .missing-value))
 
 check-read-requires : tie.Need-check-read-requires
 check-read-requires c κs = search needs
@@ -19,50 +40,26 @@ is-done-requires : tie.Need-is-done-requires
 is-done-requires c κs = search needs
 
 shape-of-requires : tie.Need-shape-of-requires
-shape-of-requires c κs = let s = c .before .before .before .before in (readable (s .args .file .now) (s .args .iid-count) (s .args .sid-count) (s .args .iid-index .now) (s .args .sid-index .now) (length (s .args .val .now)) (is-done-of _ _ _ (c .before .before .check-read .ensures) (c .before .is-done .ensures) true (c .if1 .taken))) .long
+shape-of-requires c κs = facts c .long
 
-codes-requires : tie.Need-codes-requires
-codes-requires c κs = search needs
-
-set-up-two-bits-to-value-i8-requires : tie.Need-set-up-two-bits-to-value-i8-requires
-set-up-two-bits-to-value-i8-requires c κs = search needs
+value-table-requires : tie.Need-value-table-requires
+value-table-requires c κs = search needs
 
 read-matrix-requires : tie.Need-read-matrix-requires
-read-matrix-requires c κs =
-    let s = c .before .before .before .before .before .before .before .before .before .before in
-    let r = readable (s .args .file .now) (s .args .iid-count) (s .args .sid-count) (s .args .iid-index .now) (s .args .sid-index .now) (length (s .args .val .now)) (is-done-of _ _ _ (c .before .before .before .before .before .before .before .before .check-read .ensures) (c .before .before .before .before .before .before .before .is-done .ensures) true (c .before .before .before .before .before .before .if1 .taken)) in (
-      shaped (s .args .file .now) (s .args .iid-count) (s .args .sid-count) (s .args .iid-index .now) (s .args .sid-index .now) _ r _ _ _ _ (c .before .before .before .before .before .shape-of .ensures .0) (c .before .before .before .before .before .shape-of .ensures .1) (c .before .before .before .before .before .shape-of .ensures .2) (c .before .before .before .before .before .shape-of .ensures .3),
-      iids-stay-good (s .args .file .now) (s .args .iid-count) (s .args .sid-count) (s .args .iid-index .now) (s .args .sid-index .now) _ r _ _ _ _ (c .before .before .before .before .before .shape-of .ensures .0) (c .before .before .before .before .before .shape-of .ensures .1) (c .before .before .before .before .before .shape-of .ensures .2) (c .before .before .before .before .before .shape-of .ensures .3),
-      sids-stay-good (s .args .file .now) (s .args .iid-count) (s .args .sid-count) (s .args .iid-index .now) (s .args .sid-index .now) _ r _ _ _ _ (c .before .before .before .before .before .shape-of .ensures .0) (c .before .before .before .before .before .shape-of .ensures .1) (c .before .before .before .before .before .shape-of .ensures .2) (c .before .before .before .before .before .shape-of .ensures .3),
-      c .before .before .before .before .codes .ensures,
-      r .product,
-    )
+read-matrix-requires c κs = (shape (c .before .before .before), made-by-code (pos 0) (λ code. getD (values i8 (c .before .before .before .before .before .before .before .before .args .is-a1-counted) (c .before .before .before .before .before .before .before .before .args .missing-value)) code (pos 0)) _ (filled (c .before .before)), facts (c .before .before .before .before) .product)
 
 same-length : tie.Need-same-length
 same-length c = search needs
 
 returns : tie.Need-returns
 returns c =
-    let s = c .before .before .before .before .before .before .before .before .before .before .before .before in
-    let r = readable (s .args .file .now) (s .args .iid-count) (s .args .sid-count) (s .args .iid-index .now) (s .args .sid-index .now) (length (s .args .val .now)) (is-done-of _ _ _ (c .before .before .before .before .before .before .before .before .before .before .check-read .ensures) (c .before .before .before .before .before .before .before .before .before .is-done .ensures) true (c .before .before .before .before .before .before .before .before .if1 .taken)) in (
-      c .before .before .before .before .before .before .before .before .before .before .check-read .ensures,
-      buffer-read (s .args .file .now) (s .args .iid-count) (s .args .sid-count) (s .args .iid-index .now) (s .args .sid-index .now) _ r _ _ _ _ (c .before .before .before .before .before .before .before .shape-of .ensures .0) (c .before .before .before .before .before .before .before .shape-of .ensures .1) (c .before .before .before .before .before .before .before .shape-of .ensures .2) (c .before .before .before .before .before .before .before .shape-of .ensures .3)
-          i8 _ _ (pos 0) _ _ _ _ (is-done-of _ _ _ (c .before .before .before .before .before .before .before .before .before .before .check-read .ensures) (c .before .before .before .before .before .before .before .before .before .is-done .ensures) true (c .before .before .before .before .before .before .before .before .if1 .taken)) (c .before .before .before .before .before .set-up-two-bits-to-value-i8 .ensures ∙ ap (values i8 (s .args .is-a1-counted)) (toZ-ofZ w8 (s .args .missing-value) (s .fits .missing-value))) (c .before .read-matrix .ensures),
+    let e = c .before .before .before .before .before .shape-of .ensures in (
+      c .before .before .before .before .before .before .before .before .check-read .ensures,
+      buffer-read _ _ _ _ _ _ (facts (c .before .before .before .before .before .before)) _ _ _ _ (e .0) (e .1) (e .2) (e .3) i8 _ _ (pos 0) _ _ _ _ (done (c .before .before .before .before .before .before)) (filled (c .before .before .before .before)) (c .before .read-matrix .ensures),
     )
 
 returns-2 : tie.Need-returns-2
 returns-2 c = (c .before .before .check-read .ensures, buffer-kept i8 _ _ _ _ _ _ _ _ _ (is-done-of _ _ _ (c .before .before .check-read .ensures) (c .before .is-done .ensures) false (c .if1 .left)))
 
 pub read-no-alloc-i8-spec : {M : Type 1} → statement M
-read-no-alloc-i8-spec =
-    tie.close
-    (tie.spec
-    check-read-requires
-    is-done-requires
-    shape-of-requires
-    codes-requires
-    set-up-two-bits-to-value-i8-requires
-    read-matrix-requires
-    same-length
-    returns
-    returns-2)
+read-no-alloc-i8-spec = tie.close (tie.spec check-read-requires is-done-requires shape-of-requires value-table-requires read-matrix-requires same-length returns returns-2)

@@ -1,5 +1,5 @@
--- `value_table`: what is left to store makes the whole table.
-use mathlib.Core.Path.{_≡_, refl, sym, ap, subst, _∙_}
+-- `value_table`: the places so far are stored.
+use mathlib.Core.Path.{refl, sym, ap, subst, _∙_}
 use mathlib.Core.List.{List, map}
 use Prim.Native.Nat.{ℕ, _-_, _<_}
 use native.Mathlib.Omega.{arith}
@@ -7,41 +7,42 @@ use borrow.Author.Needs.{needs, sfits-of}
 use mir.Syntax.{w8}
 use mir.ValLaws.{toZ-ofZ}
 use lib.IntN.{ℤ, pos}
-use lib.ListN.{length, getD}
+use lib.ListN.{getD}
 use Rattle.genotype.specs.Code.{codeTable}
-use Rattle.bed_read.proofs.ColumnLaws.{Filled, filled-none, filled-more, filled-all}
-use Rattle.bed_read.proofs.TableLaws.{table-length, entry-below}
+use Rattle.genotype.specs.Value.{i8, values}
+use Rattle.bed_read.specs.Inner.{Drawn}
+use Rattle.bed_read.proofs.DrawLaws.{drawn-none, drawn-one, drawn-end}
+use Rattle.bed_read.proofs.TableLaws.{entry-below, filled-table}
 use Rattle.bed_read.proofs.reading.read_i8.value_table.Statement.{statement}
 use Rattle.bed_read.proofs.reading.read_i8.value_table.Tie as tie
 
 abbrev Inv-loop : tie.InvT-loop
-Inv-loop codes values table₀ i₀ table i = Filled (λ code. getD values code (pos 0)) 0 codes table i
+Inv-loop is-a1-counted missing-value codes values table₀ i₀ table i =
+    Drawn (pos 0) 1 1024 (λ _ t. t) (λ _ t. getD values (getD codes t 0) (pos 0)) table₀ i table
 
 abbrev μ-loop : tie.MeasureT-loop
-μ-loop codes values table₀ i₀ table i = 1024 - i
+μ-loop is-a1-counted missing-value codes values table₀ i₀ table i = 1024 - i
 
--- as many codes as the table has places
-many : (codes : List ℕ) → codes ≡ codeTable → length codes ≡ 1024
-many codes e = ap length e ∙ table-length
+codes-requires : tie.Need-codes-requires Inv-loop μ-loop
+codes-requires c κs = search needs
+
+set-up-two-bits-to-value-i8-requires : tie.Need-set-up-two-bits-to-value-i8-requires Inv-loop μ-loop
+set-up-two-bits-to-value-i8-requires c κs = search needs
 
 loop-holds : tie.Need-loop-holds Inv-loop μ-loop
-loop-holds c =
-    let l = many (c .args .codes .now) (c .pre) in
-    filled-none (λ code. getD (c .args .values .now) code (pos 0)) 0 (c .args .codes .now) _ (refl ∙ sym l)
+loop-holds c = drawn-none (pos 0) _ _ _ _ 1
 
-element-copy-out-wide : tie.Need-element-copy-out-wide Inv-loop μ-loop
-element-copy-out-wide c = search needs
+array-read-wide : tie.Need-array-read-wide Inv-loop μ-loop
+array-read-wide c = search needs
 
 wide-requires : tie.Need-wide-requires Inv-loop μ-loop
 wide-requires c κs = search needs
 
-element-copy-out-table : tie.Need-element-copy-out-table Inv-loop μ-loop
-element-copy-out-table c =
-    let s = c .before .before .before .before in
-    subst (λ (x : ℕ). x < 4) (sym (c .wide .ensures .0)) (entry-below (s .args .codes .now) _ (s .pre) (c .before .before .loop-test .taken))
+array-copy-out-table : tie.Need-array-copy-out-table Inv-loop μ-loop
+array-copy-out-table c = subst (λ (x : ℕ). x < 4) (sym (c .wide .ensures .0)) (entry-below _ _ (c .before .before .before .before .codes .ensures) (c .before .loop-test .taken))
 
 array-set-from-table : tie.Need-array-set-from-table Inv-loop μ-loop
-array-set-from-table c = omega (arith, c .before .before .before .loop-test .taken)
+array-set-from-table c = omega (arith, c .before .before .loop-test .taken)
 
 add-i : tie.Need-add-i Inv-loop μ-loop
 add-i c = omega arith
@@ -51,30 +52,14 @@ loop-less c = omega arith
 
 loop-again : tie.Need-loop-again Inv-loop μ-loop
 loop-again c =
-    let s = c .before .before .before .before .before in
-    filled-more (λ code. getD (s .args .values .now) code (pos 0)) 0 (s .args .codes .now) _ _ _ (c .before .before .before .before .loop .inv)
-    (let l = many (s .args .codes .now) (s .pre) in omega (arith, c .before .before .before .loop-test .taken))
-    (toZ-ofZ w8 _ (sfits-of (c .table .given)) ∙ ap (λ (x : ℕ). getD (s .args .values .now) x (pos 0)) (c .before .wide .ensures .0))
+    drawn-one (pos 0) _ _ _ _ _ _ _ _ _ (c .before .before .before .loop .inv) (c .before .before .loop-test .taken) refl refl (c .before .before .loop-test .taken)
+    (toZ-ofZ w8 _ (sfits-of (c .table .given)) ∙ ap (λ (x : ℕ). getD (c .before .before .before .before .set-up-two-bits-to-value-i8 .result) x (pos 0)) (c .before .wide .ensures .0))
 
 returns : tie.Need-returns Inv-loop μ-loop
 returns c =
-    let s = c .before .before in
-    filled-all (λ code. getD (s .args .values .now) code (pos 0)) 0 (s .args .codes .now) _ _ (c .before .loop .inv)
-    (let l = many (s .args .codes .now) (s .pre) in omega (arith, c .loop-test .left))
-    ∙ ap (map (λ code. getD (s .args .values .now) code (pos 0))) (s .pre)
+    filled-table (pos 0) _ _ _ _ (c .before .before .before .codes .ensures) refl (drawn-end (pos 0) _ _ _ _ _ _ _ (c .before .loop .inv) (c .loop-test .left))
+    ∙ ap (λ (l : List ℤ). map (λ code. getD l code (pos 0)) codeTable)
+    (c .before .before .set-up-two-bits-to-value-i8 .ensures ∙ ap (values i8 (c .before .before .before .before .args .is-a1-counted)) (toZ-ofZ w8 (c .before .before .before .before .args .missing-value) (c .before .before .before .before .fits .missing-value)))
 
 pub value-table-spec : {M : Type 1} → statement M
-value-table-spec =
-    tie.close
-    (tie.spec
-    Inv-loop
-    μ-loop
-    loop-holds
-    element-copy-out-wide
-    wide-requires
-    element-copy-out-table
-    array-set-from-table
-    add-i
-    loop-less
-    loop-again
-    returns)
+value-table-spec = tie.close (tie.spec Inv-loop μ-loop codes-requires set-up-two-bits-to-value-i8-requires loop-holds array-read-wide wide-requires array-copy-out-table array-set-from-table add-i loop-less loop-again returns)

@@ -1,0 +1,55 @@
+-- `resolve`: the entries so far.
+use Prim.Native.Nat.{_+_, _-_, _<_, _≤_}
+use native.Mathlib.Omega.{arith}
+use Rattle.bed_read.specs.Inner.{Resolved}
+use Rattle.bed_read.proofs.PartLaws.{resolved-none, resolved-more, resolved-all}
+use Rattle.bed_read.proofs.reading.resolve.Statement.{statement}
+use Rattle.bed_read.proofs.reading.resolve.Tie as tie
+
+abbrev Inv-loop : tie.InvT-loop
+Inv-loop file shape iid-index sid-index animals from until bytes₀ places₀ k₀ bytes places k =
+    (k ≤ until - from) × Resolved (shape .mode1) (shape .width) (shape .iids) (shape .sids) iid-index sid-index animals from (from + k) bytes places
+
+abbrev μ-loop : tie.MeasureT-loop
+μ-loop file shape iid-index sid-index animals from until bytes₀ places₀ k₀ bytes places k = until - from - k
+
+loop-holds : tie.Need-loop-holds Inv-loop μ-loop
+loop-holds c = (omega arith, resolved-none _ _ _ _ _ _ _ _ _ _ (c .before .pre .4) (c .before .pre .5))
+
+sub-loop : tie.Need-sub-loop Inv-loop μ-loop
+sub-loop c = omega arith
+
+add-part-at : tie.Need-add-part-at Inv-loop μ-loop
+add-part-at c = omega arith
+
+part-at-requires : tie.Need-part-at-requires Inv-loop μ-loop
+part-at-requires c κs = (c .before .before .before .pre .0, omega (arith, c .loop-test .taken, c .before .before .before .pre .1, c .before .before .before .pre .2))
+
+mul-bytes : tie.Need-mul-bytes Inv-loop μ-loop
+mul-bytes c = omega arith
+
+element-write-bytes : tie.Need-element-write-bytes Inv-loop μ-loop
+element-write-bytes c = omega (arith, c .before .loop-test .taken, c .before .before .before .before .pre .3)
+
+mul-places : tie.Need-mul-places Inv-loop μ-loop
+mul-places c = omega arith
+
+element-write-places : tie.Need-element-write-places Inv-loop μ-loop
+element-write-places c = omega (arith, c .before .loop-test .taken, c .before .before .before .before .pre .3)
+
+add-k : tie.Need-add-k Inv-loop μ-loop
+add-k c = omega arith
+
+loop-less : tie.Need-loop-less Inv-loop μ-loop
+loop-less c = omega arith
+
+loop-again : tie.Need-loop-again Inv-loop μ-loop
+loop-again c =
+    let h : c .before .before .loop .k < 2048 = omega (arith, c .before .loop-test .taken, c .before .before .before .before .pre .3) in
+    (omega (arith, c .before .loop-test .taken), resolved-more _ _ _ _ _ _ _ _ _ _ _ _ _ (c .before .before .loop .inv .1) h (c .part-at .ensures .0) (c .part-at .ensures .1))
+
+returns : tie.Need-returns Inv-loop μ-loop
+returns c = resolved-all _ _ _ _ _ _ _ _ _ _ _ _ (c .before .loop .inv .0) (c .loop-test .left) (c .before .before .before .pre .1) (c .before .loop .inv .1)
+
+pub resolve-spec : {M : Type 1} → statement M
+resolve-spec = tie.close (tie.spec Inv-loop μ-loop loop-holds sub-loop add-part-at part-at-requires mul-bytes element-write-bytes mul-places element-write-places add-k loop-less loop-again returns)
