@@ -1,9 +1,8 @@
 // The pieces of A'A and AA', from a matrix of f64 in lent bytes.
 ghost use mathlib.Core.Path.{_≡_};
-ghost use mathlib.Core.Bool.{true, cond, _&&_};
-ghost use mathlib.Core.Logic.{_⊎_};
+ghost use mathlib.Core.Bool.{cond, _&&_};
 ghost use Prim.Native.Nat.{ℕ, _+_, _*_, _/_, _%_, _^_, _<_, _≤_, min};
-ghost use lib.Dec.{leb, ltb};
+ghost use lib.Dec.{leb};
 ghost use lib.ListN.{length, getD, take, drop};
 ghost use lib.Ieee.{nan, binary64, ofBits};
 ghost use Rattle.genotype.specs.Answer.{countLimit};
@@ -12,7 +11,7 @@ ghost use Rattle.product.specs.Values.{leNumber, floatAt};
 ghost use Rattle.product.specs.Dot.{plusZero};
 ghost use Rattle.product.specs.Piece.{pieceAnswer, goodPiece, enoughBytes, ataAnswer, ataLeaves, aatAnswer, aatLeaves};
 ghost use Rattle.product.specs.Says.{pieceSays};
-ghost use Rattle.product.specs.Steps.{sumMore, lineValue, LinesIn, lowerPiece};
+ghost use Rattle.product.specs.Steps.{lineValue, Finite, LinesIn, Tile, termMore, rowMore, blockMore, lowerPiece};
 
 mod narrow;
 
@@ -103,9 +102,9 @@ fn load(bytes: &[u8], at: usize, step: usize, dst: &mut [f64])
 }
 
 // The pieces are formed from lines of values: columns for A'A, rows for AA'. Value k of line r stands at
-// base + 8 × (r × line + k × step). The sums grow in passes of some terms each, so AA' goes once through the
-// matrix. In a pass the columns of the piece are taken in tiles of up to 64, whose values are made floats once for
-// all rows; a narrow piece is taken column by column.
+// base + 8 × (r × line + k × step). The sums grow in passes of some terms each, so the matrix is read about once. In
+// a pass the rows of the piece are taken in blocks. A block's values are made floats once, in a tile; then each
+// column's sums in the block are taken out, get their products, and are put back. A piece of width 1 needs no tile.
 
 // Where value k of line r stands.
 fn place(base: usize, line: usize, step: usize, r: usize, k: usize) -> usize
@@ -115,150 +114,227 @@ fn place(base: usize, line: usize, step: usize, r: usize, k: usize) -> usize
     base + 8 * (r * line + k * step)
 }
 
-// Loads a tile: value k + i of line c + j to x[i × 64 + j], for i below n and j below m.
+// Fills dst with neighbouring values, none of them a NaN.
+fn load_finite(bytes: &[u8], at: usize, dst: &mut [f64])
+    requires { ⌜ (at + 8 * length (now dst) ≤ length (now bytes)) × Finite (now bytes) at (length (now dst)) ⌝ }
+    ensures { λ _. ⌜ now (dst .exit) ≡ tabulate (length (now (dst .entry))) (λ i. floatAt (now (bytes .entry)) (at + 8 * i)) ⌝ }
+{
+    let mut i = 0;
+    while i < dst.len() {
+        let bits = eight_at(bytes, at + 8 * i);
+        dst[i] = f64::from_bits(bits);
+        i += 1;
+    }
+}
+
+// Fills dst with the values of lines from a place on.
+fn load_lines(bytes: &[u8], at: usize, line: usize, dst: &mut [f64])
+    requires { ⌜ (0 < length (now dst)) × ((i : ℕ) → i < length (now dst) → at + 8 * (i * line) + 8 ≤ length (now bytes)) ⌝ }
+    ensures { λ _. ⌜ now (dst .exit) ≡ tabulate (length (now (dst .entry))) (λ i. floatAt (now (bytes .entry)) (at + 8 * (i * line))) ⌝ }
+{
+    if line == 1 {
+        if narrow::all_finite(bytes, at, dst.len()) {
+            load_finite(bytes, at, dst);
+            return;
+        }
+    }
+    load(bytes, at, line, dst);
+}
+
+// Loads a tile: value i of line r + j to x[i × g + j], for i below n and j below m.
 fn load_tile(
     bytes: &[u8],
     base: usize,
     line: usize,
     step: usize,
-    k: usize,
     n: usize,
-    c: usize,
+    r: usize,
     m: usize,
+    g: usize,
     x: &mut [f64],
 )
-    requires { ⌜ (n ≤ 32) × (k + n < 2 ^ 64) × (0 < m) × (m ≤ 64) × (length (now x) ≡ 2048) × LinesIn (length (now bytes)) base line step (c + m) k n ⌝ }
-    ensures { λ _. ⌜ ((i j : ℕ) → i < n → j < m → getD (now (x .exit)) (i * 64 + j) nan ≡ lineValue (now (bytes .entry)) base line step (c + j) (k + i)) ⌝ }
+    requires { ⌜ (0 < m) × (m ≤ g) × (n * g ≤ length (now x)) × LinesIn (length (now bytes)) base line step (r + m) n ⌝ }
+    ensures { λ _. ⌜ Tile (now (x .exit)) g (lineValue (now (bytes .entry)) base line step) r n m ⌝ }
 {
     let mut i = 0;
     while i < n {
-        let at = place(base, line, step, c, k + i);
-        let from = i * 64;
+        let at = place(base, line, step, r, i);
+        let from = i * g;
         let end = from + m;
-        load(bytes, at, line, &mut x[from..end]);
+        load_lines(bytes, at, line, &mut x[from..end]);
         i += 1;
     }
 }
 
-// Adds the products of place i to each sum.
-fn add_one(x: &[f64], y: &[f64; 32], i: usize, sums: &mut [f64])
-    requires { ⌜ (i + 1 ≤ 32) × (length (now x) ≡ 2048) × (length (now sums) ≤ 64) ⌝ }
-    ensures { λ _. ⌜ now (sums .exit) ≡ tabulate (length (now (sums .entry))) (λ j. sumMore binary64 (getD (now (sums .entry)) j nan) (λ t. getD (now (y .entry)) (i + t) nan) (λ t. getD (now (x .entry)) ((i + t) * 64 + j) nan) 1) ⌝ }
+// Value i of the line from a place on.
+fn term(bytes: &[u8], at: usize, step: usize, i: usize) -> f64
+    requires { ⌜ at + 8 * (i * step) + 8 ≤ length (now bytes) ⌝ }
+    ensures { λ v. ⌜ v ≡ floatAt (now (bytes .entry)) (at + 8 * (i * step)) ⌝ }
 {
-    let y0 = y[i];
-    let x0 = i * 64;
+    float_at(bytes, at + 8 * (i * step))
+}
+
+// Adds the products of y and the values of x from a place on, one to each sum.
+fn add_one(x: &[f64], from: usize, y: f64, sums: &mut [f64])
+    requires { ⌜ from + length (now sums) ≤ length (now x) ⌝ }
+    ensures { λ _. ⌜ now (sums .exit) ≡ termMore binary64 (λ j. getD (now (x .entry)) (from + j) nan) y (now (sums .entry)) ⌝ }
+{
     let mut j = 0;
     while j < sums.len() {
-        sums[j] = sums[j] + y0 * x[x0 + j];
+        sums[j] = sums[j] + x[from + j] * y;
         j += 1;
     }
 }
 
-// Adds the products of places i to i + 3 to each sum, upward.
-fn add_four(x: &[f64], y: &[f64; 32], i: usize, sums: &mut [f64])
-    requires { ⌜ (i + 4 ≤ 32) × (length (now x) ≡ 2048) × (length (now sums) ≤ 64) ⌝ }
-    ensures { λ _. ⌜ now (sums .exit) ≡ tabulate (length (now (sums .entry))) (λ j. sumMore binary64 (getD (now (sums .entry)) j nan) (λ t. getD (now (y .entry)) (i + t) nan) (λ t. getD (now (x .entry)) ((i + t) * 64 + j) nan) 4) ⌝ }
+// Adds the products of places i to i + 3 of a tile's lines to each sum, upward.
+fn add_four(bytes: &[u8], at: usize, step: usize, i: usize, g: usize, x: &[f64], sums: &mut [f64])
+    requires { ⌜ (i + 4 < 2 ^ 64) × (length (now sums) ≤ g) × ((i + 4) * g ≤ length (now x)) × ((t : ℕ) → t < i + 4 → at + 8 * (t * step) + 8 ≤ length (now bytes)) ⌝ }
+    ensures { λ _. ⌜ now (sums .exit) ≡ rowMore binary64 (λ j t. getD (now (x .entry)) ((i + t) * g + j) nan) (λ t. floatAt (now (bytes .entry)) (at + 8 * ((i + t) * step))) 4 (now (sums .entry)) ⌝ }
 {
-    let y0 = y[i];
-    let y1 = y[i + 1];
-    let y2 = y[i + 2];
-    let y3 = y[i + 3];
-    let x0 = i * 64;
-    let x1 = (i + 1) * 64;
-    let x2 = (i + 2) * 64;
-    let x3 = (i + 3) * 64;
+    let y0 = term(bytes, at, step, i);
+    let y1 = term(bytes, at, step, i + 1);
+    let y2 = term(bytes, at, step, i + 2);
+    let y3 = term(bytes, at, step, i + 3);
+    let x0 = i * g;
+    let x1 = x0 + g;
+    let x2 = x1 + g;
+    let x3 = x2 + g;
     let mut j = 0;
     while j < sums.len() {
-        sums[j] = sums[j] + y0 * x[x0 + j] + y1 * x[x1 + j] + y2 * x[x2 + j] + y3 * x[x3 + j];
+        sums[j] = sums[j] + x[x0 + j] * y0 + x[x1 + j] * y1 + x[x2 + j] * y2 + x[x3 + j] * y3;
         j += 1;
     }
 }
 
-// Adds the products of places 0 to n - 1 to each sum, upward.
-fn add_many(x: &[f64], y: &[f64; 32], n: usize, sums: &mut [f64])
-    requires { ⌜ (n ≤ 32) × (length (now x) ≡ 2048) × (length (now sums) ≤ 64) ⌝ }
-    ensures { λ _. ⌜ now (sums .exit) ≡ tabulate (length (now (sums .entry))) (λ j. sumMore binary64 (getD (now (sums .entry)) j nan) (λ i. getD (now (y .entry)) i nan) (λ i. getD (now (x .entry)) (i * 64 + j) nan) n) ⌝ }
+// Adds the products of a tile's lines with one line, its first n values, to each sum, upward.
+fn add_many(bytes: &[u8], at: usize, step: usize, n: usize, g: usize, x: &[f64], sums: &mut [f64])
+    requires { ⌜ (length (now sums) ≤ g) × (n * g ≤ length (now x)) × ((t : ℕ) → t < n → at + 8 * (t * step) + 8 ≤ length (now bytes)) ⌝ }
+    ensures { λ _. ⌜ now (sums .exit) ≡ rowMore binary64 (λ j t. getD (now (x .entry)) (t * g + j) nan) (λ t. floatAt (now (bytes .entry)) (at + 8 * (t * step))) n (now (sums .entry)) ⌝ }
 {
     let mut i = 0;
-    while i + 4 <= n {
-        add_four(x, y, i, sums);
+    while n - i >= 4 {
+        add_four(bytes, at, step, i, g, x, sums);
         i += 4;
     }
     while i < n {
-        add_one(x, y, i, sums);
+        add_one(x, i * g, term(bytes, at, step, i), sums);
         i += 1;
     }
 }
 
-// Adds the products of the four values from a place on and step values apart to each sum, upward.
-fn add_row_of_four(bytes: &[u8], at: usize, step: usize, x: &[f64], sums: &mut [f64])
-    requires { ⌜ (length (now x) ≡ 2048) × (length (now sums) ≤ 64) × ((i : ℕ) → i < 4 → at + 8 * (i * step) + 8 ≤ length (now bytes)) ⌝ }
-    ensures { λ _. ⌜ now (sums .exit) ≡ tabulate (length (now (sums .entry))) (λ j. sumMore binary64 (getD (now (sums .entry)) j nan) (λ i. floatAt (now (bytes .entry)) (at + 8 * (i * step))) (λ i. getD (now (x .entry)) (i * 64 + j) nan) 4) ⌝ }
+// The same for up to eight sums, which are at hand for all terms. Spare sums get spare values.
+fn add_eight(bytes: &[u8], at: usize, step: usize, n: usize, g: usize, x: &[f64], sums: &mut [f64])
+    requires { ⌜ (length (now sums) ≤ 8) × (n * g + 8 ≤ length (now x)) × ((t : ℕ) → t < n → at + 8 * (t * step) + 8 ≤ length (now bytes)) ⌝ }
+    ensures { λ _. ⌜ now (sums .exit) ≡ rowMore binary64 (λ j t. getD (now (x .entry)) (t * g + j) nan) (λ t. floatAt (now (bytes .entry)) (at + 8 * (t * step))) n (now (sums .entry)) ⌝ }
 {
-    let mut y = [0.0f64; 32];
-    y[0] = float_at(bytes, at);
-    y[1] = float_at(bytes, at + 8 * step);
-    y[2] = float_at(bytes, at + 8 * (2 * step));
-    y[3] = float_at(bytes, at + 8 * (3 * step));
-    add_four(x, &y, 0, sums);
+    let m = sums.len();
+    let mut s = [0.0f64; 8];
+    narrow::take_out(sums, 0, 1, &mut s[0..m]);
+    let mut i = 0;
+    while i < n {
+        add_one(x, i * g, term(bytes, at, step, i), &mut s);
+        i += 1;
+    }
+    narrow::put_back(&s[0..m], 0, 1, sums);
 }
 
-// Adds terms k to k + n - 1 to the sums of columns c to c + m - 1, in each row as far as the diagonal.
-fn add_rows(
+// Adds n products to the sums of lines r, r + 1 and so on with line c: from a tile if it has all n terms, else
+// straight from the bytes.
+fn add_products(
     bytes: &[u8],
     base: usize,
     line: usize,
     step: usize,
-    k: usize,
     n: usize,
+    r: usize,
     c: usize,
-    m: usize,
+    loaded: usize,
+    g: usize,
     x: &[f64],
-    height: usize,
-    width: usize,
-    piece: &mut [f64],
+    sums: &mut [f64],
 )
-    requires { ⌜ (0 < n) × (n ≤ 32) × (0 < m) × (m ≤ 64) × (c + m ≤ width) × (length (now x) ≡ 2048) × LinesIn (length (now bytes)) base line step height k n × ((i j : ℕ) → i < n → j < m → getD (now x) (i * 64 + j) nan ≡ lineValue (now bytes) base line step (c + j) (k + i)) × (now piece ≡ lowerPiece binary64 height width (lineValue (now bytes) base line step) (λ r' c'. cond (ltb c' c) (k + n) k)) ⌝ }
-    ensures { λ _. ⌜ now (piece .exit) ≡ lowerPiece binary64 height width (lineValue (now (bytes .entry)) base line step) (λ r' c'. cond (ltb c' (c + m)) (k + n) k) ⌝ }
+    requires { ⌜ (0 < length (now sums)) × (length (now sums) ≤ g) × (0 < n) × (c < r + length (now sums)) × (r + length (now sums) < 2 ^ 64) × (loaded * g + 8 ≤ length (now x)) × LinesIn (length (now bytes)) base line step (r + length (now sums)) n × Tile (now x) g (lineValue (now bytes) base line step) r loaded (length (now sums)) ⌝ }
+    ensures { λ _. ⌜ now (sums .exit) ≡ rowMore binary64 (λ j t. lineValue (now (bytes .entry)) base line step (r + j) t) (λ t. lineValue (now (bytes .entry)) base line step c t) n (now (sums .entry)) ⌝ }
 {
-    let mut y = [0.0f64; 32];
-    let mut r = c;
-    while r < height {
-        let at = place(base, line, step, r, k);
-        let from = r * width + c;
-        let end = from + least(m, r - c + 1);
-        if n == 4 {
-            add_row_of_four(bytes, at, step, x, &mut piece[from..end]);
+    if loaded == n {
+        let at = place(base, line, step, c, 0);
+        if sums.len() <= 8 {
+            add_eight(bytes, at, step, n, g, x, sums);
         } else {
-            load(bytes, at, step, &mut y[0..n]);
-            add_many(x, &y, n, &mut piece[from..end]);
+            add_many(bytes, at, step, n, g, x, sums);
         }
-        r += 1;
+    } else {
+        narrow::add_straight(bytes, base, line, step, n, r, c, sums);
     }
 }
 
-// Adds terms k to k + n - 1 to every sum.
-fn add_tiles(
+// Adds n products to the sums of as many rows from r on as there is room for.
+fn add_block(
     bytes: &[u8],
     base: usize,
     line: usize,
     step: usize,
-    k: usize,
     n: usize,
+    r: usize,
+    loaded: usize,
+    g: usize,
+    x: &[f64],
+    width: usize,
+    room: &mut [f64],
+    piece: &mut [f64],
+)
+    requires { ⌜ (0 < length (now room)) × (length (now room) ≤ g) × (0 < n) × (r + length (now room) < 2 ^ 64) × (loaded * g + 8 ≤ length (now x)) × LinesIn (length (now bytes)) base line step (r + length (now room)) n × Tile (now x) g (lineValue (now bytes) base line step) r loaded (length (now room)) × (0 < width) × ((r + length (now room)) * width ≤ length (now piece)) ⌝ }
+    ensures { λ _. ⌜ now (piece .exit) ≡ blockMore binary64 width (lineValue (now (bytes .entry)) base line step) n r (r + length (now (room .entry))) 0 width (now (piece .entry)) ⌝ }
+{
+    let end = least(width, r + room.len());
+    let mut c = 0;
+    while c < end {
+        let from = r * width + c;
+        narrow::take_out(piece, from, width, room);
+        add_products(bytes, base, line, step, n, r, c, loaded, g, x, room);
+        let above = c - least(c, r);
+        narrow::put_back(&room[above..], from + above * width, width, piece);
+        c += 1;
+    }
+}
+
+// Adds n products to every sum.
+fn add_blocks(
+    bytes: &[u8],
+    base: usize,
+    line: usize,
+    step: usize,
+    n: usize,
+    loaded: usize,
+    g: usize,
     height: usize,
     width: usize,
     x: &mut [f64],
     piece: &mut [f64],
 )
-    requires { ⌜ (0 < n) × (n ≤ 32) × (k + n < 2 ^ 64) × (width ≤ height) × (length (now x) ≡ 2048) × LinesIn (length (now bytes)) base line step height k n × (now piece ≡ lowerPiece binary64 height width (lineValue (now bytes) base line step) (λ r c. k)) ⌝ }
-    ensures { λ _. ⌜ now (piece .exit) ≡ lowerPiece binary64 height width (lineValue (now (bytes .entry)) base line step) (λ r c. k + n) ⌝ }
+    requires { ⌜ (0 < g) × (g ≤ 64) × (0 < n) × (loaded ≤ n) × (loaded * g + 8 ≤ length (now x)) × (0 < width) × (length (now piece) ≡ height * width) × LinesIn (length (now bytes)) base line step height n ⌝ }
+    ensures { λ _. ⌜ now (piece .exit) ≡ blockMore binary64 width (lineValue (now (bytes .entry)) base line step) n 0 height 0 width (now (piece .entry)) ⌝ }
 {
-    let mut c = 0;
-    while c < width {
-        let m = least(64, width - c);
-        load_tile(bytes, base, line, step, k, n, c, m, x);
-        add_rows(bytes, base, line, step, k, n, c, m, x, height, width, piece);
-        c += m;
+    let mut room = [0.0f64; 64];
+    let mut r = 0;
+    while r < height {
+        let m = least(g, height - r);
+        load_tile(bytes, base, line, step, loaded, r, m, g, x);
+        add_block(
+            bytes,
+            base,
+            line,
+            step,
+            n,
+            r,
+            loaded,
+            g,
+            x,
+            width,
+            &mut room[0..m],
+            piece,
+        );
+        r += m;
     }
 }
 
@@ -273,57 +349,43 @@ fn clear(piece: &mut [f64])
     }
 }
 
-// Whether a piece is formed column by column.
-fn is_narrow(line: usize, width: usize) -> bool {
-    if line == 1 {
-        return width < 3;
-    }
-    width < 5
-}
-
-// How many terms a pass adds. Column by column: few where neighbouring lines have neighbouring values, which stay at
-// hand for every column; else all, with four lines at hand. In tiles: 32, or 4 where rows are short.
-fn pass_terms(narrow: bool, line: usize, width: usize, count: usize) -> usize
-    requires { ⌜ 0 < count ⌝ }
-    ensures { λ r. ⌜ (0 < r) × (r ≤ 32 ⊎ (narrow ≡ true)) ⌝ }
+// How many rows a block has.
+fn block_rows(line: usize, width: usize) -> usize
+    ensures { λ r. ⌜ (0 < r) × (r ≤ 64) ⌝ }
 {
-    if line != 1 {
-        if narrow {
-            return count;
-        }
-        return 32;
+    if line == 1 {
+        return 64;
     }
-    if narrow {
-        return 8;
-    }
-    if width < 16 {
+    if width == 1 {
         return 4;
     }
-    32
+    8
 }
 
-// Adds terms k to k + n - 1 to every sum: by columns, or by tiles.
-fn add_terms(
-    bytes: &[u8],
-    base: usize,
-    line: usize,
-    step: usize,
-    k: usize,
-    n: usize,
-    height: usize,
-    width: usize,
-    narrow: bool,
-    x: &mut [f64],
-    piece: &mut [f64],
-)
-    requires { ⌜ (0 < n) × (n ≤ 32 ⊎ (narrow ≡ true)) × (k + n < 2 ^ 64) × (width ≤ height) × (length (now x) ≡ 2048) × LinesIn (length (now bytes)) base line step height k n × (now piece ≡ lowerPiece binary64 height width (lineValue (now bytes) base line step) (λ r c. k)) ⌝ }
-    ensures { λ _. ⌜ now (piece .exit) ≡ lowerPiece binary64 height width (lineValue (now (bytes .entry)) base line step) (λ r c. k + n) ⌝ }
+// How many terms a tile holds for blocks of g rows.
+fn tile_terms(g: usize, width: usize) -> usize
+    requires { ⌜ 0 < g ⌝ }
+    ensures { λ r. ⌜ r * g ≤ 2048 ⌝ }
 {
-    if narrow {
-        narrow::add_columns(bytes, base, line, step, k, n, height, width, piece);
-    } else {
-        add_tiles(bytes, base, line, step, k, n, height, width, x, piece);
+    if width == 1 {
+        return 0;
     }
+    2048 / g
+}
+
+// How many terms a pass adds: those of a tile. Without one: few where neighbouring lines have neighbouring values,
+// else all.
+fn pass_terms(tile: usize, line: usize, count: usize) -> usize
+    requires { ⌜ 0 < count ⌝ }
+    ensures { λ r. ⌜ 0 < r ⌝ }
+{
+    if tile > 0 {
+        return tile;
+    }
+    if line == 1 {
+        return 32;
+    }
+    count
 }
 
 // Forms the sums on and below the diagonal, and +0 above it.
@@ -338,28 +400,34 @@ fn lower_piece(
     width: usize,
     piece: &mut [f64],
 )
-    requires { ⌜ (0 < height) × (width ≤ height) × (length (now piece) ≡ height * width) × LinesIn (length (now bytes)) (offset + 8 * first) line step height 0 count ⌝ }
-    ensures { λ _. ⌜ now (piece .exit) ≡ lowerPiece binary64 height width (lineValue (now (bytes .entry)) (offset + 8 * first) line step) (λ r c. count) ⌝ }
+    requires { ⌜ (0 < height) × (width ≤ height) × (length (now piece) ≡ height * width) × LinesIn (length (now bytes)) (offset + 8 * first) line step height count ⌝ }
+    ensures { λ _. ⌜ now (piece .exit) ≡ lowerPiece binary64 height width (lineValue (now (bytes .entry)) (offset + 8 * first) line step) count ⌝ }
 {
     clear(piece);
+    if width == 0 {
+        return;
+    }
     if count > 0 {
         let base = offset as usize + 8 * first;
-        let narrow = is_narrow(line, width);
-        let pass = pass_terms(narrow, line, width, count);
-        let mut x = [0.0f64; 2048];
+        let g = block_rows(line, width);
+        let tile = tile_terms(g, width);
+        let pass = pass_terms(tile, line, count);
+        let mut x = [0.0f64; 2056];
         let mut k = 0;
         while k < count {
             let n = least(pass, count - k);
-            add_terms(
+            let at = place(base, line, step, 0, k);
+            let loaded = least(tile, n);
+            add_blocks(
                 bytes,
-                base,
+                at,
                 line,
                 step,
-                k,
                 n,
+                loaded,
+                g,
                 height,
                 width,
-                narrow,
                 &mut x,
                 piece,
             );

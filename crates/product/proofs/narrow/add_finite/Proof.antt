@@ -8,7 +8,7 @@ use lib.Ieee.{binary64, ofBits}
 use Rattle.product.specs.Values.{floatAt}
 use Rattle.product.proofs.Bytes.{float-of, number-of}
 use Rattle.product.proofs.InPlace.{filled, filled-none, filled-all}
-use Rattle.product.proofs.Columns.{withTerm, term-step}
+use Rattle.product.proofs.Rows.{withTerm, term-step}
 use Rattle.product.proofs.narrow.add_finite.Statement.{statement}
 use Rattle.product.proofs.narrow.add_finite.Tie as tie
 
