@@ -17,6 +17,7 @@ use Rattle.genotype.proofs.Tabulate.{length-tabulate, getD-tabulate, tabulate-e
 use Rattle.product.specs.Steps.{sumMore, rowMore, inBlock, blockMore, Put}
 use Rattle.product.proofs.Parts.{below-or, length-part}
 use Rattle.product.proofs.Grid.{row-in}
+use Rattle.product.proofs.Sums.{sum-add, sum-ext}
 use Rattle.product.proofs.Rows.{length-row, taken-grown}
 
 module _ (top bottom left right : ℕ) where
@@ -95,6 +96,11 @@ module _ (f : Format) (w : ℕ) (v : ℕ → ℕ → Float) (n : ℕ) where
   pub block-none : (t b l r : ℕ) (old : List Float) → ((x y : ℕ) → Inside t b l r x y → ⊥) → old ≡ blockMore f w v n t b l r old
   block-none t b l r old empty = is-block t b l r old old refl (λ p h i. absurd (empty (p / w) (p % w) i)) (λ p h i. refl)
 
+  -- a block without products
+  pub block-zero : n ≡ 0 → (t b l r : ℕ) (old : List Float) → old ≡ blockMore f w v n t b l r old
+  unfolding sumMore
+  block-zero z t b l r old = is-block t b l r old old refl (λ p h i. sym (ap (sumMore f (getD old p nan) (v (p / w)) (v (p % w))) z)) (λ p h i. refl)
+
   -- a block, and then another apart from it, are a third
   module _ (t b l r t' b' l' r' t'' b'' l'' r'' : ℕ) (old mid new : List Float) (e : mid ≡ blockMore f w v n t b l r old) (e' : new ≡ blockMore f w v n t' b' l' r' mid)
       (apart : (x y : ℕ) → Inside t b l r x y → Inside t' b' l' r' x y → ⊥)
@@ -143,9 +149,9 @@ module _ (f : Format) (w : ℕ) (v : ℕ → ℕ → Float) (n : ℕ) where
       pos
 
   -- some rows more
-  pub rows-more : (r b : ℕ) (old mid new : List Float) → 0 < w → r ≤ b → mid ≡ blockMore f w v n 0 r 0 w old → new ≡ blockMore f w v n r b 0 w mid → new ≡ blockMore f w v n 0 b 0 w old
-  rows-more r b old mid new pos h e e' =
-      two-blocks 0 r 0 w r b 0 w 0 b 0 w old mid new e e' (λ x y i i'. omega arith)
+  pub rows-more : (t r b : ℕ) (old mid new : List Float) → 0 < w → t ≤ r → r ≤ b → mid ≡ blockMore f w v n t r 0 w old → new ≡ blockMore f w v n r b 0 w mid → new ≡ blockMore f w v n t b 0 w old
+  rows-more t r b old mid new pos h' h e e' =
+      two-blocks t r 0 w r b 0 w t b 0 w old mid new e e' (λ x y i i'. omega arith)
       (λ x y h i. ⊎-elim (λ a. inl (i .0, i .1, a, i .3, i .4)) (λ a. inr (i .0, a, i .2, i .3, i .4)) (below-or x r))
       (λ x y i. (i .0, i .1, omega arith, i .3, i .4))
       (λ x y i. (i .0, omega arith, i .2, i .3, i .4))
@@ -208,3 +214,18 @@ module _ (f : Format) (w : ℕ) (v : ℕ → ℕ → Float) (n : ℕ) where
 
       part-size : length (take (length grown - (c - l)) (drop (c - l) grown)) ≡ m - (c - l)
       part-size = length-part (c - l) (length grown - (c - l)) grown (omega (arith, size, some-below r c (c - l) above m pos hd)) ∙ ap (λ (z : ℕ). z - (c - l)) size
+
+-- k products more, and then n more by the values from k on
+pub block-terms : (f : Format) (w : ℕ) (v v' : ℕ → ℕ → Float) (k n t b l r : ℕ) (old mid new : List Float) → ((x i : ℕ) → v' x i ≡ v x (k + i))
+    → mid ≡ blockMore f w v k t b l r old → new ≡ blockMore f w v' n t b l r mid → new ≡ blockMore f w v (k + n) t b l r old
+block-terms f w v v' k n t b l r old mid new same e e' =
+    is-block f w v (k + n) t b l r old new (ap length e' ∙ length-block f w v' n t b l r mid ∙ size)
+    (λ p h i.
+    block-in f w v' n t b l r mid new e' p (omega (arith, size)) i
+    ∙ ap (λ (z : Float). sumMore f z (v' (p / w)) (v' (p % w)) n) (block-in f w v k t b l r old mid e p h i)
+    ∙ sum-ext f (more f w v k old p) (v' (p / w)) (v' (p % w)) (λ i. v (p / w) (k + i)) (λ i. v (p % w) (k + i)) n (λ i g. same (p / w) i) (λ i g. same (p % w) i)
+    ∙ sum-add f (getD old p nan) (v (p / w)) (v (p % w)) k n)
+    (λ p h i. ⊎-elim (λ a. absurd (i a)) (λ a. block-out f w v' n t b l r mid new e' p (omega (arith, size)) (a .1) ∙ block-out f w v k t b l r old mid e p h (a .1)) (inside-or t b l r (p / w) (p % w)))
+  where
+    size : length mid ≡ length old
+    size = ap length e ∙ length-block f w v k t b l r old

@@ -15,7 +15,6 @@ use Rattle.genotype.proofs.Tabulate.{length-tabulate, getD-tabulate, tabulate-e
 use Rattle.product.specs.Values.{floatAt}
 use Rattle.product.specs.Dot.{plusZero}
 use Rattle.product.specs.Steps.{sumMore, lineValue, blockMore, lowerPiece}
-use Rattle.product.proofs.Sums.{sum-add, sum-ext}
 use Rattle.product.proofs.Parts.{below-or}
 use Rattle.product.proofs.Grid.{grid, row-below}
 use Rattle.product.proofs.Blocks.{Inside, inside-or, block-in, block-out, length-block}
@@ -60,25 +59,24 @@ module _ (f : Format) (h w : ℕ) (v : ℕ → ℕ → Float) where
       ∙ tabulate-ext (h * w) (entry k) (entry n) (λ p b. let u : h * w ≡ h * 0 = ap (λ (x : ℕ). h * x) z in absurd (let u' : ⊥ = omega arith in u'))
       ∙ sym (is-lower n)
 
-  -- n terms more in all rows
-  pub lower-more : (k n : ℕ) (v' : ℕ → ℕ → Float) (l l' : List Float) → 0 < w → ((r t : ℕ) → v' r t ≡ v r (k + t)) → l ≡ lowerPiece f h w v k → l' ≡ blockMore f w v' n 0 h 0 w l → l' ≡ lowerPiece f h w v (k + n)
-  lower-more k n v' l l' pos same e e' =
-      is-tabulate l' (h * w) (entry (k + n)) nan (ap length e' ∙ length-block f w v' n 0 h 0 w l ∙ size)
+  -- n terms in all rows
+  pub lower-all : (n : ℕ) (l l' : List Float) → 0 < w → l ≡ lowerPiece f h w v 0 → l' ≡ blockMore f w v n 0 h 0 w l → l' ≡ lowerPiece f h w v n
+  unfolding sumMore
+  lower-all n l l' pos e e' =
+      is-tabulate l' (h * w) (entry n) nan (ap length e' ∙ length-block f w v n 0 h 0 w l ∙ size)
       (λ p b.
       let z : p / w * w + p % w ≡ p = div-add-mod' p w in
       ⊎-elim
-      (λ a. ⊎-elim (λ i. absurd (let u : ⊥ = omega (arith, i .0) in u)) (λ i. block-out f w v' n 0 h 0 w l l' e' p (omega (arith, size)) (i .1)) (inside-or 0 h 0 w (p / w) (p % w)) ∙ at p b ∙ above k p a ∙ sym (above (k + n) p a))
+      (λ a. ⊎-elim (λ i. absurd (let u : ⊥ = omega (arith, i .0) in u)) (λ i. block-out f w v n 0 h 0 w l l' e' p (omega (arith, size)) (i .1)) (inside-or 0 h 0 w (p / w) (p % w)) ∙ at p b ∙ above 0 p a ∙ sym (above n p a))
       (λ a.
-      block-in f w v' n 0 h 0 w l l' e' p (omega (arith, size)) (a, omega arith, row-below h w (p / w) (p % w) h (omega arith) (omega arith), omega arith, mod-lt p pos)
-      ∙ ap (λ (s : Float). sumMore f s (v' (p / w)) (v' (p % w)) n) (at p b ∙ below k p a)
-      ∙ sum-ext f (sumMore f plusZero (v (p / w)) (v (p % w)) k) (v' (p / w)) (v' (p % w)) (λ t. v (p / w) (k + t)) (λ t. v (p % w) (k + t)) n (λ t g. same (p / w) t) (λ t g. same (p % w) t)
-      ∙ sum-add f plusZero (v (p / w)) (v (p % w)) k n
-      ∙ sym (below (k + n) p a))
+      block-in f w v n 0 h 0 w l l' e' p (omega (arith, size)) (a, omega arith, row-below h w (p / w) (p % w) h (omega arith) (omega arith), omega arith, mod-lt p pos)
+      ∙ ap (λ (s : Float). sumMore f s (v (p / w)) (v (p % w)) n) (at p b ∙ below 0 p a)
+      ∙ sym (below n p a))
       (below-or (p / w) (p % w)))
-      ∙ sym (is-lower (k + n))
+      ∙ sym (is-lower n)
     where
       size : length l ≡ h * w
-      size = ap length e ∙ length-lower k
+      size = ap length e ∙ length-lower 0
 
-      at : (p : ℕ) → p < h * w → getD l p nan ≡ entry k p
-      at p b = ap (λ (z : List Float). getD z p nan) (e ∙ is-lower k) ∙ getD-tabulate (h * w) (entry k) p nan b
+      at : (p : ℕ) → p < h * w → getD l p nan ≡ entry 0 p
+      at p b = ap (λ (z : List Float). getD z p nan) (e ∙ is-lower 0) ∙ getD-tabulate (h * w) (entry 0) p nan b

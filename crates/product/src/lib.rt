@@ -89,22 +89,31 @@ fn float_at(bytes: &[u8], at: usize) -> f64
     float_of_bits(eight_at(bytes, at))
 }
 
-// Fills dst with values from a place on, each step values after the one before.
+// Value i of those from a place on, each step values after the one before.
+fn term(bytes: &[u8], at: usize, step: usize, i: usize) -> f64
+    requires { ⌜ at + 8 * (i * step) + 8 ≤ length (now bytes) ⌝ }
+    ensures { λ v. ⌜ v ≡ floatAt (now (bytes .entry)) (at + 8 * (i * step)) ⌝ }
+{
+    float_at(bytes, at + 8 * (i * step))
+}
+
+// Fills dst with such values.
 fn load(bytes: &[u8], at: usize, step: usize, dst: &mut [f64])
     requires { ⌜ ((i : ℕ) → i < length (now dst) → at + 8 * (i * step) + 8 ≤ length (now bytes)) ⌝ }
     ensures { λ _. ⌜ now (dst .exit) ≡ tabulate (length (now (dst .entry))) (λ i. floatAt (now (bytes .entry)) (at + 8 * (i * step))) ⌝ }
 {
     let mut i = 0;
     while i < dst.len() {
-        dst[i] = float_at(bytes, at + 8 * (i * step));
+        dst[i] = term(bytes, at, step, i);
         i += 1;
     }
 }
 
 // The pieces are formed from lines of values: columns for A'A, rows for AA'. Value k of line r stands at
-// base + 8 × (r × line + k × step). The sums grow in passes of some terms each, so the matrix is read about once. In
-// a pass the rows of the piece are taken in blocks. A block's values are made floats once, in a tile; then each
-// column's sums in the block are taken out, get their products, and are put back. A piece of width 1 needs no tile.
+// base + 8 × (r × line + k × step). The rows of the piece are taken in blocks, and a block's terms in passes. The
+// values of a block in a pass are made floats once, in a tile; then each column's sums in the block are taken out,
+// get their products, and are put back. A'A goes through all passes of a block and then to the next block, AA'
+// through all blocks of a pass and then to the next pass: so each reads the matrix as it stands, about once.
 
 // Where value k of line r stands.
 fn place(base: usize, line: usize, step: usize, r: usize, k: usize) -> usize
@@ -127,6 +136,21 @@ fn load_finite(bytes: &[u8], at: usize, dst: &mut [f64])
     }
 }
 
+// The same of eight values.
+fn load_eight(bytes: &[u8], at: usize, step: usize, dst: &mut [f64])
+    requires { ⌜ (length (now dst) ≡ 8) × ((i : ℕ) → i < 8 → at + 8 * (i * step) + 8 ≤ length (now bytes)) ⌝ }
+    ensures { λ _. ⌜ now (dst .exit) ≡ tabulate (length (now (dst .entry))) (λ i. floatAt (now (bytes .entry)) (at + 8 * (i * step))) ⌝ }
+{
+    dst[0] = term(bytes, at, step, 0);
+    dst[1] = term(bytes, at, step, 1);
+    dst[2] = term(bytes, at, step, 2);
+    dst[3] = term(bytes, at, step, 3);
+    dst[4] = term(bytes, at, step, 4);
+    dst[5] = term(bytes, at, step, 5);
+    dst[6] = term(bytes, at, step, 6);
+    dst[7] = term(bytes, at, step, 7);
+}
+
 // Fills dst with the values of lines from a place on.
 fn load_lines(bytes: &[u8], at: usize, line: usize, dst: &mut [f64])
     requires { ⌜ (0 < length (now dst)) × ((i : ℕ) → i < length (now dst) → at + 8 * (i * line) + 8 ≤ length (now bytes)) ⌝ }
@@ -137,6 +161,10 @@ fn load_lines(bytes: &[u8], at: usize, line: usize, dst: &mut [f64])
             load_finite(bytes, at, dst);
             return;
         }
+    }
+    if dst.len() == 8 {
+        load_eight(bytes, at, line, dst);
+        return;
     }
     load(bytes, at, line, dst);
 }
@@ -164,14 +192,6 @@ fn load_tile(
         load_lines(bytes, at, line, &mut x[from..end]);
         i += 1;
     }
-}
-
-// Value i of the line from a place on.
-fn term(bytes: &[u8], at: usize, step: usize, i: usize) -> f64
-    requires { ⌜ at + 8 * (i * step) + 8 ≤ length (now bytes) ⌝ }
-    ensures { λ v. ⌜ v ≡ floatAt (now (bytes .entry)) (at + 8 * (i * step)) ⌝ }
-{
-    float_at(bytes, at + 8 * (i * step))
 }
 
 // Adds the products of y and the values of x from a place on, one to each sum.
@@ -264,7 +284,7 @@ fn add_products(
             add_many(bytes, at, step, n, g, x, sums);
         }
     } else {
-        narrow::add_straight(bytes, base, line, step, n, r, c, sums);
+        narrow::add_across(bytes, base, line, step, n, r, c, sums);
     }
 }
 
@@ -298,7 +318,7 @@ fn add_block(
     }
 }
 
-// Adds n products to every sum.
+// Adds n products to the sums of rows top to bottom - 1.
 fn add_blocks(
     bytes: &[u8],
     base: usize,
@@ -307,18 +327,19 @@ fn add_blocks(
     n: usize,
     loaded: usize,
     g: usize,
-    height: usize,
+    top: usize,
+    bottom: usize,
     width: usize,
     x: &mut [f64],
     piece: &mut [f64],
 )
-    requires { ⌜ (0 < g) × (g ≤ 64) × (0 < n) × (loaded ≤ n) × (loaded * g + 8 ≤ length (now x)) × (0 < width) × (length (now piece) ≡ height * width) × LinesIn (length (now bytes)) base line step height n ⌝ }
-    ensures { λ _. ⌜ now (piece .exit) ≡ blockMore binary64 width (lineValue (now (bytes .entry)) base line step) n 0 height 0 width (now (piece .entry)) ⌝ }
+    requires { ⌜ (0 < g) × (g ≤ 64) × (0 < n) × (loaded ≤ n) × (loaded * g + 8 ≤ length (now x)) × (0 < width) × (top ≤ bottom) × (bottom * width ≤ length (now piece)) × LinesIn (length (now bytes)) base line step bottom n ⌝ }
+    ensures { λ _. ⌜ now (piece .exit) ≡ blockMore binary64 width (lineValue (now (bytes .entry)) base line step) n top bottom 0 width (now (piece .entry)) ⌝ }
 {
     let mut room = [0.0f64; 64];
-    let mut r = 0;
-    while r < height {
-        let m = least(g, height - r);
+    let mut r = top;
+    while r < bottom {
+        let m = least(g, bottom - r);
         load_tile(bytes, base, line, step, loaded, r, m, g, x);
         add_block(
             bytes,
@@ -338,6 +359,70 @@ fn add_blocks(
     }
 }
 
+// How many rows a block has.
+fn block_rows(line: usize) -> usize
+    ensures { λ r. ⌜ (0 < r) × (r ≤ 64) ⌝ }
+{
+    if line == 1 {
+        return 64;
+    }
+    8
+}
+
+// How many terms a tile holds, for blocks of so many rows: none where it would serve one column only.
+fn tile_terms(rows: usize, width: usize) -> usize
+    requires { ⌜ 0 < rows ⌝ }
+    ensures { λ r. ⌜ r * rows ≤ 2048 ⌝ }
+{
+    if rows == 64 {
+        if width == 1 {
+            return 0;
+        }
+    }
+    2048 / rows
+}
+
+// Adds all terms to the sums of rows top to bottom - 1.
+fn add_terms(
+    bytes: &[u8],
+    base: usize,
+    line: usize,
+    step: usize,
+    count: usize,
+    top: usize,
+    bottom: usize,
+    width: usize,
+    x: &mut [f64],
+    piece: &mut [f64],
+)
+    requires { ⌜ (2056 ≤ length (now x)) × (0 < width) × (top < bottom) × (bottom * width ≤ length (now piece)) × LinesIn (length (now bytes)) base line step bottom count ⌝ }
+    ensures { λ _. ⌜ now (piece .exit) ≡ blockMore binary64 width (lineValue (now (bytes .entry)) base line step) count top bottom 0 width (now (piece .entry)) ⌝ }
+{
+    let g = block_rows(line);
+    let tile = tile_terms(g, width);
+    let mut k = 0;
+    while k < count {
+        let n = least(2048 / g, count - k);
+        let at = place(base, line, step, 0, k);
+        let loaded = least(tile, n);
+        add_blocks(
+            bytes,
+            at,
+            line,
+            step,
+            n,
+            loaded,
+            g,
+            top,
+            bottom,
+            width,
+            x,
+            piece,
+        );
+        k += n;
+    }
+}
+
 // Writes +0 to every place.
 fn clear(piece: &mut [f64])
     ensures { λ _. ⌜ now (piece .exit) ≡ tabulate (length (now (piece .entry))) (λ p. plusZero) ⌝ }
@@ -349,43 +434,15 @@ fn clear(piece: &mut [f64])
     }
 }
 
-// How many rows a block has.
-fn block_rows(line: usize, width: usize) -> usize
-    ensures { λ r. ⌜ (0 < r) × (r ≤ 64) ⌝ }
-{
-    if line == 1 {
-        return 64;
-    }
-    if width == 1 {
-        return 4;
-    }
-    8
-}
-
-// How many terms a tile holds for blocks of g rows.
-fn tile_terms(g: usize, width: usize) -> usize
-    requires { ⌜ 0 < g ⌝ }
-    ensures { λ r. ⌜ r * g ≤ 2048 ⌝ }
-{
-    if width == 1 {
-        return 0;
-    }
-    2048 / g
-}
-
-// How many terms a pass adds: those of a tile. Without one: few where neighbouring lines have neighbouring values,
-// else all.
-fn pass_terms(tile: usize, line: usize, count: usize) -> usize
-    requires { ⌜ 0 < count ⌝ }
+// How many rows get all their terms before the next ones.
+fn rows_together(line: usize, height: usize) -> usize
+    requires { ⌜ 0 < height ⌝ }
     ensures { λ r. ⌜ 0 < r ⌝ }
 {
-    if tile > 0 {
-        return tile;
-    }
     if line == 1 {
-        return 32;
+        return height;
     }
-    count
+    8
 }
 
 // Forms the sums on and below the diagonal, and +0 above it.
@@ -409,29 +466,24 @@ fn lower_piece(
     }
     if count > 0 {
         let base = offset as usize + 8 * first;
-        let g = block_rows(line, width);
-        let tile = tile_terms(g, width);
-        let pass = pass_terms(tile, line, count);
+        let rows = rows_together(line, height);
         let mut x = [0.0f64; 2056];
-        let mut k = 0;
-        while k < count {
-            let n = least(pass, count - k);
-            let at = place(base, line, step, 0, k);
-            let loaded = least(tile, n);
-            add_blocks(
+        let mut r = 0;
+        while r < height {
+            let bottom = r + least(rows, height - r);
+            add_terms(
                 bytes,
-                at,
+                base,
                 line,
                 step,
-                n,
-                loaded,
-                g,
-                height,
+                count,
+                r,
+                bottom,
                 width,
                 &mut x,
                 piece,
             );
-            k += n;
+            r = bottom;
         }
     }
 }

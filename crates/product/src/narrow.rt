@@ -70,7 +70,7 @@ fn value(bytes: &[u8], base: usize, line: usize, step: usize, r: usize, i: usize
 }
 
 // Adds n products to the sums of lines r, r + 1 and so on with line c, term by term.
-fn add_across(
+pub(crate) fn add_across(
     bytes: &[u8],
     base: usize,
     line: usize,
@@ -88,63 +88,6 @@ fn add_across(
         let v = value(bytes, base, line, step, c, t);
         add_term(bytes, super::place(base, line, step, r, t), line, v, sums);
         t += 1;
-    }
-}
-
-// The same of up to four lines, whose sums are at hand for all terms.
-fn add_apart(
-    bytes: &[u8],
-    base: usize,
-    line: usize,
-    step: usize,
-    n: usize,
-    r: usize,
-    c: usize,
-    sums: &mut [f64],
-)
-    requires { ⌜ (length (now sums) ≤ 4) × (0 < length (now sums)) × (c < r + length (now sums)) × LinesIn (length (now bytes)) base line step (r + length (now sums)) n × (r + length (now sums) < 2 ^ 64) ⌝ }
-    ensures { λ _. ⌜ now (sums .exit) ≡ rowMore binary64 (λ j t. lineValue (now (bytes .entry)) base line step (r + j) t) (λ t. lineValue (now (bytes .entry)) base line step c t) n (now (sums .entry)) ⌝ }
-{
-    let last = sums.len() - 1;
-    let j1 = super::least(1, last);
-    let j2 = super::least(2, last);
-    let j3 = super::least(3, last);
-    let mut s0 = sums[0];
-    let mut s1 = sums[j1];
-    let mut s2 = sums[j2];
-    let mut s3 = sums[j3];
-    let mut t = 0;
-    while t < n {
-        let v = value(bytes, base, line, step, c, t);
-        s0 = s0 + value(bytes, base, line, step, r, t) * v;
-        s1 = s1 + value(bytes, base, line, step, r + j1, t) * v;
-        s2 = s2 + value(bytes, base, line, step, r + j2, t) * v;
-        s3 = s3 + value(bytes, base, line, step, r + j3, t) * v;
-        t += 1;
-    }
-    sums[0] = s0;
-    sums[j1] = s1;
-    sums[j2] = s2;
-    sums[j3] = s3;
-}
-
-pub(crate) fn add_straight(
-    bytes: &[u8],
-    base: usize,
-    line: usize,
-    step: usize,
-    n: usize,
-    r: usize,
-    c: usize,
-    sums: &mut [f64],
-)
-    requires { ⌜ (0 < length (now sums)) × (c < r + length (now sums)) × LinesIn (length (now bytes)) base line step (r + length (now sums)) n × (r + length (now sums) < 2 ^ 64) ⌝ }
-    ensures { λ _. ⌜ now (sums .exit) ≡ rowMore binary64 (λ j t. lineValue (now (bytes .entry)) base line step (r + j) t) (λ t. lineValue (now (bytes .entry)) base line step c t) n (now (sums .entry)) ⌝ }
-{
-    if sums.len() <= 4 {
-        add_apart(bytes, base, line, step, n, r, c, sums);
-    } else {
-        add_across(bytes, base, line, step, n, r, c, sums);
     }
 }
 

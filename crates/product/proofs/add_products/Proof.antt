@@ -21,8 +21,8 @@ add-eight-requires c κs = (c .before .if2 .taken, subst (λ (z : ℕ). z * c .b
 add-many-requires : tie.Need-add-many-requires
 add-many-requires c κs = (c .before .before .before .before .before .before .before .pre .1, omega (arith, subst (λ (z : ℕ). z * c .before .before .before .before .before .before .before .args .g + 8 ≤ length (c .before .before .before .before .before .before .before .args .x .now)) (c .before .before .before .if1 .taken) (c .before .before .before .before .before .before .before .pre .5)), λ t h. omega (arith, c .before .before .place .ensures, c .before .before .before .before .before .before .before .pre .6 (c .before .before .before .before .before .before .before .args .c) t (c .before .before .before .before .before .before .before .pre .3) h))
 
-add-straight-requires : tie.Need-add-straight-requires
-add-straight-requires c κs = (c .before .before .before .before .before .pre .0, c .before .before .before .before .before .pre .3, c .before .before .before .before .before .pre .6, c .before .before .before .before .before .pre .4)
+add-across-requires : tie.Need-add-across-requires
+add-across-requires c κs = (c .before .before .before .before .before .pre .0, c .before .before .before .before .before .pre .3, c .before .before .before .before .before .pre .6)
 
 same-length : tie.Need-same-length
 same-length c = c .before .before .add-eight .kept .1 .1 .1 .1 .1 .1 .0
@@ -41,10 +41,10 @@ returns-2 c =
     row-ext binary64 (λ j t. getD (a .x .now) (t * a .g + j) nan) (λ t. floatAt (a .bytes .now) (c .before .before .before .before .before .place .result + 8 * (t * a .step))) (λ j t. lineValue (a .bytes .now) (a .base) (a .line) (a .step) (a .r + j) t) (λ t. lineValue (a .bytes .now) (a .base) (a .line) (a .step) (a .c) t) (a .n) (a .sums .now) (c .before .before .add-many .last .1 .1 .1 .1 .1 .1 .0) (λ i j h h'. c .before .before .before .before .before .before .before .before .before .before .pre .7 i j (omega (arith, c .before .before .before .before .before .before .if1 .taken)) h') (λ i h. line-term (a .bytes .now) (a .base) (a .line) (a .step) (a .c) i (c .before .before .before .before .before .place .result) (c .before .before .before .before .before .place .ensures)) (c .before .before .add-many .ensures)
 
 same-length-3 : tie.Need-same-length-3
-same-length-3 c = c .before .before .add-straight .kept .1 .1 .1 .1 .1 .1 .1 .0
+same-length-3 c = c .before .before .add-across .kept .1 .1 .1 .1 .1 .1 .1 .0
 
 returns-3 : tie.Need-returns-3
-returns-3 c = c .before .before .add-straight .ensures
+returns-3 c = c .before .before .add-across .ensures
 
 pub add-products-spec : {M : Type 1} → statement M
 add-products-spec =
@@ -53,7 +53,7 @@ add-products-spec =
     place-requires
     add-eight-requires
     add-many-requires
-    add-straight-requires
+    add-across-requires
     same-length
     returns
     same-length-2

@@ -1,3 +1,4 @@
+use native.Mathlib.Omega.{arith}
 use borrow.Author.Needs.{needs}
 use lib.ListN.{length}
 use Rattle.product.proofs.Tile.{across-fits, across-values}
@@ -16,14 +17,23 @@ same-length c = search needs
 returns : tie.Need-returns
 returns c = across-values (c .before .before .before .before .before .before .before .before .before .args .bytes .now) (c .before .before .before .before .before .before .before .before .before .args .at) (c .before .before .before .before .before .before .before .before .before .args .line) (length (c .before .before .before .before .before .before .before .before .before .args .dst .now)) (c .before .before .load-finite .last .1 .1 .0) (c .before .before .before .before .before .before .if1 .taken) (c .before .before .load-finite .ensures)
 
-load-requires : tie.Need-load-requires
-load-requires c κs = search needs
+load-eight-requires : tie.Need-load-eight-requires
+load-eight-requires c κs = (c .before .if3 .taken, λ i h. c .before .before .before .before .before .pre .1 i (omega (arith, c .before .if3 .taken)))
 
 same-length-2 : tie.Need-same-length-2
-same-length-2 c = search needs
+same-length-2 c = c .before .before .load-eight .kept .1 .1 .1 .0
 
 returns-2 : tie.Need-returns-2
-returns-2 c = search needs
+returns-2 c = c .before .before .load-eight .ensures
+
+load-requires : tie.Need-load-requires
+load-requires c κs = c .before .before .before .before .before .pre .1
+
+same-length-3 : tie.Need-same-length-3
+same-length-3 c = c .before .before .load .kept .1 .1 .1 .0
+
+returns-3 : tie.Need-returns-3
+returns-3 c = c .before .before .load .ensures
 
 pub load-lines-spec : {M : Type 1} → statement M
 load-lines-spec =
@@ -33,6 +43,9 @@ load-lines-spec =
     load-finite-requires
     same-length
     returns
-    load-requires
+    load-eight-requires
     same-length-2
-    returns-2)
+    returns-2
+    load-requires
+    same-length-3
+    returns-3)

@@ -1,22 +1,23 @@
--- `lower_piece`: the first k terms are in.
+-- `lower_piece`: the rows before r have all their terms.
 use mathlib.Core.Path.{_≡_, refl, sym, ap, _∙_}
 use Prim.Native.Nat.{ℕ, _+_, _-_, _*_, _≤_, _<_}
-use native.Mathlib.Nat.{mul-le-mul-right, min-le-left, min-le-right}
+use native.Mathlib.Nat.{mul-le-mul-right}
 use native.Mathlib.Omega.{arith}
 use borrow.Author.Needs.{needs}
 use lib.ListN.{length}
 use lib.Ieee.{binary64}
-use Rattle.product.specs.Steps.{lineValue, lowerPiece}
+use Rattle.product.specs.Steps.{lineValue, blockMore, lowerPiece}
 use Rattle.product.proofs.Parts.{least-above}
-use Rattle.product.proofs.Lower.{line-from, lower-none, lower-empty, lower-more}
+use Rattle.product.proofs.Blocks.{block-none, rows-more}
+use Rattle.product.proofs.Lower.{lower-none, lower-empty, lower-all}
 use Rattle.product.proofs.lower_piece.Statement.{statement}
 use Rattle.product.proofs.lower_piece.Tie as tie
 
 abbrev Inv-loop : tie.InvT-loop
-Inv-loop bytes offset first line step count height width piece₀ base g tile pass x₀ k₀ piece x k = (k ≤ count) × (length x ≡ 2056) × (length piece ≡ length piece₀) × (piece ≡ lowerPiece binary64 height width (lineValue bytes base line step) k)
+Inv-loop bytes offset first line step count height width piece₀ base rows x₀ r₀ piece x r = (r ≤ height) × (length x ≡ 2056) × (length piece ≡ length piece₀) × (piece ≡ blockMore binary64 width (lineValue bytes base line step) count 0 r 0 width piece₀)
 
 abbrev μ-loop : tie.MeasureT-loop
-μ-loop bytes offset first line step count height width piece₀ base g tile pass x₀ k₀ piece x k = count - k
+μ-loop bytes offset first line step count height width piece₀ base rows x₀ r₀ piece x r = height - r
 
 clear-requires : tie.Need-clear-requires Inv-loop μ-loop
 clear-requires c κs = tt
@@ -36,19 +37,11 @@ mul-base c = omega (arith, c .before .before .before .before .before .before .be
 add-base : tie.Need-add-base Inv-loop μ-loop
 add-base c = omega (arith, c .before .before .before .before .before .before .before .before .pre .3 0 0 (omega arith) (omega arith))
 
-block-rows-requires : tie.Need-block-rows-requires Inv-loop μ-loop
-block-rows-requires c κs = tt
-
-tile-terms-requires : tie.Need-tile-terms-requires Inv-loop μ-loop
-tile-terms-requires c κs = c .block-rows .ensures .0
-
-pass-terms-requires : tie.Need-pass-terms-requires Inv-loop μ-loop
-pass-terms-requires c κs = omega arith
+rows-together-requires : tie.Need-rows-together-requires Inv-loop μ-loop
+rows-together-requires c κs = c .before .before .before .before .before .before .before .before .pre .0
 
 loop-holds : tie.Need-loop-holds Inv-loop μ-loop
-loop-holds c =
-    let a = c .before .before .before .before .before .before .before .before .before .before .before .args in
-    (omega arith, refl, refl, lower-none binary64 (a .height) (a .width) (lineValue (a .bytes .now) (a .offset + 8 * a .first) (a .line) (a .step)) (length (a .piece .now)) (c .before .before .before .before .before .before .before .clear .last .0) (c .before .before .before .before .before .before .before .before .before .before .before .pre .2) (c .before .before .before .before .before .before .before .clear .ensures))
+loop-holds c = (omega arith, refl, refl, block-none binary64 _ _ _ _ _ _ _ _ (λ x y i. omega arith))
 
 sub-least : tie.Need-sub-least Inv-loop μ-loop
 sub-least c = omega arith
@@ -56,46 +49,38 @@ sub-least c = omega arith
 least-requires : tie.Need-least-requires Inv-loop μ-loop
 least-requires c κs = tt
 
-place-requires : tie.Need-place-requires Inv-loop μ-loop
-place-requires c κs = omega (arith, c .before .before .before .before .before .before .before .before .before .before .before .before .before .before .pre .3 0 (c .before .before .loop .k) (omega arith) (omega arith))
+add-bottom : tie.Need-add-bottom Inv-loop μ-loop
+add-bottom c = omega (arith, least-above (c .before .before .before .rows-together .result) (c .before .before .before .before .before .before .before .before .before .before .before .before .args .height - c .before .before .loop .r) (c .least .result) (c .before .before .before .rows-together .ensures) (omega arith) (c .least .ensures))
 
-least-requires-2 : tie.Need-least-requires-2 Inv-loop μ-loop
-least-requires-2 c κs = tt
+slice-aggregate-add-terms : tie.Need-slice-aggregate-add-terms Inv-loop μ-loop
+slice-aggregate-add-terms c = sym (c .before .before .before .loop .inv .1)
 
-slice-aggregate-add-blocks : tie.Need-slice-aggregate-add-blocks Inv-loop μ-loop
-slice-aggregate-add-blocks c = sym (c .before .before .before .before .before .loop .inv .1)
-
-add-blocks-requires : tie.Need-add-blocks-requires Inv-loop μ-loop
-add-blocks-requires c κs =
-    let s = c .before .before .before .before .before .before .before .before .before .before .before .before .before .before .before .before .before .before .pre in
-    let a = c .before .before .before .before .before .before .before .before .before .before .before .before .before .before .before .before .before .before .args in
-    let w = c .before .before .before .before .before .before .loop in
-    let l = least-above (c .before .before .before .before .before .before .before .pass-terms .result) (c .before .before .before .before .before .before .before .before .before .before .before .before .before .before .before .before .before .before .args .count - c .before .before .before .before .before .before .loop .k) (c .before .before .before .before .least .result) (c .before .before .before .before .before .before .before .pass-terms .ensures) (omega arith) (c .before .before .before .before .least .ensures) in
-    let m = c .before .before .least2 in
-    let t : m .result ≤ c .before .before .before .before .before .before .before .before .tile-terms .result = omega (arith, m .ensures, min-le-left (c .before .before .before .before .before .before .before .before .tile-terms .result) (c .before .before .before .before .least .result)) in
-    (c .before .before .before .before .before .before .before .before .before .block-rows .ensures .0, c .before .before .before .before .before .before .before .before .before .block-rows .ensures .1, l .0, omega (arith, m .ensures, min-le-right (c .before .before .before .before .before .before .before .before .tile-terms .result) (c .before .before .before .before .least .result)), omega (arith, w .inv .1, c .before .before .before .before .before .before .before .before .tile-terms .ensures, mul-le-mul-right (c .before .before .before .before .before .before .before .before .before .block-rows .result) t), omega (arith, c .before .before .before .before .before .before .before .before .before .before .before .if1 .left), omega (arith, w .inv .2, c .before .before .before .before .before .before .before .before .before .before .before .before .before .before .clear .kept .0, s .2), λ r i h h'. omega (arith, c .before .before .before .place .ensures, s .3 r (w .k + i) h (omega (arith, l))))
-
-add-k : tie.Need-add-k Inv-loop μ-loop
-add-k c = omega (arith, least-above (c .before .before .before .before .before .before .before .before .before .before .before .pass-terms .result) (c .before .before .before .before .before .before .before .before .before .before .before .before .before .before .before .before .before .before .before .before .before .before .args .count - c .before .before .before .before .before .before .before .before .before .before .loop .k) (c .before .before .before .before .before .before .before .before .least .result) (c .before .before .before .before .before .before .before .before .before .before .before .pass-terms .ensures) (omega arith) (c .before .before .before .before .before .before .before .before .least .ensures))
+add-terms-requires : tie.Need-add-terms-requires Inv-loop μ-loop
+add-terms-requires c κs =
+    let s = c .before .before .before .before .before .before .before .before .before .before .before .before .before .before .pre in
+    let w = c .before .before .before .before .loop in
+    let l = least-above (c .before .before .before .before .before .rows-together .result) (c .before .before .before .before .before .before .before .before .before .before .before .before .before .before .args .height - c .before .before .before .before .loop .r) (c .before .before .least .result) (c .before .before .before .before .before .rows-together .ensures) (omega arith) (c .before .before .least .ensures) in
+    (omega (arith, w .inv .1), omega (arith, c .before .before .before .before .before .before .before .if1 .left), omega (arith, l), omega (arith, s .2, w .inv .2, c .before .before .before .before .before .before .before .before .before .before .clear .kept .0, mul-le-mul-right (c .before .before .before .before .before .before .before .before .before .before .before .before .before .before .args .width) (let u : w .r + c .before .before .least .result ≤ c .before .before .before .before .before .before .before .before .before .before .before .before .before .before .args .height = omega (arith, l) in u)), λ r i h h'. s .3 r i (omega (arith, l)) h')
 
 loop-less : tie.Need-loop-less Inv-loop μ-loop
-loop-less c = omega (arith, least-above (c .before .before .before .before .before .before .before .before .before .before .before .pass-terms .result) (c .before .before .before .before .before .before .before .before .before .before .before .before .before .before .before .before .before .before .before .before .before .before .args .count - c .before .before .before .before .before .before .before .before .before .before .loop .k) (c .before .before .before .before .before .before .before .before .least .result) (c .before .before .before .before .before .before .before .before .before .before .before .pass-terms .ensures) (omega arith) (c .before .before .before .before .before .before .before .before .least .ensures))
+loop-less c = omega (arith, least-above (c .before .before .before .before .before .before .before .before .before .rows-together .result) (c .before .before .before .before .before .before .before .before .before .before .before .before .before .before .before .before .before .before .args .height - c .before .before .before .before .before .before .before .before .loop .r) (c .before .before .before .before .before .before .least .result) (c .before .before .before .before .before .before .before .before .before .rows-together .ensures) (omega arith) (c .before .before .before .before .before .before .least .ensures))
 
 loop-again : tie.Need-loop-again Inv-loop μ-loop
 loop-again c =
-    let a = c .before .before .before .before .before .before .before .before .before .before .before .before .before .before .before .before .before .before .before .before .before .before .args in
-    let w = c .before .before .before .before .before .before .before .before .before .before .loop in
-    let q = c .before .before .before .add-blocks in
-    let l = least-above (c .before .before .before .before .before .before .before .before .before .before .before .pass-terms .result) (c .before .before .before .before .before .before .before .before .before .before .before .before .before .before .before .before .before .before .before .before .before .before .args .count - c .before .before .before .before .before .before .before .before .before .before .loop .k) (c .before .before .before .before .before .before .before .before .least .result) (c .before .before .before .before .before .before .before .before .before .before .before .pass-terms .ensures) (omega arith) (c .before .before .before .before .before .before .before .before .least .ensures) in
-    (omega (arith, l), q .kept .1 .1 .1 .1 .1 .1 .1 .1 .1 .0 ∙ w .inv .1, q .kept .1 .1 .1 .1 .1 .1 .1 .1 .1 .1 .0 ∙ w .inv .2, lower-more binary64 (a .height) (a .width) (lineValue (a .bytes .now) (a .offset + 8 * a .first) (a .line) (a .step)) (w .k) (c .before .before .before .before .before .before .before .before .least .result) (lineValue (a .bytes .now) (c .before .before .before .before .before .before .before .place .result) (a .line) (a .step)) (w .piece) (q .last .1 .1 .1 .1 .1 .1 .1 .1 .1 .1 .0) (omega (arith, c .before .before .before .before .before .before .before .before .before .before .before .before .before .before .before .if1 .left)) (line-from (a .bytes .now) (a .offset + 8 * a .first) (a .line) (a .step) (w .k) (c .before .before .before .before .before .before .before .place .result) (c .before .before .before .before .before .before .before .place .ensures)) (w .inv .3) (q .ensures))
+    let a = c .before .before .before .before .before .before .before .before .before .before .before .before .before .before .before .before .before .before .args in
+    let w = c .before .before .before .before .before .before .before .before .loop in
+    let q = c .before .before .before .add-terms in
+    let l = least-above (c .before .before .before .before .before .before .before .before .before .rows-together .result) (c .before .before .before .before .before .before .before .before .before .before .before .before .before .before .before .before .before .before .args .height - c .before .before .before .before .before .before .before .before .loop .r) (c .before .before .before .before .before .before .least .result) (c .before .before .before .before .before .before .before .before .before .rows-together .ensures) (omega arith) (c .before .before .before .before .before .before .least .ensures) in
+    (omega (arith, l), q .kept .1 .1 .1 .1 .1 .1 .1 .1 .0 ∙ w .inv .1, q .kept .1 .1 .1 .1 .1 .1 .1 .1 .1 .0 ∙ w .inv .2, rows-more binary64 (a .width) (lineValue (a .bytes .now) (a .offset + 8 * a .first) (a .line) (a .step)) (a .count) 0 (w .r) (w .r + c .before .before .before .before .before .before .least .result) (c .before .before .before .before .before .before .before .before .before .before .before .before .before .before .clear .last .0) (w .piece) (q .last .1 .1 .1 .1 .1 .1 .1 .1 .1 .0) (omega (arith, c .before .before .before .before .before .before .before .before .before .before .before .if1 .left)) (omega arith) (omega arith) (w .inv .3) (q .ensures))
 
 same-length-2 : tie.Need-same-length-2 Inv-loop μ-loop
-same-length-2 c = c .before .loop .inv .2 ∙ c .before .before .before .before .before .before .before .before .before .clear .kept .0
+same-length-2 c = c .before .loop .inv .2 ∙ c .before .before .before .before .before .before .before .clear .kept .0
 
 returns-2 : tie.Need-returns-2 Inv-loop μ-loop
 returns-2 c =
-    let a = c .before .before .before .before .before .before .before .before .before .before .before .before .before .args in
-    c .before .loop .inv .3 ∙ ap (lowerPiece binary64 (a .height) (a .width) (lineValue (a .bytes .now) (a .offset + 8 * a .first) (a .line) (a .step))) (let u : c .before .loop .k ≡ a .count = omega arith in u)
+    let a = c .before .before .before .before .before .before .before .before .before .before .before .args in
+    let w = c .before .loop in
+    lower-all binary64 (a .height) (a .width) (lineValue (a .bytes .now) (a .offset + 8 * a .first) (a .line) (a .step)) (a .count) (c .before .before .before .before .before .before .before .clear .last .0) (w .piece) (omega (arith, c .before .before .before .before .if1 .left)) (lower-none binary64 (a .height) (a .width) (lineValue (a .bytes .now) (a .offset + 8 * a .first) (a .line) (a .step)) (length (a .piece .now)) (c .before .before .before .before .before .before .before .clear .last .0) (c .before .before .before .before .before .before .before .before .before .before .before .pre .2) (c .before .before .before .before .before .before .before .clear .ensures)) (w .inv .3 ∙ ap (λ (z : ℕ). blockMore binary64 (a .width) (lineValue (a .bytes .now) (a .offset + 8 * a .first) (a .line) (a .step)) (a .count) 0 z 0 (a .width) (c .before .before .before .before .before .before .before .clear .last .0)) (let u : w .r ≡ a .height = omega arith in u))
 
 same-length-3 : tie.Need-same-length-3 Inv-loop μ-loop
 same-length-3 c = c .before .before .before .before .clear .kept .0
@@ -117,17 +102,13 @@ lower-piece-spec =
     returns
     mul-base
     add-base
-    block-rows-requires
-    tile-terms-requires
-    pass-terms-requires
+    rows-together-requires
     loop-holds
     sub-least
     least-requires
-    place-requires
-    least-requires-2
-    slice-aggregate-add-blocks
-    add-blocks-requires
-    add-k
+    add-bottom
+    slice-aggregate-add-terms
+    add-terms-requires
     loop-less
     loop-again
     same-length-2

@@ -1,5 +1,4 @@
 use native.Mathlib.Nat.{div-mul-le-self}
-use native.Mathlib.Omega.{arith}
 use borrow.Author.Needs.{needs}
 use Rattle.product.proofs.tile_terms.Statement.{statement}
 use Rattle.product.proofs.tile_terms.Tie as tie
@@ -11,7 +10,7 @@ div-result : tie.Need-div-result
 div-result c = search needs
 
 returns-2 : tie.Need-returns-2
-returns-2 c = div-mul-le-self 2048 (c .before .args .g)
+returns-2 c = div-mul-le-self 2048 (c .before .args .rows)
 
 pub tile-terms-spec : {M : Type 1} → statement M
 tile-terms-spec = tie.close (tie.spec returns div-result returns-2)
