@@ -11,7 +11,7 @@ use Rattle.genotype.specs.Lists.{tabulate}
 use Rattle.genotype.proofs.Tabulate.{length-tabulate, getD-tabulate, tabulate-ext, is-tabulate}
 use Rattle.product.specs.Steps.{sumMore, termMore, rowMore, Put}
 use Rattle.product.proofs.InPlace.{filled, mapped, mapped-step}
-use Rattle.product.proofs.Sums.{term-more, four-terms, sum-add, sum-ext}
+use Rattle.product.proofs.Sums.{term-more, sum-add, sum-ext}
 
 -- a sum with one product more
 module _ (f : Format) (value : ℕ → Float) (v : Float) where
@@ -108,10 +108,12 @@ module _ (f : Format) (x : ℕ → ℕ → Float) (y : ℕ → Float) (n : ℕ) 
       (row-ext f (λ j t. x j (i + m + t)) (λ t. y (i + m + t)) (λ j t. x j (i + (m + t))) (λ t. y (i + (m + t))) (n - (i + m)) l' (rest l' (i + m)) (λ t j b b'. ap (x j) (add-assoc i m t)) (λ t b. ap y (add-assoc i m t)) refl)
       ∙ ap (λ (k : ℕ). rowMore f (λ j t. x j (i + t)) (λ t. y (i + t)) k l) (let q : m + (n - (i + m)) ≡ n - i = omega arith in q)
 
+  pub one-more : (i : ℕ) (l l' : List Float) (value : ℕ → Float) (v : Float) → ((j : ℕ) → j < length l → value j ≡ x j i) → v ≡ y i → l' ≡ termMore f value v l → l' ≡ rowMore f (λ j t. x j (i + t)) (λ t. y (i + t)) 1 l
+  one-more i l l' value v p q e = row-step f (λ j t. x j (i + t)) (λ t. y (i + t)) 0 l l l' value v (row-none f (λ j t. x j (i + t)) (λ t. y (i + t)) l) (λ j b. p j b ∙ ap (x j) (sym (add-zero i))) (q ∙ ap y (sym (add-zero i))) e
+
   pub rest-one : (i : ℕ) (l l' : List Float) (value : ℕ → Float) (v : Float) → i < n → ((j : ℕ) → j < length l → value j ≡ x j i) → v ≡ y i → l' ≡ termMore f value v l → rest l' (i + 1) ≡ rest l i
   rest-one i l l' value v h p q e =
-      rest-step i 1 l l' (omega arith)
-      (row-step f (λ j t. x j (i + t)) (λ t. y (i + t)) 0 l l l' value v (row-none f (λ j t. x j (i + t)) (λ t. y (i + t)) l) (λ j b. p j b ∙ ap (x j) (sym (add-zero i))) (q ∙ ap y (sym (add-zero i))) e)
+      rest-step i 1 l l' (omega arith) (one-more i l l' value v p q e)
 
   pub rest-none : (i : ℕ) (l : List Float) → n ≤ i → rest l i ≡ l
   rest-none i l h = ap (λ (k : ℕ). rowMore f (λ j t. x j (i + t)) (λ t. y (i + t)) k l) (let q : n - i ≡ 0 = omega arith in q) ∙ sym (row-none f (λ j t. x j (i + t)) (λ t. y (i + t)) l)
@@ -121,22 +123,18 @@ module _ (f : Format) (x : ℕ → ℕ → Float) (y : ℕ → Float) (n : ℕ) 
       ap (λ (k : ℕ). rowMore f (λ j t. x j (0 + t)) (λ t. y (0 + t)) k l) (sub-zero n)
       ∙ row-ext f (λ j t. x j (0 + t)) (λ t. y (0 + t)) x y n l (rowMore f (λ j t. x j (0 + t)) (λ t. y (0 + t)) n l) (λ t j b b'. ap (x j) (zero-add t)) (λ t b. ap y (zero-add t)) refl
 
--- four terms more, from a list of values g apart
-module _ (f : Format) (x : List Float) (g i : ℕ) (y : ℕ → Float) where
+-- four terms more, written out
+module _ (f : Format) (x : ℕ → ℕ → Float) (y : ℕ → Float) where
   abbrev pub byFour : List Float → ℕ → Float
-  byFour = mapped (λ j s. sumMore f s (λ t. getD x ((i + t) * g + j) nan) (λ t. y (i + t)) 4) nan
+  byFour = mapped (λ j s. sumMore f s (x j) y 4) nan
 
-  pub four-step : (d l : List Float) (j : ℕ) (y0 y1 y2 y3 : Float) → y0 ≡ y i → y1 ≡ y (i + 1) → y2 ≡ y (i + 2) → y3 ≡ y (i + 3) → j < length d → l ≡ filled (byFour d) j d
-      → set l j (add f (add f (add f (add f (getD l j nan) (mul f (getD x (i * g + j) nan) y0)) (mul f (getD x (i * g + g + j) nan) y1)) (mul f (getD x (i * g + g + g + j) nan) y2)) (mul f (getD x (i * g + g + g + g + j) nan) y3)) ≡ filled (byFour d) (j + 1) d
-  four-step d l j y0 y1 y2 y3 e0 e1 e2 e3 b e =
-      let q1 : getD x (i * g + g + j) nan ≡ getD x ((i + 1) * g + j) nan = ap (λ (k : ℕ). getD x k nan) (let u : i * g + g + j ≡ (i + 1) * g + j = omega arith in u) in
-      let q2 : getD x (i * g + g + g + j) nan ≡ getD x ((i + 2) * g + j) nan = ap (λ (k : ℕ). getD x k nan) (let u : i * g + g + g + j ≡ (i + 2) * g + j = omega arith in u) in
-      let q3 : getD x (i * g + g + g + g + j) nan ≡ getD x ((i + 3) * g + j) nan = ap (λ (k : ℕ). getD x k nan) (let u : i * g + g + g + g + j ≡ (i + 3) * g + j = omega arith in u) in
-      ap (set l j)
-      (same (getD l j nan) (getD x (i * g + j) nan) (getD x (i * g + j) nan) y0 (y i) _ _ y1 (y (i + 1)) _ _ y2 (y (i + 2)) _ _ y3 (y (i + 3)) refl e0 q1 e1 q2 e2 q3 e3
-      ∙ four-terms f (getD l j nan) (λ t. getD x (t * g + j) nan) y i)
-      ∙ mapped-step (λ j s. sumMore f s (λ t. getD x ((i + t) * g + j) nan) (λ t. y (i + t)) 4) nan d l j e b
-    where
-      same : (s a0 a0' b0 b0' a1 a1' b1 b1' a2 a2' b2 b2' a3 a3' b3 b3' : Float) → a0 ≡ a0' → b0 ≡ b0' → a1 ≡ a1' → b1 ≡ b1' → a2 ≡ a2' → b2 ≡ b2' → a3 ≡ a3' → b3 ≡ b3'
-          → add f (add f (add f (add f s (mul f a0 b0)) (mul f a1 b1)) (mul f a2 b2)) (mul f a3 b3) ≡ add f (add f (add f (add f s (mul f a0' b0')) (mul f a1' b1')) (mul f a2' b2')) (mul f a3' b3')
-      same s a0 a0' b0 b0' a1 a1' b1 b1' a2 a2' b2 b2' a3 a3' b3 b3' p0 q0 p1 q1 p2 q2 p3 q3 = cc
+  same : (s a0 a0' b0 b0' a1 a1' b1 b1' a2 a2' b2 b2' a3 a3' b3 b3' : Float) → a0 ≡ a0' → b0 ≡ b0' → a1 ≡ a1' → b1 ≡ b1' → a2 ≡ a2' → b2 ≡ b2' → a3 ≡ a3' → b3 ≡ b3'
+      → add f (add f (add f (add f s (mul f a0 b0)) (mul f a1 b1)) (mul f a2 b2)) (mul f a3 b3) ≡ add f (add f (add f (add f s (mul f a0' b0')) (mul f a1' b1')) (mul f a2' b2')) (mul f a3' b3')
+  same s a0 a0' b0 b0' a1 a1' b1 b1' a2 a2' b2 b2' a3 a3' b3 b3' p0 q0 p1 q1 p2 q2 p3 q3 = cc
+
+  pub four-step : (d l : List Float) (j : ℕ) (a0 a1 a2 a3 y0 y1 y2 y3 : Float) → a0 ≡ x j 0 → a1 ≡ x j 1 → a2 ≡ x j 2 → a3 ≡ x j 3 → y0 ≡ y 0 → y1 ≡ y 1 → y2 ≡ y 2 → y3 ≡ y 3 → j < length d → l ≡ filled (byFour d) j d
+      → set l j (add f (add f (add f (add f (getD l j nan) (mul f a0 y0)) (mul f a1 y1)) (mul f a2 y2)) (mul f a3 y3)) ≡ filled (byFour d) (j + 1) d
+  unfolding sumMore
+  four-step d l j a0 a1 a2 a3 y0 y1 y2 y3 p0 p1 p2 p3 q0 q1 q2 q3 b e =
+      ap (set l j) (same (getD l j nan) a0 (x j 0) y0 (y 0) a1 (x j 1) y1 (y 1) a2 (x j 2) y2 (y 2) a3 (x j 3) y3 (y 3) p0 q0 p1 q1 p2 q2 p3 q3)
+      ∙ mapped-step (λ j s. sumMore f s (x j) y 4) nan d l j e b

@@ -5,12 +5,12 @@ use mathlib.Core.Logic.{⊎-elim}
 use Prim.Native.Nat.{ℕ, _+_, _-_, _*_, _≤_, _<_}
 use native.Mathlib.Omega.{arith}
 use lib.ListN.{length, take, drop, getD}
-use lib.Ieee.{Float, nan, Format, add, mul}
+use lib.Ieee.{Float, nan}
 use borrow.Rule.Slice.PartMut.{putMid}
 use Rattle.genotype.specs.Lists.{tabulate}
 use Rattle.genotype.proofs.Tabulate.{length-tabulate, getD-tabulate, tabulate-ext}
 use Rattle.product.specs.Values.{floatAt}
-use Rattle.product.specs.Steps.{lineValue, Tile, termMore}
+use Rattle.product.specs.Steps.{lineValue, Tile}
 use Rattle.product.proofs.Parts.{below-or, length-part, put-in, put-out}
 use Rattle.product.proofs.Grid.{row-in}
 
@@ -20,12 +20,6 @@ across-place at line j h = let e : j * line ≡ j * 1 = ap (λ (x : ℕ). j * x)
 
 pub across-values : (bytes : List ℕ) (at line n : ℕ) (out : List Float) → line ≡ 1 → out ≡ tabulate n (λ i. floatAt bytes (at + 8 * i)) → out ≡ tabulate n (λ i. floatAt bytes (at + 8 * (i * line)))
 across-values bytes at line n out h e = e ∙ tabulate-ext n (λ i. floatAt bytes (at + 8 * i)) (λ i. floatAt bytes (at + 8 * (i * line))) (λ i b. ap (floatAt bytes) (across-place at line i h))
-
-pub across-terms : (f : Format) (bytes : List ℕ) (at line : ℕ) (v : Float) (sums out : List Float) → line ≡ 1 → out ≡ termMore f (λ j. floatAt bytes (at + 8 * j)) v sums → out ≡ termMore f (λ j. floatAt bytes (at + 8 * (j * line))) v sums
-across-terms f bytes at line v sums out h e =
-    e
-    ∙ tabulate-ext (length sums) (λ j. add f (getD sums j nan) (mul f (floatAt bytes (at + 8 * j)) v)) (λ j. add f (getD sums j nan) (mul f (floatAt bytes (at + 8 * (j * line))) v))
-    (λ j b. ap (λ (k : ℕ). add f (getD sums j nan) (mul f (floatAt bytes k) v)) (across-place at line j h))
 
 -- they end where the last one ends
 pub across-fits : (at line n size : ℕ) → line ≡ 1 → 0 < n → ((i : ℕ) → i < n → at + 8 * (i * line) + 8 ≤ size) → at + 8 * n ≤ size
@@ -40,6 +34,23 @@ line-place bytes base line step r i j at q = ap (floatAt bytes) (let e : at + 8 
 pub line-term : (bytes : List ℕ) (base line step c i at : ℕ) → at ≡ base + 8 * (c * line + 0 * step) → floatAt bytes (at + 8 * (i * step)) ≡ lineValue bytes base line step c i
 unfolding lineValue
 line-term bytes base line step c i at q = ap (floatAt bytes) (let e : at + 8 * (i * step) ≡ base + 8 * (c * line + i * step) = omega arith in e)
+
+-- four terms of neighbouring lines with neighbouring values
+module _ (base line step r t at : ℕ) (h : line ≡ 1) (a : at ≡ base + 8 * (r * line + t * step)) where
+  four-place : (u j : ℕ) → at + 8 * (u * step) + 8 * j ≡ base + 8 * ((r + j) * line + (t + u) * step)
+  four-place u j = let e : at + 8 * j ≡ at + 8 * (j * line) = across-place at line j h in omega arith
+
+  pub four-term : (bytes : List ℕ) (u j : ℕ) → floatAt bytes (at + 8 * (u * step) + 8 * j) ≡ lineValue bytes base line step (r + j) (t + u)
+  unfolding lineValue
+  four-term bytes u j = ap (floatAt bytes) (four-place u j)
+
+  pub four-fits : (u m size : ℕ) → (0 < m) × (base + 8 * ((r + (m - 1)) * line + (t + u) * step) + 8 ≤ size) → at + 8 * (u * step) + 8 * m ≤ size
+  four-fits u m size b = omega (arith, four-place u (m - 1))
+
+-- term t + i of line c, from the place of term t
+pub term-from : (bytes : List ℕ) (base line step c t i at : ℕ) → at ≡ base + 8 * (c * line + t * step) → floatAt bytes (at + 8 * (i * step)) ≡ lineValue bytes base line step c (t + i)
+unfolding lineValue
+term-from bytes base line step c t i at q = ap (floatAt bytes) (let e : at + 8 * (i * step) ≡ base + 8 * (c * line + (t + i) * step) = omega arith in e)
 
 module _ (bytes : List ℕ) (base line step r m g : ℕ) where
   -- one more row of the tile

@@ -2,10 +2,10 @@
 ghost use mathlib.Core.Path.{_≡_};
 ghost use mathlib.Core.Bool.{true};
 ghost use Prim.Native.Nat.{ℕ, _+_, _*_, _^_, _<_, _≤_};
-ghost use lib.ListN.{length, getD};
+ghost use lib.ListN.{length, getD, take, drop};
 ghost use lib.Ieee.{nan, binary64};
 ghost use Rattle.genotype.specs.Lists.{tabulate};
-ghost use Rattle.product.specs.Values.{floatAt};
+ghost use Rattle.product.specs.Values.{leNumber, floatAt};
 ghost use Rattle.product.specs.Steps.{lineValue, Finite, LinesIn, termMore, rowMore, Put};
 
 // Whether n neighbouring values are all finite. The others are counted, which takes no branch for each value.
@@ -23,20 +23,56 @@ pub(crate) fn all_finite(bytes: &[u8], at: usize, n: usize) -> bool
     others == 0
 }
 
-// Adds the products of neighbouring values, none of them a NaN, with v to each sum.
-fn add_finite(bytes: &[u8], at: usize, v: f64, sums: &mut [f64])
-    requires { ⌜ (at + 8 * length (now sums) ≤ length (now bytes)) × Finite (now bytes) at (length (now sums)) ⌝ }
-    ensures { λ _. ⌜ now (sums .exit) ≡ termMore binary64 (λ j. floatAt (now (bytes .entry)) (at + 8 * j)) v (now (sums .entry)) ⌝ }
+// Whether they are in four runs of n values, the starts step values apart.
+fn four_finite(bytes: &[u8], at: usize, step: usize, n: usize) -> bool
+    requires { ⌜ ((t : ℕ) → t < 4 → at + 8 * (t * step) + 8 * n ≤ length (now bytes)) ⌝ }
+    ensures { λ r. ⌜ (r ≡ true → (t : ℕ) → t < 4 → Finite (now (bytes .entry)) (at + 8 * (t * step)) n) ⌝ }
 {
+    let mut t = 0;
+    while t < 4 {
+        if all_finite(bytes, at + 8 * (t * step), n) {
+            t += 1;
+        } else {
+            return false;
+        }
+    }
+    true
+}
+
+// The bits of value j of run t.
+fn bits(bytes: &[u8], at: usize, step: usize, t: usize, j: usize) -> u64
+    requires { ⌜ at + 8 * (t * step) + 8 * j + 8 ≤ length (now bytes) ⌝ }
+    ensures { λ r. ⌜ r ≡ leNumber (take 8 (drop (at + 8 * (t * step) + 8 * j) (now (bytes .entry)))) ⌝ }
+{
+    super::eight_at(bytes, at + 8 * (t * step) + 8 * j)
+}
+
+// Adds four products to each sum, upward: of neighbouring values in four such runs, none of them a NaN, with the values
+// from a place on, step values apart.
+fn add_finite(bytes: &[u8], at: usize, own: usize, step: usize, sums: &mut [f64])
+    requires { ⌜ ((t : ℕ) → t < 4 → at + 8 * (t * step) + 8 * length (now sums) ≤ length (now bytes)) × ((t : ℕ) → t < 4 → Finite (now bytes) (at + 8 * (t * step)) (length (now sums))) × ((t : ℕ) → t < 4 → own + 8 * (t * step) + 8 ≤ length (now bytes)) ⌝ }
+    ensures { λ _. ⌜ now (sums .exit) ≡ rowMore binary64 (λ j t. floatAt (now (bytes .entry)) (at + 8 * (t * step) + 8 * j)) (λ t. floatAt (now (bytes .entry)) (own + 8 * (t * step))) 4 (now (sums .entry)) ⌝ }
+{
+    let y0 = super::term(bytes, own, step, 0);
+    let y1 = super::term(bytes, own, step, 1);
+    let y2 = super::term(bytes, own, step, 2);
+    let y3 = super::term(bytes, own, step, 3);
     let mut j = 0;
     while j < sums.len() {
-        let bits = super::eight_at(bytes, at + 8 * j);
-        sums[j] = sums[j] + f64::from_bits(bits) * v;
+        let b0 = bits(bytes, at, step, 0, j);
+        let b1 = bits(bytes, at, step, 1, j);
+        let b2 = bits(bytes, at, step, 2, j);
+        let b3 = bits(bytes, at, step, 3, j);
+        sums[j] = sums[j]
+            + f64::from_bits(b0) * y0
+            + f64::from_bits(b1) * y1
+            + f64::from_bits(b2) * y2
+            + f64::from_bits(b3) * y3;
         j += 1;
     }
 }
 
-// The same of any values of neighbouring lines.
+// Adds the products of any values of neighbouring lines with v, one to each sum.
 fn add_any(bytes: &[u8], at: usize, line: usize, v: f64, sums: &mut [f64])
     requires { ⌜ ((j : ℕ) → j < length (now sums) → at + 8 * (j * line) + 8 ≤ length (now bytes)) ⌝ }
     ensures { λ _. ⌜ now (sums .exit) ≡ termMore binary64 (λ j. floatAt (now (bytes .entry)) (at + 8 * (j * line))) v (now (sums .entry)) ⌝ }
@@ -48,28 +84,37 @@ fn add_any(bytes: &[u8], at: usize, line: usize, v: f64, sums: &mut [f64])
     }
 }
 
-fn add_term(bytes: &[u8], at: usize, line: usize, v: f64, sums: &mut [f64])
-    requires { ⌜ (0 < length (now sums)) × ((j : ℕ) → j < length (now sums) → at + 8 * (j * line) + 8 ≤ length (now bytes)) ⌝ }
-    ensures { λ _. ⌜ now (sums .exit) ≡ termMore binary64 (λ j. floatAt (now (bytes .entry)) (at + 8 * (j * line))) v (now (sums .entry)) ⌝ }
+// Adds some terms from term t on, and says how many: four, where neighbouring lines have neighbouring values and these
+// are no NaNs, else one.
+fn add_next(
+    bytes: &[u8],
+    base: usize,
+    line: usize,
+    step: usize,
+    n: usize,
+    t: usize,
+    r: usize,
+    c: usize,
+    sums: &mut [f64],
+) -> usize
+    requires { ⌜ (0 < length (now sums)) × (c < r + length (now sums)) × (t < n) × LinesIn (length (now bytes)) base line step (r + length (now sums)) n ⌝ }
+    ensures { λ m. ⌜ (0 < m) × (t + m ≤ n) × (now (sums .exit) ≡ rowMore binary64 (λ j i. lineValue (now (bytes .entry)) base line step (r + j) (t + i)) (λ i. lineValue (now (bytes .entry)) base line step c (t + i)) m (now (sums .entry))) ⌝ }
 {
+    let at = super::place(base, line, step, r, t);
+    let own = super::place(base, line, step, c, t);
     if line == 1 {
-        if all_finite(bytes, at, sums.len()) {
-            add_finite(bytes, at, v, sums);
-            return;
+        if n - t >= 4 {
+            if four_finite(bytes, at, step, sums.len()) {
+                add_finite(bytes, at, own, step, sums);
+                return 4;
+            }
         }
     }
-    add_any(bytes, at, line, v, sums);
+    add_any(bytes, at, line, super::float_at(bytes, own), sums);
+    1
 }
 
-// Value i of line r.
-fn value(bytes: &[u8], base: usize, line: usize, step: usize, r: usize, i: usize) -> f64
-    requires { ⌜ base + 8 * (r * line + i * step) + 8 ≤ length (now bytes) ⌝ }
-    ensures { λ v. ⌜ v ≡ lineValue (now (bytes .entry)) base line step r i ⌝ }
-{
-    super::float_at(bytes, super::place(base, line, step, r, i))
-}
-
-// Adds n products to the sums of lines r, r + 1 and so on with line c, term by term.
+// Adds n products to the sums of lines r, r + 1 and so on with line c.
 pub(crate) fn add_across(
     bytes: &[u8],
     base: usize,
@@ -85,9 +130,7 @@ pub(crate) fn add_across(
 {
     let mut t = 0;
     while t < n {
-        let v = value(bytes, base, line, step, c, t);
-        add_term(bytes, super::place(base, line, step, r, t), line, v, sums);
-        t += 1;
+        t += add_next(bytes, base, line, step, n, t, r, c, sums);
     }
 }
 

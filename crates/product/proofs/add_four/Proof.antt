@@ -1,10 +1,10 @@
 -- `add_four`: the sums before place j have their products.
-use mathlib.Core.Path.{_≡_, refl, _∙_}
-use Prim.Native.Nat.{_+_, _-_, _*_, _≤_}
+use mathlib.Core.Path.{_≡_, refl, ap, _∙_}
+use Prim.Native.Nat.{ℕ, _+_, _-_, _*_, _≤_}
 use native.Mathlib.Omega.{arith}
 use borrow.Author.Needs.{needs}
-use lib.ListN.{length, length-set}
-use lib.Ieee.{binary64}
+use lib.ListN.{length, getD, length-set}
+use lib.Ieee.{nan, binary64}
 use Rattle.product.specs.Values.{floatAt}
 use Rattle.product.proofs.InPlace.{filled, filled-none, filled-all}
 use Rattle.product.proofs.Rows.{byFour, four-step}
@@ -12,7 +12,7 @@ use Rattle.product.proofs.add_four.Statement.{statement}
 use Rattle.product.proofs.add_four.Tie as tie
 
 abbrev Inv-loop : tie.InvT-loop
-Inv-loop bytes at step i g x sums₀ y0 y1 y2 y3 x0 x1 x2 x3 j₀ sums j = (j ≤ length sums₀) × (length sums ≡ length sums₀) × (sums ≡ filled (byFour binary64 x g i (λ t. floatAt bytes (at + 8 * (t * step))) sums₀) j sums₀)
+Inv-loop bytes at step i g x sums₀ y0 y1 y2 y3 x0 x1 x2 x3 j₀ sums j = (j ≤ length sums₀) × (length sums ≡ length sums₀) × (sums ≡ filled (byFour binary64 (λ j t. getD x ((i + t) * g + j) nan) (λ t. floatAt bytes (at + 8 * ((i + t) * step))) sums₀) j sums₀)
 
 abbrev μ-loop : tie.MeasureT-loop
 μ-loop bytes at step i g x sums₀ y0 y1 y2 y3 x0 x1 x2 x3 j₀ sums j = length sums₀ - j
@@ -111,7 +111,7 @@ loop-again : tie.Need-loop-again Inv-loop μ-loop
 loop-again c =
     let a = c .before .before .before .before .before .before .before .before .before .before .before .before .before .before .args in
     let w = c .before .before .before .before .before .before .loop in
-    (omega arith, simp length-set (omega arith), four-step binary64 (a .x .now) (a .g) (a .i) (λ t. floatAt (a .bytes .now) (a .at + 8 * (t * a .step))) (a .sums .now) (w .sums) (w .j) (c .before .before .before .before .before .before .before .before .before .before .term .result) (c .before .before .before .before .before .before .before .before .before .term2 .result) (c .before .before .before .before .before .before .before .before .term3 .result) (c .before .before .before .before .before .before .before .term4 .result) (c .before .before .before .before .before .before .before .before .before .before .term .ensures) (c .before .before .before .before .before .before .before .before .before .term2 .ensures) (c .before .before .before .before .before .before .before .before .term3 .ensures) (c .before .before .before .before .before .before .before .term4 .ensures) (omega arith) (w .inv .2))
+    (omega arith, simp length-set (omega arith), four-step binary64 (λ j t. getD (a .x .now) ((a .i + t) * a .g + j) nan) (λ t. floatAt (a .bytes .now) (a .at + 8 * ((a .i + t) * a .step))) (a .sums .now) (w .sums) (w .j) (getD (a .x .now) (a .i * a .g + w .j) nan) (getD (a .x .now) (a .i * a .g + a .g + w .j) nan) (getD (a .x .now) (a .i * a .g + a .g + a .g + w .j) nan) (getD (a .x .now) (a .i * a .g + a .g + a .g + a .g + w .j) nan) (c .before .before .before .before .before .before .before .before .before .before .term .result) (c .before .before .before .before .before .before .before .before .before .term2 .result) (c .before .before .before .before .before .before .before .before .term3 .result) (c .before .before .before .before .before .before .before .term4 .result) (ap (λ (k : ℕ). getD (a .x .now) k nan) (let u : a .i * a .g + w .j ≡ (a .i + 0) * a .g + w .j = omega arith in u)) (ap (λ (k : ℕ). getD (a .x .now) k nan) (let u : a .i * a .g + a .g + w .j ≡ (a .i + 1) * a .g + w .j = omega arith in u)) (ap (λ (k : ℕ). getD (a .x .now) k nan) (let u : a .i * a .g + a .g + a .g + w .j ≡ (a .i + 2) * a .g + w .j = omega arith in u)) (ap (λ (k : ℕ). getD (a .x .now) k nan) (let u : a .i * a .g + a .g + a .g + a .g + w .j ≡ (a .i + 3) * a .g + w .j = omega arith in u)) (c .before .before .before .before .before .before .before .before .before .before .term .ensures ∙ ap (λ (k : ℕ). floatAt (a .bytes .now) (a .at + 8 * (k * a .step))) (let u : a .i ≡ a .i + 0 = omega arith in u)) (c .before .before .before .before .before .before .before .before .before .term2 .ensures) (c .before .before .before .before .before .before .before .before .term3 .ensures) (c .before .before .before .before .before .before .before .term4 .ensures) (omega arith) (w .inv .2))
 
 same-length : tie.Need-same-length Inv-loop μ-loop
 same-length c = c .before .loop .inv .1
