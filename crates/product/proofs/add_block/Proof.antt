@@ -4,8 +4,8 @@ use Prim.Native.Nat.{ℕ, _+_, _-_, _*_, _≤_, _<_}
 use native.Mathlib.Nat.{min-le-left}
 use native.Mathlib.Omega.{arith}
 use borrow.Author.Needs.{needs}
-use lib.ListN.{length, getD, take, drop}
-use lib.Ieee.{nan, binary64}
+use lib.ListN.{length, take, drop}
+use lib.Ieee.{binary64}
 use Rattle.product.specs.Steps.{lineValue, blockMore}
 use Rattle.product.proofs.Parts.{least-above, length-part}
 use Rattle.product.proofs.Grid.{row-in}
@@ -47,7 +47,7 @@ least-requires-2 : tie.Need-least-requires-2 Inv-loop μ-loop
 least-requires-2 c κs = omega arith
 
 sub-above : tie.Need-sub-above Inv-loop μ-loop
-sub-above c = omega (arith, c .least2 .ensures, min-le-left (c .before .before .before .before .before .before .before .before .before .before .before .loop .c) (c .before .before .before .before .before .before .before .before .before .before .before .before .before .before .before .before .before .args .r))
+sub-above c = omega (arith, c .least2 .ensures, min-le-left (c .before .before .before .before .before .before .before .before .before .before .before .loop .c) (c .before .before .before .before .before .before .before .before .before .before .before .before .before .before .before .before .before .args .r), min-le-left (c .before .before .before .before .before .before .before .before .before .before .before .loop .c) (c .before .before .before .before .before .before .before .before .before .before .before .loop .c))
 
 mul-put-back : tie.Need-mul-put-back Inv-loop μ-loop
 mul-put-back c = omega arith

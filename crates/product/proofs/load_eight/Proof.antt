@@ -9,49 +9,49 @@ use Rattle.product.proofs.load_eight.Statement.{statement}
 use Rattle.product.proofs.load_eight.Tie as tie
 
 term-requires : tie.Need-term-requires
-term-requires c κs = c .before .before .pre .1 0 (omega arith)
+term-requires c κs = omega (arith, c .before .before .pre .1 0 (omega arith))
 
 slice-write-dst : tie.Need-slice-write-dst
 slice-write-dst c = omega arith
 
 term-requires-2 : tie.Need-term-requires-2
-term-requires-2 c κs = c .before .before .before .pre .1 1 (omega arith)
+term-requires-2 c κs = omega (arith, c .before .before .before .pre .1 1 (omega arith))
 
 slice-write-dst-2 : tie.Need-slice-write-dst-2
 slice-write-dst-2 c = simp (length-set) (omega arith)
 
 term-requires-3 : tie.Need-term-requires-3
-term-requires-3 c κs = c .before .before .before .before .pre .1 2 (omega arith)
+term-requires-3 c κs = omega (arith, c .before .before .before .before .pre .1 2 (omega arith))
 
 slice-write-dst-3 : tie.Need-slice-write-dst-3
 slice-write-dst-3 c = simp (length-set, length-set) (omega arith)
 
 term-requires-4 : tie.Need-term-requires-4
-term-requires-4 c κs = c .before .before .before .before .before .pre .1 3 (omega arith)
+term-requires-4 c κs = omega (arith, c .before .before .before .before .before .pre .1 3 (omega arith))
 
 slice-write-dst-4 : tie.Need-slice-write-dst-4
 slice-write-dst-4 c = simp (length-set, length-set, length-set) (omega arith)
 
 term-requires-5 : tie.Need-term-requires-5
-term-requires-5 c κs = c .before .before .before .before .before .before .pre .1 4 (omega arith)
+term-requires-5 c κs = omega (arith, c .before .before .before .before .before .before .pre .1 4 (omega arith))
 
 slice-write-dst-5 : tie.Need-slice-write-dst-5
 slice-write-dst-5 c = simp (length-set, length-set, length-set, length-set) (omega arith)
 
 term-requires-6 : tie.Need-term-requires-6
-term-requires-6 c κs = c .before .before .before .before .before .before .before .pre .1 5 (omega arith)
+term-requires-6 c κs = omega (arith, c .before .before .before .before .before .before .before .pre .1 5 (omega arith))
 
 slice-write-dst-6 : tie.Need-slice-write-dst-6
 slice-write-dst-6 c = simp (length-set, length-set, length-set, length-set, length-set) (omega arith)
 
 term-requires-7 : tie.Need-term-requires-7
-term-requires-7 c κs = c .before .before .before .before .before .before .before .before .pre .1 6 (omega arith)
+term-requires-7 c κs = omega (arith, c .before .before .before .before .before .before .before .before .pre .1 6 (omega arith))
 
 slice-write-dst-7 : tie.Need-slice-write-dst-7
 slice-write-dst-7 c = simp (length-set, length-set, length-set, length-set, length-set, length-set) (omega arith)
 
 term-requires-8 : tie.Need-term-requires-8
-term-requires-8 c κs = c .before .before .before .before .before .before .before .before .before .pre .1 7 (omega arith)
+term-requires-8 c κs = omega (arith, c .before .before .before .before .before .before .before .before .before .pre .1 7 (omega arith))
 
 slice-write-dst-8 : tie.Need-slice-write-dst-8
 slice-write-dst-8 c = simp (length-set, length-set, length-set, length-set, length-set, length-set, length-set) (omega arith)
