@@ -28,20 +28,28 @@ least-requires c κs = omega arith
 loop-holds : tie.Need-loop-holds Inv-loop μ-loop
 loop-holds c = (omega arith, refl, refl, block-none binary64 _ _ _ _ _ _ _ _ (λ x y i. omega arith))
 
+within : (c : tie.In-loop Inv-loop μ-loop) → (c .before .loop .c < c .before .before .before .before .before .before .before .args .width) × (c .before .loop .c < c .before .before .before .before .before .before .before .args .r + length (c .before .before .before .before .before .before .before .args .room .now))
+within c = let l = least-above (c .before .before .before .before .before .before .before .args .width) (c .before .before .before .before .before .before .before .args .r + length (c .before .before .before .before .before .before .before .args .room .now)) (c .before .before .least .result) (c .before .before .before .before .before .before .before .pre .7) (omega arith) (c .before .before .least .ensures) in (omega (arith, l, c .loop-test .taken), omega (arith, l, c .loop-test .taken))
+
+below : (c : tie.After-least2 Inv-loop μ-loop) → (c .before .before .before .before .before .before .before .before .before .before .before .loop .c - c .least2 .result < length (c .before .before .before .before .before .before .before .before .before .before .before .before .before .before .before .before .before .args .room .now)) × (((c .before .before .before .before .before .before .before .before .before .before .before .loop .c - c .least2 .result) * c .before .before .before .before .before .before .before .before .before .before .before .before .before .before .before .before .before .args .width ≤ length (c .before .before .before .before .before .before .before .before .before .before .before .loop .piece)) × (c .before .before .before .before .before .before .before .before .before .before .before .before .before .before .before .before .before .args .r * c .before .before .before .before .before .before .before .before .before .before .before .before .before .before .before .before .before .args .width + c .before .before .before .before .before .before .before .before .before .before .before .loop .c + (c .before .before .before .before .before .before .before .before .before .before .before .loop .c - c .least2 .result) * c .before .before .before .before .before .before .before .before .before .before .before .before .before .before .before .before .before .args .width < length (c .before .before .before .before .before .before .before .before .before .before .before .loop .piece)) × ((i : ℕ) → i < length (c .before .before .before .before .before .before .before .before .before .before .before .before .before .before .before .before .before .args .room .now) - (c .before .before .before .before .before .before .before .before .before .before .before .loop .c - c .least2 .result) → c .before .before .before .before .before .before .before .before .before .before .before .before .before .before .before .before .before .args .r * c .before .before .before .before .before .before .before .before .before .before .before .before .before .before .before .before .before .args .width + c .before .before .before .before .before .before .before .before .before .before .before .loop .c + (c .before .before .before .before .before .before .before .before .before .before .before .loop .c - c .least2 .result) * c .before .before .before .before .before .before .before .before .before .before .before .before .before .before .before .before .before .args .width + i * c .before .before .before .before .before .before .before .before .before .before .before .before .before .before .before .before .before .args .width < length (c .before .before .before .before .before .before .before .before .before .before .before .loop .piece)))
+below c =
+    let e = ap (λ (z : ℕ). c .before .before .before .before .before .before .before .before .before .before .before .loop .c - z) (c .least2 .ensures) in
+    (some-below (c .before .before .before .before .before .before .before .before .before .before .before .before .before .before .before .before .before .args .r) (c .before .before .before .before .before .before .before .before .before .before .before .loop .c) (c .before .before .before .before .before .before .before .before .before .before .before .loop .c - c .least2 .result) e (length (c .before .before .before .before .before .before .before .before .before .before .before .before .before .before .before .before .before .args .room .now)) (c .before .before .before .before .before .before .before .before .before .before .before .before .before .before .before .before .before .pre .0) (within (c .before .before .before .before .before .before .before .before .before .before) .1), below-places (c .before .before .before .before .before .before .before .before .before .before .before .before .before .before .before .before .before .args .r) (c .before .before .before .before .before .before .before .before .before .before .before .loop .c) (c .before .before .before .before .before .before .before .before .before .before .before .loop .c - c .least2 .result) e (length (c .before .before .before .before .before .before .before .before .before .before .before .before .before .before .before .before .before .args .room .now)) (c .before .before .before .before .before .before .before .before .before .before .before .before .before .before .before .before .before .args .width) (length (c .before .before .before .before .before .before .before .before .before .before .before .loop .piece)) (c .before .before .before .before .before .before .before .before .before .before .before .before .before .before .before .before .before .pre .0) (within (c .before .before .before .before .before .before .before .before .before .before) .0) (within (c .before .before .before .before .before .before .before .before .before .before) .1) (omega (arith, c .before .before .before .before .before .before .before .before .before .before .before .before .before .before .before .before .before .pre .8, c .before .before .before .before .before .before .before .before .before .before .before .loop .inv .2)))
+
 mul-from : tie.Need-mul-from Inv-loop μ-loop
 mul-from c = omega (arith, c .before .before .before .before .before .before .before .pre .8)
 
 add-from : tie.Need-add-from Inv-loop μ-loop
-add-from c = omega (arith, c .before .before .before .before .before .before .before .pre .8, row-in (c .before .before .before .before .before .before .before .args .r + length (c .before .before .before .before .before .before .before .args .room .now)) (c .before .before .before .before .before .before .before .args .width) (c .before .before .before .before .before .before .before .args .r) (omega arith), least-above (c .before .before .before .before .before .before .before .args .width) (c .before .before .before .before .before .before .before .args .r + length (c .before .before .before .before .before .before .before .args .room .now)) (c .before .before .least .result) (c .before .before .before .before .before .before .before .pre .7) (omega arith) (c .before .before .least .ensures))
+add-from c = omega (arith, c .before .before .before .before .before .before .before .pre .8, row-in (c .before .before .before .before .before .before .before .args .r + length (c .before .before .before .before .before .before .before .args .room .now)) (c .before .before .before .before .before .before .before .args .width) (c .before .before .before .before .before .before .before .args .r) (omega arith), within c)
 
 take-out-requires : tie.Need-take-out-requires Inv-loop μ-loop
-take-out-requires c κs = λ i h. omega (arith, c .before .before .before .before .before .before .before .before .before .pre .8, c .before .before .before .loop .inv .1, c .before .before .before .loop .inv .2, least-above (c .before .before .before .before .before .before .before .before .before .args .width) (c .before .before .before .before .before .before .before .before .before .args .r + length (c .before .before .before .before .before .before .before .before .before .args .room .now)) (c .before .before .before .before .least .result) (c .before .before .before .before .before .before .before .before .before .pre .7) (omega arith) (c .before .before .before .before .least .ensures), row-in (c .before .before .before .before .before .before .before .before .before .args .r + length (c .before .before .before .before .before .before .before .before .before .args .room .now)) (c .before .before .before .before .before .before .before .before .before .args .width) (c .before .before .before .before .before .before .before .before .before .args .r + i) (omega (arith, c .before .before .before .loop .inv .1)))
+take-out-requires c κs = λ i h. omega (arith, c .before .before .before .before .before .before .before .before .before .pre .8, c .before .before .before .loop .inv .1, c .before .before .before .loop .inv .2, within (c .before .before), row-in (c .before .before .before .before .before .before .before .before .before .args .r + length (c .before .before .before .before .before .before .before .before .before .args .room .now)) (c .before .before .before .before .before .before .before .before .before .args .width) (c .before .before .before .before .before .before .before .before .before .args .r + i) (omega (arith, c .before .before .before .loop .inv .1)))
 
 add-products-requires : tie.Need-add-products-requires Inv-loop μ-loop
 add-products-requires c κs =
     let s = c .before .before .before .before .before .before .before .before .before .before .before .before .before .pre in
     let e = c .before .before .before .take-out .kept .1 .1 .1 .0 in
-    (omega (arith, c .before .before .before .before .before .before .before .loop .inv .1), omega (arith, c .before .before .before .before .before .before .before .loop .inv .1), s .2, omega (arith, c .before .before .before .before .before .before .before .loop .inv .1, least-above (c .before .before .before .before .before .before .before .before .before .before .before .before .before .args .width) (c .before .before .before .before .before .before .before .before .before .before .before .before .before .args .r + length (c .before .before .before .before .before .before .before .before .before .before .before .before .before .args .room .now)) (c .before .before .before .before .before .before .before .before .least .result) (c .before .before .before .before .before .before .before .before .before .before .before .before .before .pre .7) (omega arith) (c .before .before .before .before .before .before .before .before .least .ensures)), omega (arith, c .before .before .before .before .before .before .before .loop .inv .1), s .4, λ r' i h h'. s .5 r' i (omega (arith, c .before .before .before .before .before .before .before .loop .inv .1)) h', λ i j h h'. s .6 i j h (omega (arith, c .before .before .before .before .before .before .before .loop .inv .1)))
+    (omega (arith, c .before .before .before .before .before .before .before .loop .inv .1), omega (arith, c .before .before .before .before .before .before .before .loop .inv .1), s .2, omega (arith, c .before .before .before .before .before .before .before .loop .inv .1, within (c .before .before .before .before .before .before)), omega (arith, c .before .before .before .before .before .before .before .loop .inv .1), s .4, λ r' i h h'. s .5 r' i (omega (arith, c .before .before .before .before .before .before .before .loop .inv .1)) h', λ i j h h'. s .6 i j h (omega (arith, c .before .before .before .before .before .before .before .loop .inv .1)))
 
 least-requires-2 : tie.Need-least-requires-2 Inv-loop μ-loop
 least-requires-2 c κs = omega arith
@@ -56,24 +64,24 @@ sub-put-back : tie.Need-sub-put-back Inv-loop μ-loop
 sub-put-back c = omega arith
 
 part-put-back-start : tie.Need-part-put-back-start Inv-loop μ-loop
-part-put-back-start c = omega (arith, some-below (c .before .before .before .before .before .before .before .before .before .before .before .before .before .before .before .before .before .before .args .r) (c .before .before .before .before .before .before .before .before .before .before .before .before .loop .c) (c .before .before .before .before .before .before .before .before .before .before .before .before .loop .c - c .before .least2 .result) (ap (λ (z : ℕ). c .before .before .before .before .before .before .before .before .before .before .before .before .loop .c - z) (c .before .least2 .ensures)) (length (c .before .before .before .before .before .before .before .before .before .before .before .before .before .before .before .before .before .before .args .room .now)) (c .before .before .before .before .before .before .before .before .before .before .before .before .before .before .before .before .before .before .pre .0) (omega (arith, least-above (c .before .before .before .before .before .before .before .before .before .before .before .before .before .before .before .before .before .before .args .width) (c .before .before .before .before .before .before .before .before .before .before .before .before .before .before .before .before .before .before .args .r + length (c .before .before .before .before .before .before .before .before .before .before .before .before .before .before .before .before .before .before .args .room .now)) (c .before .before .before .before .before .before .before .before .before .before .before .before .before .least .result) (c .before .before .before .before .before .before .before .before .before .before .before .before .before .before .before .before .before .before .pre .7) (omega arith) (c .before .before .before .before .before .before .before .before .before .before .before .before .before .least .ensures))), c .before .before .before .before .add-products .kept .1 .1 .1 .1 .1 .1 .1 .1 .1 .1 .0, c .before .before .before .before .before .before .before .before .take-out .kept .1 .1 .1 .0, c .before .before .before .before .before .before .before .before .before .before .before .before .loop .inv .1)
+part-put-back-start c = omega (arith, below (c .before) .0, c .before .before .before .before .add-products .kept .1 .1 .1 .1 .1 .1 .1 .1 .1 .1 .0, c .before .before .before .before .before .before .before .before .take-out .kept .1 .1 .1 .0, c .before .before .before .before .before .before .before .before .before .before .before .before .loop .inv .1)
 
 part-put-back-end : tie.Need-part-put-back-end Inv-loop μ-loop
 part-put-back-end c = omega arith
 
 mul-put-back-2 : tie.Need-mul-put-back-2 Inv-loop μ-loop
-mul-put-back-2 c = omega (arith, c .before .before .before .before .before .before .before .before .before .before .before .before .before .before .before .before .before .before .before .good .1 .1 .1 .1 .1 .1 .1 .1 .1 .1 .1 .0 .0, c .before .before .before .before .before .before .before .before .before .before .before .before .before .loop .inv .2, (below-places (c .before .before .before .before .before .before .before .before .before .before .before .before .before .before .before .before .before .before .before .args .r) (c .before .before .before .before .before .before .before .before .before .before .before .before .before .loop .c) (c .before .before .before .before .before .before .before .before .before .before .before .before .before .loop .c - c .before .before .least2 .result) (ap (λ (z : ℕ). c .before .before .before .before .before .before .before .before .before .before .before .before .before .loop .c - z) (c .before .before .least2 .ensures)) (length (c .before .before .before .before .before .before .before .before .before .before .before .before .before .before .before .before .before .before .before .args .room .now)) (c .before .before .before .before .before .before .before .before .before .before .before .before .before .before .before .before .before .before .before .args .width) (length (c .before .before .before .before .before .before .before .before .before .before .before .before .before .loop .piece)) (c .before .before .before .before .before .before .before .before .before .before .before .before .before .before .before .before .before .before .before .pre .0) (omega (arith, least-above (c .before .before .before .before .before .before .before .before .before .before .before .before .before .before .before .before .before .before .before .args .width) (c .before .before .before .before .before .before .before .before .before .before .before .before .before .before .before .before .before .before .before .args .r + length (c .before .before .before .before .before .before .before .before .before .before .before .before .before .before .before .before .before .before .before .args .room .now)) (c .before .before .before .before .before .before .before .before .before .before .before .before .before .before .least .result) (c .before .before .before .before .before .before .before .before .before .before .before .before .before .before .before .before .before .before .before .pre .7) (omega arith) (c .before .before .before .before .before .before .before .before .before .before .before .before .before .before .least .ensures))) (omega (arith, least-above (c .before .before .before .before .before .before .before .before .before .before .before .before .before .before .before .before .before .before .before .args .width) (c .before .before .before .before .before .before .before .before .before .before .before .before .before .before .before .before .before .before .before .args .r + length (c .before .before .before .before .before .before .before .before .before .before .before .before .before .before .before .before .before .before .before .args .room .now)) (c .before .before .before .before .before .before .before .before .before .before .before .before .before .before .least .result) (c .before .before .before .before .before .before .before .before .before .before .before .before .before .before .before .before .before .before .before .pre .7) (omega arith) (c .before .before .before .before .before .before .before .before .before .before .before .before .before .before .least .ensures))) (omega (arith, c .before .before .before .before .before .before .before .before .before .before .before .before .before .before .before .before .before .before .before .pre .8, c .before .before .before .before .before .before .before .before .before .before .before .before .before .loop .inv .2))) .0)
+mul-put-back-2 c = omega (arith, c .before .before .before .before .before .before .before .before .before .before .before .before .before .before .before .before .before .before .before .good .1 .1 .1 .1 .1 .1 .1 .1 .1 .1 .1 .0 .0, c .before .before .before .before .before .before .before .before .before .before .before .before .before .loop .inv .2, (below (c .before .before) .1) .0)
 
 add-put-back : tie.Need-add-put-back Inv-loop μ-loop
-add-put-back c = omega (arith, c .before .before .before .before .before .before .before .before .before .before .before .before .before .before .before .before .before .before .before .good .1 .1 .1 .1 .1 .1 .1 .1 .1 .1 .1 .0 .0, c .before .before .before .before .before .before .before .before .before .before .before .before .before .loop .inv .2, (below-places (c .before .before .before .before .before .before .before .before .before .before .before .before .before .before .before .before .before .before .before .args .r) (c .before .before .before .before .before .before .before .before .before .before .before .before .before .loop .c) (c .before .before .before .before .before .before .before .before .before .before .before .before .before .loop .c - c .before .before .least2 .result) (ap (λ (z : ℕ). c .before .before .before .before .before .before .before .before .before .before .before .before .before .loop .c - z) (c .before .before .least2 .ensures)) (length (c .before .before .before .before .before .before .before .before .before .before .before .before .before .before .before .before .before .before .before .args .room .now)) (c .before .before .before .before .before .before .before .before .before .before .before .before .before .before .before .before .before .before .before .args .width) (length (c .before .before .before .before .before .before .before .before .before .before .before .before .before .loop .piece)) (c .before .before .before .before .before .before .before .before .before .before .before .before .before .before .before .before .before .before .before .pre .0) (omega (arith, least-above (c .before .before .before .before .before .before .before .before .before .before .before .before .before .before .before .before .before .before .before .args .width) (c .before .before .before .before .before .before .before .before .before .before .before .before .before .before .before .before .before .before .before .args .r + length (c .before .before .before .before .before .before .before .before .before .before .before .before .before .before .before .before .before .before .before .args .room .now)) (c .before .before .before .before .before .before .before .before .before .before .before .before .before .before .least .result) (c .before .before .before .before .before .before .before .before .before .before .before .before .before .before .before .before .before .before .before .pre .7) (omega arith) (c .before .before .before .before .before .before .before .before .before .before .before .before .before .before .least .ensures))) (omega (arith, least-above (c .before .before .before .before .before .before .before .before .before .before .before .before .before .before .before .before .before .before .before .args .width) (c .before .before .before .before .before .before .before .before .before .before .before .before .before .before .before .before .before .before .before .args .r + length (c .before .before .before .before .before .before .before .before .before .before .before .before .before .before .before .before .before .before .before .args .room .now)) (c .before .before .before .before .before .before .before .before .before .before .before .before .before .before .least .result) (c .before .before .before .before .before .before .before .before .before .before .before .before .before .before .before .before .before .before .before .pre .7) (omega arith) (c .before .before .before .before .before .before .before .before .before .before .before .before .before .before .least .ensures))) (omega (arith, c .before .before .before .before .before .before .before .before .before .before .before .before .before .before .before .before .before .before .before .pre .8, c .before .before .before .before .before .before .before .before .before .before .before .before .before .loop .inv .2))) .1)
+add-put-back c = omega (arith, c .before .before .before .before .before .before .before .before .before .before .before .before .before .before .before .before .before .before .before .good .1 .1 .1 .1 .1 .1 .1 .1 .1 .1 .1 .0 .0, c .before .before .before .before .before .before .before .before .before .before .before .before .before .loop .inv .2, (below (c .before .before) .1) .1)
 
 put-back-requires : tie.Need-put-back-requires Inv-loop μ-loop
 put-back-requires c κs =
     let R = c .before .before .before .before .before .before .add-products .last .1 .1 .1 .1 .1 .1 .1 .1 .1 .1 .0 in
     let d = c .before .before .before .before .before .before .before .before .before .before .before .before .before .before .loop .c - c .before .before .before .least2 .result in
     let e : length R ≡ length (c .before .before .before .before .before .before .before .before .before .before .before .before .before .before .before .before .before .before .before .before .args .room .now) = c .before .before .before .before .before .before .add-products .kept .1 .1 .1 .1 .1 .1 .1 .1 .1 .1 .0 ∙ c .before .before .before .before .before .before .before .before .before .before .take-out .kept .1 .1 .1 .0 ∙ c .before .before .before .before .before .before .before .before .before .before .before .before .before .before .loop .inv .1 in
-    let e' : length (take (length R - d) (drop d R)) ≡ length R - d = length-part d (length R - d) R (omega (arith, some-below (c .before .before .before .before .before .before .before .before .before .before .before .before .before .before .before .before .before .before .before .before .args .r) (c .before .before .before .before .before .before .before .before .before .before .before .before .before .before .loop .c) (c .before .before .before .before .before .before .before .before .before .before .before .before .before .before .loop .c - c .before .before .before .least2 .result) (ap (λ (z : ℕ). c .before .before .before .before .before .before .before .before .before .before .before .before .before .before .loop .c - z) (c .before .before .before .least2 .ensures)) (length (c .before .before .before .before .before .before .before .before .before .before .before .before .before .before .before .before .before .before .before .before .args .room .now)) (c .before .before .before .before .before .before .before .before .before .before .before .before .before .before .before .before .before .before .before .before .pre .0) (omega (arith, least-above (c .before .before .before .before .before .before .before .before .before .before .before .before .before .before .before .before .before .before .before .before .args .width) (c .before .before .before .before .before .before .before .before .before .before .before .before .before .before .before .before .before .before .before .before .args .r + length (c .before .before .before .before .before .before .before .before .before .before .before .before .before .before .before .before .before .before .before .before .args .room .now)) (c .before .before .before .before .before .before .before .before .before .before .before .before .before .before .before .least .result) (c .before .before .before .before .before .before .before .before .before .before .before .before .before .before .before .before .before .before .before .before .pre .7) (omega arith) (c .before .before .before .before .before .before .before .before .before .before .before .before .before .before .before .least .ensures))))) in
-    (c .before .before .before .before .before .before .before .before .before .before .before .before .before .before .before .before .before .before .before .before .pre .7, λ i h. (below-places (c .before .before .before .before .before .before .before .before .before .before .before .before .before .before .before .before .before .before .before .before .args .r) (c .before .before .before .before .before .before .before .before .before .before .before .before .before .before .loop .c) (c .before .before .before .before .before .before .before .before .before .before .before .before .before .before .loop .c - c .before .before .before .least2 .result) (ap (λ (z : ℕ). c .before .before .before .before .before .before .before .before .before .before .before .before .before .before .loop .c - z) (c .before .before .before .least2 .ensures)) (length (c .before .before .before .before .before .before .before .before .before .before .before .before .before .before .before .before .before .before .before .before .args .room .now)) (c .before .before .before .before .before .before .before .before .before .before .before .before .before .before .before .before .before .before .before .before .args .width) (length (c .before .before .before .before .before .before .before .before .before .before .before .before .before .before .loop .piece)) (c .before .before .before .before .before .before .before .before .before .before .before .before .before .before .before .before .before .before .before .before .pre .0) (omega (arith, least-above (c .before .before .before .before .before .before .before .before .before .before .before .before .before .before .before .before .before .before .before .before .args .width) (c .before .before .before .before .before .before .before .before .before .before .before .before .before .before .before .before .before .before .before .before .args .r + length (c .before .before .before .before .before .before .before .before .before .before .before .before .before .before .before .before .before .before .before .before .args .room .now)) (c .before .before .before .before .before .before .before .before .before .before .before .before .before .before .before .least .result) (c .before .before .before .before .before .before .before .before .before .before .before .before .before .before .before .before .before .before .before .before .pre .7) (omega arith) (c .before .before .before .before .before .before .before .before .before .before .before .before .before .before .before .least .ensures))) (omega (arith, least-above (c .before .before .before .before .before .before .before .before .before .before .before .before .before .before .before .before .before .before .before .before .args .width) (c .before .before .before .before .before .before .before .before .before .before .before .before .before .before .before .before .before .before .before .before .args .r + length (c .before .before .before .before .before .before .before .before .before .before .before .before .before .before .before .before .before .before .before .before .args .room .now)) (c .before .before .before .before .before .before .before .before .before .before .before .before .before .before .before .least .result) (c .before .before .before .before .before .before .before .before .before .before .before .before .before .before .before .before .before .before .before .before .pre .7) (omega arith) (c .before .before .before .before .before .before .before .before .before .before .before .before .before .before .before .least .ensures))) (omega (arith, c .before .before .before .before .before .before .before .before .before .before .before .before .before .before .before .before .before .before .before .before .pre .8, c .before .before .before .before .before .before .before .before .before .before .before .before .before .before .loop .inv .2))) .2 i (omega arith))
+    let e' : length (take (length R - d) (drop d R)) ≡ length R - d = length-part d (length R - d) R (omega (arith, below (c .before .before .before) .0)) in
+    (c .before .before .before .before .before .before .before .before .before .before .before .before .before .before .before .before .before .before .before .before .pre .7, λ i h. (below (c .before .before .before) .1) .2 i (omega arith))
 
 add-c : tie.Need-add-c Inv-loop μ-loop
 add-c c = omega arith
@@ -86,7 +94,7 @@ loop-again c =
     let a = c .before .before .before .before .before .before .before .before .before .before .before .before .before .before .before .before .before .before .before .before .before .before .before .args in
     let w = c .before .before .before .before .before .before .before .before .before .before .before .before .before .before .before .before .before .loop in
     let p = c .before .before .put-back in
-    let b = least-above (c .before .before .before .before .before .before .before .before .before .before .before .before .before .before .before .before .before .before .before .before .before .before .before .args .width) (c .before .before .before .before .before .before .before .before .before .before .before .before .before .before .before .before .before .before .before .before .before .before .before .args .r + length (c .before .before .before .before .before .before .before .before .before .before .before .before .before .before .before .before .before .before .before .before .before .before .before .args .room .now)) (c .before .before .before .before .before .before .before .before .before .before .before .before .before .before .before .before .before .before .least .result) (c .before .before .before .before .before .before .before .before .before .before .before .before .before .before .before .before .before .before .before .before .before .before .before .pre .7) (omega arith) (c .before .before .before .before .before .before .before .before .before .before .before .before .before .before .before .before .before .before .least .ensures) in
+    let b = within (c .before .before .before .before .before .before .before .before .before .before .before .before .before .before .before .before) in
     (omega (arith, c .before .before .before .before .before .before .before .before .before .before .before .before .before .before .before .before .loop-test .taken), c .before .before .before .before .before .before .before .before .before .add-products .kept .1 .1 .1 .1 .1 .1 .1 .1 .1 .1 .0 ∙ c .before .before .before .before .before .before .before .before .before .before .before .before .before .take-out .kept .1 .1 .1 .0 ∙ w .inv .1, p .kept .1 .1 .1 .0 ∙ w .inv .2, column-turn binary64 (a .width) (lineValue (a .bytes .now) (a .base) (a .line) (a .step)) (a .n) (a .r) (length (a .room .now)) (w .c) (c .before .before .before .before .before .before .least2 .result) (a .piece .now) (w .piece) (w .room) (c .before .before .before .before .before .before .before .before .before .before .before .before .before .take-out .last .1 .1 .1 .0) (c .before .before .before .before .before .before .before .before .before .add-products .last .1 .1 .1 .1 .1 .1 .1 .1 .1 .1 .0) (p .last .1 .1 .1 .0) (c .before .before .before .before .before .before .before .before .before .before .before .before .before .before .before .before .before .before .before .before .before .before .before .pre .0) (omega (arith, b)) (omega (arith, b)) (c .before .before .before .before .before .before .least2 .ensures) (omega (arith, w .inv .2, c .before .before .before .before .before .before .before .before .before .before .before .before .before .before .before .before .before .before .before .before .before .before .before .pre .8)) (w .inv .1) (c .before .before .before .before .before .before .before .before .before .before .before .before .before .take-out .ensures) (c .before .before .before .before .before .before .before .before .before .add-products .ensures) (p .kept .1 .1 .1 .0) (p .ensures) (w .inv .3))
 
 same-length : tie.Need-same-length Inv-loop μ-loop

@@ -28,8 +28,11 @@ sub-least c = omega arith
 least-requires : tie.Need-least-requires Inv-loop μ-loop
 least-requires c κs = omega arith
 
+sized : (c : tie.After-least Inv-loop μ-loop) → (0 < c .least .result) × (c .least .result ≤ c .before .before .before .before .before .before .args .g) × (c .least .result ≤ c .before .before .before .before .before .before .args .bottom - c .before .before .loop .r)
+sized c = least-above (c .before .before .before .before .before .before .args .g) (c .before .before .before .before .before .before .args .bottom - c .before .before .loop .r) (c .least .result) (c .before .before .before .before .before .before .pre .0) (omega arith) (c .least .ensures)
+
 load-tile-requires : tie.Need-load-tile-requires Inv-loop μ-loop
-load-tile-requires c κs = ((least-above (c .before .before .before .before .before .before .before .args .g) (c .before .before .before .before .before .before .before .args .bottom - c .before .before .before .loop .r) (c .before .least .result) (c .before .before .before .before .before .before .before .pre .0) (omega arith) (c .before .least .ensures)) .0, (least-above (c .before .before .before .before .before .before .before .args .g) (c .before .before .before .before .before .before .before .args .bottom - c .before .before .before .loop .r) (c .before .least .result) (c .before .before .before .before .before .before .before .pre .0) (omega arith) (c .before .least .ensures)) .1, omega (arith, c .before .before .before .loop .inv .2, c .before .before .before .before .before .before .before .pre .4), λ r' i h h'. c .before .before .before .before .before .before .before .pre .8 r' i (omega (arith, (least-above (c .before .before .before .before .before .before .before .args .g) (c .before .before .before .before .before .before .before .args .bottom - c .before .before .before .loop .r) (c .before .least .result) (c .before .before .before .before .before .before .before .pre .0) (omega arith) (c .before .least .ensures)))) (omega arith))
+load-tile-requires c κs = ((sized (c .before)) .0, (sized (c .before)) .1, omega (arith, c .before .before .before .loop .inv .2, c .before .before .before .before .before .before .before .pre .4), λ r' i h h'. c .before .before .before .before .before .before .before .pre .8 r' i (omega (arith, (sized (c .before)))) (omega arith))
 
 sub-add-block : tie.Need-sub-add-block Inv-loop μ-loop
 sub-add-block c = omega arith
@@ -38,7 +41,7 @@ part-room-start : tie.Need-part-room-start Inv-loop μ-loop
 part-room-start c = omega arith
 
 part-room-end : tie.Need-part-room-end Inv-loop μ-loop
-part-room-end c = omega (arith, c .before .before .before .before .before .before .before .loop .inv .3, c .before .before .before .before .before .before .before .before .before .before .before .pre .1, least-above (c .before .before .before .before .before .before .before .before .before .before .before .args .g) (c .before .before .before .before .before .before .before .before .before .before .before .args .bottom - c .before .before .before .before .before .before .before .loop .r) (c .before .before .before .before .before .least .result) (c .before .before .before .before .before .before .before .before .before .before .before .pre .0) (omega arith) (c .before .before .before .before .before .least .ensures))
+part-room-end c = omega (arith, c .before .before .before .before .before .before .before .loop .inv .3, c .before .before .before .before .before .before .before .before .before .before .before .pre .1, sized (c .before .before .before .before .before))
 
 add-block-requires : tie.Need-add-block-requires Inv-loop μ-loop
 add-block-requires c κs =
@@ -46,15 +49,15 @@ add-block-requires c κs =
     let a = c .before .before .before .before .before .before .before .before .before .before .before .before .before .args in
     let w = c .before .before .before .before .before .before .before .before .before .loop in
     let m = c .before .before .before .before .before .before .before .least .result in
-    let l = least-above (c .before .before .before .before .before .before .before .before .before .before .before .before .before .args .g) (c .before .before .before .before .before .before .before .before .before .before .before .before .before .args .bottom - c .before .before .before .before .before .before .before .before .before .loop .r) (c .before .before .before .before .before .before .before .least .result) (c .before .before .before .before .before .before .before .before .before .before .before .before .before .pre .0) (omega arith) (c .before .before .before .before .before .before .before .least .ensures) in
+    let l = sized (c .before .before .before .before .before .before .before) in
     let e : length (take (m - 0) (w .room)) ≡ m - 0 = length-take-le (m - 0) (w .room) (omega (arith, w .inv .3, l, s .1)) in
     (omega (arith, l), omega (arith, l), s .2, omega (arith, l), omega (arith, s .4, w .inv .2, c .before .before .before .before .before .load-tile .kept .1 .1 .1 .1 .1 .1 .1 .1 .0), λ r' i h h'. s .8 r' i (omega (arith, l)) h', λ i j h h'. c .before .before .before .before .before .load-tile .ensures i j h (omega (arith, l)), s .5, omega (arith, s .7, w .inv .4, ap (λ (z : ℕ). (w .r + z) * a .width) (let u : length (take (m - 0) (w .room)) ≡ m = omega arith in u), mul-le-mul-right (a .width) (let u : w .r + m ≤ a .bottom = omega (arith, l) in u)))
 
 add-r : tie.Need-add-r Inv-loop μ-loop
-add-r c = omega (arith, least-above (c .before .before .before .before .before .before .before .before .before .before .before .before .before .before .before .before .before .args .g) (c .before .before .before .before .before .before .before .before .before .before .before .before .before .before .before .before .before .args .bottom - c .before .before .before .before .before .before .before .before .before .before .before .before .before .loop .r) (c .before .before .before .before .before .before .before .before .before .before .before .least .result) (c .before .before .before .before .before .before .before .before .before .before .before .before .before .before .before .before .before .pre .0) (omega arith) (c .before .before .before .before .before .before .before .before .before .before .before .least .ensures))
+add-r c = omega (arith, sized (c .before .before .before .before .before .before .before .before .before .before .before))
 
 loop-less : tie.Need-loop-less Inv-loop μ-loop
-loop-less c = omega (arith, least-above (c .before .before .before .before .before .before .before .before .before .before .before .before .before .before .before .before .before .args .g) (c .before .before .before .before .before .before .before .before .before .before .before .before .before .before .before .before .before .args .bottom - c .before .before .before .before .before .before .before .before .before .before .before .before .before .loop .r) (c .before .before .before .before .before .before .before .before .before .before .before .least .result) (c .before .before .before .before .before .before .before .before .before .before .before .before .before .before .before .before .before .pre .0) (omega arith) (c .before .before .before .before .before .before .before .before .before .before .before .least .ensures))
+loop-less c = omega (arith, sized (c .before .before .before .before .before .before .before .before .before .before .before))
 
 loop-again : tie.Need-loop-again Inv-loop μ-loop
 loop-again c =
@@ -63,7 +66,7 @@ loop-again c =
     let w = c .before .before .before .before .before .before .before .before .before .before .before .before .before .loop in
     let m = c .before .before .before .before .before .before .before .before .before .before .before .least .result in
     let q = c .before .before .before .add-block in
-    let l = least-above (c .before .before .before .before .before .before .before .before .before .before .before .before .before .before .before .before .before .args .g) (c .before .before .before .before .before .before .before .before .before .before .before .before .before .before .before .before .before .args .bottom - c .before .before .before .before .before .before .before .before .before .before .before .before .before .loop .r) (c .before .before .before .before .before .before .before .before .before .before .before .least .result) (c .before .before .before .before .before .before .before .before .before .before .before .before .before .before .before .before .before .pre .0) (omega arith) (c .before .before .before .before .before .before .before .before .before .before .before .least .ensures) in
+    let l = sized (c .before .before .before .before .before .before .before .before .before .before .before) in
     let e : length (take (m - 0) (w .room)) ≡ m = length-take-le (m - 0) (w .room) (omega (arith, w .inv .3, l, s .1)) ∙ (let z : m - 0 ≡ m = omega arith in z) in
     (omega (arith, w .inv .0), omega (arith, l), c .before .before .before .before .before .before .before .before .before .load-tile .kept .1 .1 .1 .1 .1 .1 .1 .1 .0 ∙ w .inv .2, length-front (w .room) (q .last .1 .1 .1 .1 .1 .1 .1 .1 .1 .1 .0) (m - 0) (q .kept .1 .1 .1 .1 .1 .1 .1 .1 .1 .1 .0) ∙ w .inv .3, q .kept .1 .1 .1 .1 .1 .1 .1 .1 .1 .1 .1 .0 ∙ w .inv .4, rows-more binary64 (a .width) (lineValue (a .bytes .now) (a .base) (a .line) (a .step)) (a .n) (a .top) (w .r) (w .r + m) (a .piece .now) (w .piece) (q .last .1 .1 .1 .1 .1 .1 .1 .1 .1 .1 .1 .0) (s .5) (w .inv .0) (omega arith) (w .inv .5) (q .ensures ∙ ap (λ (z : ℕ). blockMore binary64 (a .width) (lineValue (a .bytes .now) (a .base) (a .line) (a .step)) (a .n) (w .r) (w .r + z) 0 (a .width) (w .piece)) e))
 

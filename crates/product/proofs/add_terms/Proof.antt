@@ -42,6 +42,9 @@ sub-least c = omega arith
 least-requires : tie.Need-least-requires Inv-loop μ-loop
 least-requires c κs = tt
 
+sized : (c : tie.After-least Inv-loop μ-loop) → (0 < c .least .result) × (c .least .result ≤ 2048 / c .before .before .before .before .block-rows .result) × (c .least .result ≤ c .before .before .before .before .before .before .before .before .args .count - c .before .before .loop .k)
+sized c = least-above (2048 / c .before .before .before .before .block-rows .result) (c .before .before .before .before .before .before .before .before .args .count - c .before .before .loop .k) (c .least .result) (some-terms (c .before .before .before .before .block-rows .result) (c .before .before .before .before .block-rows .ensures)) (omega arith) (c .least .ensures)
+
 place-requires : tie.Need-place-requires Inv-loop μ-loop
 place-requires c κs = omega (arith, c .before .before .before .before .before .before .before .before .pre .4 0 (c .before .before .loop .k) (omega arith) (omega arith))
 
@@ -52,23 +55,23 @@ add-blocks-requires : tie.Need-add-blocks-requires Inv-loop μ-loop
 add-blocks-requires c κs =
     let s = c .before .before .before .before .before .before .before .before .before .before .before .before .pre in
     let w = c .before .before .before .before .before .before .loop in
-    let l = least-above (2048 / c .before .before .before .before .before .before .before .before .block-rows .result) (c .before .before .before .before .before .before .before .before .before .before .before .before .args .count - c .before .before .before .before .before .before .loop .k) (c .before .before .before .before .least .result) (some-terms (c .before .before .before .before .before .before .before .before .block-rows .result) (c .before .before .before .before .before .before .before .before .block-rows .ensures)) (omega arith) (c .before .before .before .before .least .ensures) in
+    let l = sized (c .before .before .before .before) in
     let m = c .before .before .least2 in
     let t : m .result ≤ c .before .before .before .before .before .before .before .tile-terms .result = omega (arith, m .ensures, min-le-left (c .before .before .before .before .before .before .before .tile-terms .result) (c .before .before .before .before .least .result)) in
     (c .before .before .before .before .before .before .before .before .block-rows .ensures .0, c .before .before .before .before .before .before .before .before .block-rows .ensures .1, l .0, omega (arith, m .ensures, min-le-right (c .before .before .before .before .before .before .before .tile-terms .result) (c .before .before .before .before .least .result)), omega (arith, w .inv .1, s .0, c .before .before .before .before .before .before .before .tile-terms .ensures, mul-le-mul-right (c .before .before .before .before .before .before .before .before .block-rows .result) t), s .1, omega (arith, s .2), omega (arith, w .inv .2, s .3), λ r i h h'. omega (arith, c .before .before .before .place .ensures, s .4 r (w .k + i) h (omega (arith, l))))
 
 add-k : tie.Need-add-k Inv-loop μ-loop
-add-k c = omega (arith, least-above (2048 / c .before .before .before .before .before .before .before .before .before .before .before .before .before .block-rows .result) (c .before .before .before .before .before .before .before .before .before .before .before .before .before .before .before .before .before .args .count - c .before .before .before .before .before .before .before .before .before .before .before .loop .k) (c .before .before .before .before .before .before .before .before .before .least .result) (some-terms (c .before .before .before .before .before .before .before .before .before .before .before .before .before .block-rows .result) (c .before .before .before .before .before .before .before .before .before .before .before .before .before .block-rows .ensures)) (omega arith) (c .before .before .before .before .before .before .before .before .before .least .ensures))
+add-k c = omega (arith, sized (c .before .before .before .before .before .before .before .before .before))
 
 loop-less : tie.Need-loop-less Inv-loop μ-loop
-loop-less c = omega (arith, least-above (2048 / c .before .before .before .before .before .before .before .before .before .before .before .before .before .block-rows .result) (c .before .before .before .before .before .before .before .before .before .before .before .before .before .before .before .before .before .args .count - c .before .before .before .before .before .before .before .before .before .before .before .loop .k) (c .before .before .before .before .before .before .before .before .before .least .result) (some-terms (c .before .before .before .before .before .before .before .before .before .before .before .before .before .block-rows .result) (c .before .before .before .before .before .before .before .before .before .before .before .before .before .block-rows .ensures)) (omega arith) (c .before .before .before .before .before .before .before .before .before .least .ensures))
+loop-less c = omega (arith, sized (c .before .before .before .before .before .before .before .before .before))
 
 loop-again : tie.Need-loop-again Inv-loop μ-loop
 loop-again c =
     let a = c .before .before .before .before .before .before .before .before .before .before .before .before .before .before .before .before .before .args in
     let w = c .before .before .before .before .before .before .before .before .before .before .before .loop in
     let q = c .before .before .before .before .add-blocks in
-    let l = least-above (2048 / c .before .before .before .before .before .before .before .before .before .before .before .before .before .block-rows .result) (c .before .before .before .before .before .before .before .before .before .before .before .before .before .before .before .before .before .args .count - c .before .before .before .before .before .before .before .before .before .before .before .loop .k) (c .before .before .before .before .before .before .before .before .before .least .result) (some-terms (c .before .before .before .before .before .before .before .before .before .before .before .before .before .block-rows .result) (c .before .before .before .before .before .before .before .before .before .before .before .before .before .block-rows .ensures)) (omega arith) (c .before .before .before .before .before .before .before .before .before .least .ensures) in
+    let l = sized (c .before .before .before .before .before .before .before .before .before) in
     (omega (arith, l), q .kept .1 .1 .1 .1 .1 .1 .1 .1 .1 .1 .0 ∙ w .inv .1, q .kept .1 .1 .1 .1 .1 .1 .1 .1 .1 .1 .1 .0 ∙ w .inv .2, block-terms binary64 (a .width) (lineValue (a .bytes .now) (a .base) (a .line) (a .step)) (lineValue (a .bytes .now) (c .before .before .before .before .before .before .before .before .place .result) (a .line) (a .step)) (w .k) (c .before .before .before .before .before .before .before .before .before .least .result) (a .top) (a .bottom) 0 (a .width) (a .piece .now) (w .piece) (q .last .1 .1 .1 .1 .1 .1 .1 .1 .1 .1 .1 .0) (line-from (a .bytes .now) (a .base) (a .line) (a .step) (w .k) (c .before .before .before .before .before .before .before .before .place .result) (c .before .before .before .before .before .before .before .before .place .ensures)) (w .inv .3) (q .ensures))
 
 same-length : tie.Need-same-length Inv-loop μ-loop

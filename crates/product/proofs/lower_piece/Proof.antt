@@ -49,8 +49,11 @@ sub-least c = omega arith
 least-requires : tie.Need-least-requires Inv-loop μ-loop
 least-requires c κs = tt
 
+sized : (c : tie.After-least Inv-loop μ-loop) → (0 < c .least .result) × (c .least .result ≤ c .before .before .before .rows-together .result) × (c .least .result ≤ c .before .before .before .before .before .before .before .before .before .before .before .before .args .height - c .before .before .loop .r)
+sized c = least-above (c .before .before .before .rows-together .result) (c .before .before .before .before .before .before .before .before .before .before .before .before .args .height - c .before .before .loop .r) (c .least .result) (c .before .before .before .rows-together .ensures) (omega arith) (c .least .ensures)
+
 add-bottom : tie.Need-add-bottom Inv-loop μ-loop
-add-bottom c = omega (arith, least-above (c .before .before .before .rows-together .result) (c .before .before .before .before .before .before .before .before .before .before .before .before .args .height - c .before .before .loop .r) (c .least .result) (c .before .before .before .rows-together .ensures) (omega arith) (c .least .ensures))
+add-bottom c = omega (arith, sized c)
 
 slice-aggregate-add-terms : tie.Need-slice-aggregate-add-terms Inv-loop μ-loop
 slice-aggregate-add-terms c = sym (c .before .before .before .loop .inv .1)
@@ -59,18 +62,18 @@ add-terms-requires : tie.Need-add-terms-requires Inv-loop μ-loop
 add-terms-requires c κs =
     let s = c .before .before .before .before .before .before .before .before .before .before .before .before .before .before .pre in
     let w = c .before .before .before .before .loop in
-    let l = least-above (c .before .before .before .before .before .rows-together .result) (c .before .before .before .before .before .before .before .before .before .before .before .before .before .before .args .height - c .before .before .before .before .loop .r) (c .before .before .least .result) (c .before .before .before .before .before .rows-together .ensures) (omega arith) (c .before .before .least .ensures) in
+    let l = sized (c .before .before) in
     (omega (arith, w .inv .1), omega (arith, c .before .before .before .before .before .before .before .if1 .left), omega (arith, l), omega (arith, s .2, w .inv .2, c .before .before .before .before .before .before .before .before .before .before .clear .kept .0, mul-le-mul-right (c .before .before .before .before .before .before .before .before .before .before .before .before .before .before .args .width) (let u : w .r + c .before .before .least .result ≤ c .before .before .before .before .before .before .before .before .before .before .before .before .before .before .args .height = omega (arith, l) in u)), λ r i h h'. s .3 r i (omega (arith, l)) h')
 
 loop-less : tie.Need-loop-less Inv-loop μ-loop
-loop-less c = omega (arith, least-above (c .before .before .before .before .before .before .before .before .before .rows-together .result) (c .before .before .before .before .before .before .before .before .before .before .before .before .before .before .before .before .before .before .args .height - c .before .before .before .before .before .before .before .before .loop .r) (c .before .before .before .before .before .before .least .result) (c .before .before .before .before .before .before .before .before .before .rows-together .ensures) (omega arith) (c .before .before .before .before .before .before .least .ensures))
+loop-less c = omega (arith, sized (c .before .before .before .before .before .before))
 
 loop-again : tie.Need-loop-again Inv-loop μ-loop
 loop-again c =
     let a = c .before .before .before .before .before .before .before .before .before .before .before .before .before .before .before .before .before .before .args in
     let w = c .before .before .before .before .before .before .before .before .loop in
     let q = c .before .before .before .add-terms in
-    let l = least-above (c .before .before .before .before .before .before .before .before .before .rows-together .result) (c .before .before .before .before .before .before .before .before .before .before .before .before .before .before .before .before .before .before .args .height - c .before .before .before .before .before .before .before .before .loop .r) (c .before .before .before .before .before .before .least .result) (c .before .before .before .before .before .before .before .before .before .rows-together .ensures) (omega arith) (c .before .before .before .before .before .before .least .ensures) in
+    let l = sized (c .before .before .before .before .before .before) in
     (omega (arith, l), q .kept .1 .1 .1 .1 .1 .1 .1 .1 .0 ∙ w .inv .1, q .kept .1 .1 .1 .1 .1 .1 .1 .1 .1 .0 ∙ w .inv .2, rows-more binary64 (a .width) (lineValue (a .bytes .now) (a .offset + 8 * a .first) (a .line) (a .step)) (a .count) 0 (w .r) (w .r + c .before .before .before .before .before .before .least .result) (c .before .before .before .before .before .before .before .before .before .before .before .before .before .before .clear .last .0) (w .piece) (q .last .1 .1 .1 .1 .1 .1 .1 .1 .1 .0) (omega (arith, c .before .before .before .before .before .before .before .before .before .before .before .if1 .left)) (omega arith) (omega arith) (w .inv .3) (q .ensures))
 
 same-length-2 : tie.Need-same-length-2 Inv-loop μ-loop
