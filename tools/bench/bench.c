@@ -608,13 +608,17 @@ int main(int argc, char **argv) {
     row((shape){"A'A, width 2", 0, 0, 0, 2}, PIECE_ATA, 0, our_ata, c_row_ata, 0);
     row((shape){"A'A, width 3", 0, 0, 0, 3}, PIECE_ATA, 0, our_ata, c_row_ata, 0);
     row((shape){"A'A, width 4", 0, 0, 0, 4}, PIECE_ATA, 0, our_ata, c_row_ata, 0);
+    row((shape){"A'A, width 5", 0, 0, 0, 5}, PIECE_ATA, 0, our_ata, c_row_ata, 0);
     row((shape){"A'A, width 8", 0, 0, 0, 8}, PIECE_ATA, 0, our_ata, c_row_ata, 0);
+    row((shape){"A'A, width 16", 0, 0, 0, 16}, PIECE_ATA, 0, our_ata, c_row_ata, 0);
     row((shape){"A'A, width 64", 0, 0, 0, 64}, PIECE_ATA, 0, our_ata, c_row_ata, 0);
     row((shape){"AA', width 1", 0, 0, 0, 1}, PIECE_AAT, 0, our_aat, c_row_aat, 0);
     row((shape){"AA', width 2", 0, 0, 0, 2}, PIECE_AAT, 0, our_aat, c_row_aat, 0);
     row((shape){"AA', width 3", 0, 0, 0, 3}, PIECE_AAT, 0, our_aat, c_row_aat, 0);
     row((shape){"AA', width 4", 0, 0, 0, 4}, PIECE_AAT, 0, our_aat, c_row_aat, 0);
+    row((shape){"AA', width 5", 0, 0, 0, 5}, PIECE_AAT, 0, our_aat, c_row_aat, 0);
     row((shape){"AA', width 8", 0, 0, 0, 8}, PIECE_AAT, 0, our_aat, c_row_aat, 0);
+    row((shape){"AA', width 16", 0, 0, 0, 16}, PIECE_AAT, 0, our_aat, c_row_aat, 0);
     row((shape){"AA', width 64", 0, 0, 0, 64}, PIECE_AAT, 0, our_aat, c_row_aat, 0);
     row((shape){"AA', width 64 (C: piece in its own column order)", 0, 0, 0, 64}, PIECE_AAT, 0, our_aat, c_row_aat_turned, turn_back);
     return all_good ? 0 : 1;

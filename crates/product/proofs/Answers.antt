@@ -77,7 +77,7 @@ value-in bytes offset rows columns e i j b b' =
 module _ (bytes offset rows columns start height width piece : ℕ) where
   -- columns start, start + 1 and so on
   module _ (a : Accepted 1 columns bytes offset rows columns start height width piece) where
-    pub columns-in : LinesIn bytes (offset + 8 * (start * rows)) rows 1 height 0 rows
+    pub columns-in : LinesIn bytes (offset + 8 * (start * rows)) rows 1 height rows
     columns-in r i h h' =
         let z : (start + r) * rows + rows ≤ columns * rows = row-in columns rows (start + r) (omega arith) in
         omega (arith, a .held (omega arith) (omega arith))
@@ -92,7 +92,7 @@ module _ (bytes offset rows columns start height width piece : ℕ) where
     square-in = let z : width * width ≤ height * width = mul-le-mul-right width (a .narrow) in omega arith
 
   -- rows start, start + 1 and so on
-  pub rows-in : Accepted 0 rows bytes offset rows columns start height width piece → LinesIn bytes (offset + 8 * start) 1 rows height 0 columns
+  pub rows-in : Accepted 0 rows bytes offset rows columns start height width piece → LinesIn bytes (offset + 8 * start) 1 rows height columns
   rows-in a r i h h' =
       let z : i * rows + rows ≤ columns * rows = row-in columns rows i h' in
       omega (arith, a .held (omega arith) (omega arith))

@@ -13,6 +13,7 @@ use lib.Ieee.{Float, nan, inf, fin, Format, ones, hid, top, isNan, nanBits, ofBi
 use lib.Ieee.Bits.{nanBits-is, nanBits-above}
 use borrow.Author.Tests.{lt-ltb, le-ltb}
 use Rattle.product.specs.Values.{leNumber, floatAt}
+use Rattle.product.specs.Steps.{Finite}
 use Rattle.product.proofs.Parts.{below-or}
 
 le-append : (xs ys : List ℕ) → leNumber (xs ++ ys) ≡ leNumber xs + 256 ^ length xs * leNumber ys
@@ -50,10 +51,6 @@ pattern-nan f n h = nan-only (ofBits f n) (sym (nanBits-is f n) ∙ nanBits-abov
 
 pub pattern-number : (f : Format) (n : ℕ) → n % top f ≤ ones f * hid f → T (not (nanBits f n))
 pattern-number f n h = subst (λ (b : Bool). T (not b)) (sym (nanBits-above f n ∙ le-ltb (ones f * hid f) (n % top f) h)) tt
-
--- the first n values from a place on are no NaN's patterns
-abbrev pub Finite : List ℕ → ℕ → ℕ → Type 0
-Finite bytes at n = (i : ℕ) → i < n → leNumber (take 8 (drop (at + 8 * i) bytes)) % 9223372036854775808 ≤ 9218868437227405312
 
 -- one more, seen from the carry of its exponent
 pub finite-more :

@@ -1,4 +1,4 @@
--- Laws of the sums of some lines with one line, which get terms more.
+-- Laws of values at their places, and of lists that get values at some places.
 use mathlib.Core.Path.{_≡_, refl, sym, ap, subst, _∙_}
 use mathlib.Core.List.{List}
 use mathlib.Core.Logic.{⊎-elim}
@@ -7,13 +7,11 @@ use native.Mathlib.Nat.{add-zero, min-eq-left, min-eq-right, min-le-right, not-s
 use native.Mathlib.Omega.{arith}
 use lib.ListN.{length, getD, set, length-set}
 use lib.Seq.{getD-set-same, getD-set-other}
-use lib.Ieee.{Float, nan, Format, add, mul}
+use lib.Ieee.{Float, nan}
 use Rattle.genotype.specs.Lists.{tabulate}
-use Rattle.genotype.proofs.Tabulate.{length-tabulate, getD-tabulate, tabulate-ext, is-tabulate}
+use Rattle.genotype.proofs.Tabulate.{is-tabulate}
 use Rattle.product.specs.Values.{floatAt}
-use Rattle.product.specs.Steps.{sumMore, lineValue, termMore, linesMore}
-use Rattle.product.proofs.InPlace.{filled, mapped, mapped-step}
-use Rattle.product.proofs.Sums.{term-more}
+use Rattle.product.specs.Steps.{lineValue}
 use Rattle.product.proofs.Parts.{below-or}
 
 -- a value at the place of term i of line r
@@ -22,63 +20,12 @@ pub value-at :
 unfolding lineValue
 value-at bytes base line step r i p a e q = e ∙ ap (floatAt bytes) q
 
--- neighbouring values are those of neighbouring lines
-pub value-across :
-    (bytes : List ℕ) (base line step r i p j : ℕ) → line ≡ 1 → p ≡ base + 8 * (r * line + i * step) → floatAt bytes (p + 8 * j) ≡ lineValue bytes base line step (r + j) i
-unfolding lineValue
-value-across bytes base line step r i p j h q =
-    let e : j * line ≡ j * 1 = ap (λ (x : ℕ). j * x) h in
-    ap (floatAt bytes) (let u : p + 8 * j ≡ base + 8 * ((r + j) * line + i * step) = omega arith in u)
-
--- the values of some neighbouring lines end where that of the last one ends
-pub across-fits :
-    (base line step r i p lines size : ℕ) → line ≡ 1 → p ≡ base + 8 * (r * line + i * step) → (0 < lines) × (base + 8 * ((r + (lines - 1)) * line + i * step) + 8 ≤ size) → p + 8 * lines ≤ size
-across-fits base line step r i p lines size h q b = let e : (lines - 1) * line ≡ (lines - 1) * 1 = ap (λ (x : ℕ). (lines - 1) * x) h in omega arith
-
 -- the place of a sum, or the last place
 pub least-below : (q n i : ℕ) → i ≡ min q (n - 1) → 0 < n → i < n
 least-below q n i e h = let b : min q (n - 1) ≤ n - 1 = min-le-right q (n - 1) in omega arith
 
 pub first-line : (v : ℕ → ℕ → Float) (r i : ℕ) (a : Float) → a ≡ v r i → a ≡ v (r + 0) i
 first-line v r i a e = e ∙ ap (λ (z : ℕ). v z i) (sym (add-zero r))
-
-module _ (f : Format) (v : ℕ → ℕ → Float) (k r c : ℕ) where
-  -- sum j with n terms more
-  abbrev pub lineMore : List Float → ℕ → ℕ → Float
-  lineMore sums n j = sumMore f (getD sums j nan) (λ t. v (r + j) (k + t)) (λ t. v c (k + t)) n
-
-  pub line-step : (sums : List Float) (t j : ℕ) (s a x : Float) → s ≡ lineMore sums t j → a ≡ v (r + j) (k + t) → x ≡ v c (k + t) → add f s (mul f a x) ≡ lineMore sums (t + 1) j
-  line-step sums t j s a x e p q =
-      ap (λ (y : Float). add f s (mul f y x)) p
-      ∙ ap (λ (y : Float). add f s (mul f (v (r + j) (k + t)) y)) q
-      ∙ term-more f (getD sums j nan) s (λ t. v (r + j) (k + t)) (λ t. v c (k + t)) t e
-
-  pub lines-none : (sums : List Float) → sums ≡ linesMore f v k 0 r c sums
-  unfolding sumMore
-  lines-none sums = is-tabulate sums (length sums) (λ j. getD sums j nan) nan refl (λ j b. refl)
-
-  pub lines-step : (t : ℕ) (first sums sums' : List Float) (value : ℕ → Float) (x : Float) → sums ≡ linesMore f v k t r c first → ((j : ℕ) → value j ≡ v (r + j) (k + t)) → x ≡ v c (k + t) → sums' ≡ termMore f value x sums → sums' ≡ linesMore f v k (t + 1) r c first
-  lines-step t first sums sums' value x e p q s =
-      s
-      ∙ ap (λ (n : ℕ). tabulate n (λ j. add f (getD sums j nan) (mul f (value j) x))) (ap length e ∙ length-tabulate (length first) (lineMore first t))
-      ∙ tabulate-ext (length first) (λ j. add f (getD sums j nan) (mul f (value j) x)) (lineMore first (t + 1))
-      (λ j b. line-step first t j (getD sums j nan) (value j) x (ap (λ (z : List Float). getD z j nan) e ∙ getD-tabulate (length first) (lineMore first t) j nan b) (p j) q)
-
-  -- values taken out and grown
-  pub taken-grown : (n : ℕ) (piece room taken out : List Float) (from width i : ℕ) → taken ≡ tabulate (length room) (λ i. getD piece (from + i * width) nan) → out ≡ linesMore f v k n r c taken → i < length room → getD out i nan ≡ sumMore f (getD piece (from + i * width) nan) (λ t. v (r + i) (k + t)) (λ t. v c (k + t)) n
-  taken-grown n piece room taken out from width i e g b =
-      let s : length taken ≡ length room = ap length e ∙ length-tabulate (length room) (λ i. getD piece (from + i * width) nan) in
-      ap (λ (z : List Float). getD z i nan) g
-      ∙ getD-tabulate (length taken) (lineMore taken n) i nan (omega arith)
-      ∙ ap (λ (z : Float). sumMore f z (λ t. v (r + i) (k + t)) (λ t. v c (k + t)) n) (ap (λ (z : List Float). getD z i nan) e ∙ getD-tabulate (length room) (λ i. getD piece (from + i * width) nan) i nan b)
-
--- a sum with one product more
-module _ (f : Format) (value : ℕ → Float) (v : Float) where
-  abbrev pub withTerm : List Float → ℕ → Float
-  withTerm d = mapped (λ j s. add f s (mul f (value j) v)) nan d
-
-  pub term-step : (d l : List Float) (j : ℕ) (a : Float) → l ≡ filled (withTerm d) j d → j < length d → a ≡ value j → set l j (add f (getD l j nan) (mul f a v)) ≡ filled (withTerm d) (j + 1) d
-  term-step d l j a e b q = ap (λ (z : Float). set l j (add f (getD l j nan) (mul f z v))) q ∙ mapped-step (λ j s. add f s (mul f (value j) v)) nan d l j e b
 
 -- values put into places a width apart: the first n are there, and every other place is as it was
 module _ (src : List Float) (from width : ℕ) (old : List Float) where

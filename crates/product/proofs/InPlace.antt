@@ -66,3 +66,16 @@ module _ {A : Type 0} where
 
     pub mapped-step : (d l : List A) (i : ℕ) → l ≡ filled (mapped d) i d → i < length d → set l i (h i (getD l i z)) ≡ filled (mapped d) (i + 1) d
     mapped-step d l i e b = filled-step (mapped d) d l i (h i (getD l i z)) e b (ap (h i) (ap (λ (t : List A). getD t i z) e ∙ getD-filled (mapped d) d i z b))
+
+  -- all of eight places
+  pub eight-filled : (g : ℕ → A) (d : List A) (a0 a1 a2 a3 a4 a5 a6 a7 : A) → length d ≡ 8 → a0 ≡ g 0 → a1 ≡ g 1 → a2 ≡ g 2 → a3 ≡ g 3 → a4 ≡ g 4 → a5 ≡ g 5 → a6 ≡ g 6 → a7 ≡ g 7 → set (set (set (set (set (set (set (set d 0 a0) 1 a1) 2 a2) 3 a3) 4 a4) 5 a5) 6 a6) 7 a7 ≡ tabulate (length d) g
+  eight-filled g d a0 a1 a2 a3 a4 a5 a6 a7 s q0 q1 q2 q3 q4 q5 q6 q7 =
+      let e1 : set d 0 a0 ≡ filled g 1 d = filled-step g d (d) 0 a0 (filled-none g d) (omega arith) q0 in
+      let e2 : set (set d 0 a0) 1 a1 ≡ filled g 2 d = filled-step g d (set d 0 a0) 1 a1 (e1) (omega arith) q1 in
+      let e3 : set (set (set d 0 a0) 1 a1) 2 a2 ≡ filled g 3 d = filled-step g d (set (set d 0 a0) 1 a1) 2 a2 (e2) (omega arith) q2 in
+      let e4 : set (set (set (set d 0 a0) 1 a1) 2 a2) 3 a3 ≡ filled g 4 d = filled-step g d (set (set (set d 0 a0) 1 a1) 2 a2) 3 a3 (e3) (omega arith) q3 in
+      let e5 : set (set (set (set (set d 0 a0) 1 a1) 2 a2) 3 a3) 4 a4 ≡ filled g 5 d = filled-step g d (set (set (set (set d 0 a0) 1 a1) 2 a2) 3 a3) 4 a4 (e4) (omega arith) q4 in
+      let e6 : set (set (set (set (set (set d 0 a0) 1 a1) 2 a2) 3 a3) 4 a4) 5 a5 ≡ filled g 6 d = filled-step g d (set (set (set (set (set d 0 a0) 1 a1) 2 a2) 3 a3) 4 a4) 5 a5 (e5) (omega arith) q5 in
+      let e7 : set (set (set (set (set (set (set d 0 a0) 1 a1) 2 a2) 3 a3) 4 a4) 5 a5) 6 a6 ≡ filled g 7 d = filled-step g d (set (set (set (set (set (set d 0 a0) 1 a1) 2 a2) 3 a3) 4 a4) 5 a5) 6 a6 (e6) (omega arith) q6 in
+      let e8 : set (set (set (set (set (set (set (set d 0 a0) 1 a1) 2 a2) 3 a3) 4 a4) 5 a5) 6 a6) 7 a7 ≡ filled g 8 d = filled-step g d (set (set (set (set (set (set (set d 0 a0) 1 a1) 2 a2) 3 a3) 4 a4) 5 a5) 6 a6) 7 a7 (e7) (omega arith) q7 in
+      e8 ∙ filled-all g d 8 (omega arith)

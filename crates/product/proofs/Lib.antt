@@ -2,14 +2,12 @@ pub mod Bytes
 pub mod InPlace
 pub mod Sums
 pub mod Columns
-pub mod RowValues
 pub mod Rows
 pub mod Parts
 pub mod Tile
 pub mod Grid
 pub mod Lower
-pub mod Terms
-pub mod Turn
+pub mod Blocks
 pub mod Checks
 pub mod Mirrored
 pub mod Pieces

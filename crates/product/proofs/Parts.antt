@@ -3,7 +3,8 @@ use mathlib.Core.Path.{_≡_, refl, sym, ap, _∙_}
 use mathlib.Core.Bool.{Bool, true, false}
 use mathlib.Core.List.{List, _++_}
 use mathlib.Core.Logic.{_⊎_, inl, inr, ⊎-elim}
-use Prim.Native.Nat.{ℕ, _+_, _-_, _≤_, _<_}
+use Prim.Native.Nat.{ℕ, _+_, _-_, _≤_, _<_, min}
+use native.Mathlib.Nat.{min-eq-left, min-eq-right}
 use native.Mathlib.Omega.{arith}
 use lib.Dec.{ltb}
 use lib.ListN.{length, take, drop, getD, length-drop, List·getD-append}
@@ -18,6 +19,13 @@ below-or a b = go (ltb a b) refl
     go : (t : Bool) → ltb a b ≡ t → (a < b) ⊎ (b ≤ a)
     go true e = inl (ltb-true a b e)
     go false e = inr (ltb-false a b e)
+
+-- the least of two numbers above 0
+pub least-above : (a b s : ℕ) → 0 < a → 0 < b → s ≡ min a b → (0 < s) × (s ≤ a) × (s ≤ b)
+least-above a b s p q e =
+    ⊎-elim (λ g. let m : min a b ≡ a = min-eq-left (let u : a ≤ b = omega arith in u) in omega arith)
+    (λ g. let m : min a b ≡ b = min-eq-right g in omega arith)
+    (below-or a b)
 
 module _ {A : Type 0} (a k : ℕ) (xs : List A) where
   pub length-part : a + k ≤ length xs → length (take k (drop a xs)) ≡ k

@@ -22,7 +22,7 @@ use Rattle.product.proofs.Grid.{grid, grid-at, grid-same, grid-ext, row
 
 -- the sums of a piece are the dots of its lines
 pub lower-dots : (f : Format) (h w n : ℕ) (v u : ℕ → ℕ → Float) → w ≤ h → ((r k : ℕ) → r < h → k < n → v r k ≡ u r k)
-    → lowerPiece f h w v (λ r c. n) ≡ pieceOf h w (λ r c. cond (leb c r) (dot f (tabulate n (u r)) (tabulate n (u c))) plusZero)
+    → lowerPiece f h w v n ≡ pieceOf h w (λ r c. cond (leb c r) (dot f (tabulate n (u r)) (tabulate n (u c))) plusZero)
 unfolding lowerPiece pieceOf
 lower-dots f h w n v u b e =
     grid-ext h w (λ r c. cond (leb c r) (sumMore f plusZero (v r) (v c) n) plusZero) (λ r c. cond (leb c r) (dot f (tabulate n (u r)) (tabulate n (u c))) plusZero)
@@ -81,7 +81,7 @@ module _ (bytes : List ℕ) (offset rows columns start h w : ℕ) where
 
   -- the A'A piece
   pub ata-piece : (l l' : List Float) → 0 < w → w ≤ h → start + h ≡ columns
-      → l ≡ lowerPiece binary64 h w (lineValue bytes (offset + 8 * (start * rows)) rows 1) (λ r c. rows)
+      → l ≡ lowerPiece binary64 h w (lineValue bytes (offset + 8 * (start * rows)) rows 1) rows
       → l' ≡ tabulate (length l) (λ p. cond (leb (p % w) (p / w)) (getD l p nan) (getD l (p % w * w + p / w) nan))
       → l' ≡ pieceOf h w (ataEntry binary64 (floatsOf bytes offset (rows * columns)) rows start)
   unfolding ataEntry column
@@ -92,7 +92,7 @@ module _ (bytes : List ℕ) (offset rows columns start h w : ℕ) where
 
   -- the AA' piece
   pub aat-piece : (l : List Float) → w ≤ h → start + h ≡ rows
-      → l ≡ lowerPiece binary64 h w (lineValue bytes (offset + 8 * start) 1 rows) (λ r c. columns)
+      → l ≡ lowerPiece binary64 h w (lineValue bytes (offset + 8 * start) 1 rows) columns
       → l ≡ pieceOf h w (aatEntry binary64 (floatsOf bytes offset (rows * columns)) rows columns start)
   unfolding aatEntry row
   aat-piece l b s e =

@@ -28,14 +28,10 @@ sum-ext f s x y x' y' (suc n) p q =
     ∙ ap (λ (z : Float). add f (sumMore f s x' y' n) (mul f z (y n))) (p n (omega arith))
     ∙ ap (λ (z : Float). add f (sumMore f s x' y' n) (mul f (x' n) z)) (q n (omega arith))
 
--- one term and four terms, written out
+-- one term, written out
 pub one-term : (f : Format) (s : Float) (x y : ℕ → Float) (i : ℕ) → add f s (mul f (x i) (y i)) ≡ sumMore f s (λ t. x (i + t)) (λ t. y (i + t)) 1
 unfolding sumMore
 one-term f s x y i = ap (λ (k : ℕ). add f s (mul f (x k) (y k))) (sym (add-zero i))
-
-pub four-terms : (f : Format) (s : Float) (x y : ℕ → Float) (i : ℕ) → add f (add f (add f (add f s (mul f (x i) (y i))) (mul f (x (i + 1)) (y (i + 1)))) (mul f (x (i + 2)) (y (i + 2)))) (mul f (x (i + 3)) (y (i + 3))) ≡ sumMore f s (λ t. x (i + t)) (λ t. y (i + t)) 4
-unfolding sumMore
-four-terms f s x y i = ap (λ (z : Float). add f (add f (add f z (mul f (x (i + 1)) (y (i + 1)))) (mul f (x (i + 2)) (y (i + 2)))) (mul f (x (i + 3)) (y (i + 3)))) (one-term f s x y i)
 
 -- one term more
 pub term-more :

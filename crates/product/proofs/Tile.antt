@@ -1,4 +1,4 @@
--- A tile of values: value k + i of line c + j at place i × 64 + j.
+-- A tile of values: value i of line r + j at place i × g + j.
 use mathlib.Core.Path.{_≡_, sym, ap, _∙_}
 use mathlib.Core.List.{List}
 use mathlib.Core.Logic.{⊎-elim}
@@ -8,34 +8,66 @@ use lib.ListN.{length, take, drop, getD}
 use lib.Ieee.{Float, nan}
 use borrow.Rule.Slice.PartMut.{putMid}
 use Rattle.genotype.specs.Lists.{tabulate}
-use Rattle.genotype.proofs.Tabulate.{length-tabulate, getD-tabulate}
+use Rattle.genotype.proofs.Tabulate.{length-tabulate, getD-tabulate, tabulate-ext}
 use Rattle.product.specs.Values.{floatAt}
-use Rattle.product.specs.Steps.{lineValue}
+use Rattle.product.specs.Steps.{lineValue, Tile}
 use Rattle.product.proofs.Parts.{below-or, length-part, put-in, put-out}
+use Rattle.product.proofs.Grid.{row-in}
 
-module _ (bytes : List ℕ) (base line step k c m : ℕ) where
-  abbrev pub TileTo : List Float → ℕ → Type 0
-  TileTo x n = (i j : ℕ) → i < n → j < m → getD x (i * 64 + j) nan ≡ lineValue bytes base line step (c + j) (k + i)
+-- neighbouring values are those of neighbouring lines
+pub across-place : (at line j : ℕ) → line ≡ 1 → at + 8 * j ≡ at + 8 * (j * line)
+across-place at line j h = let e : j * line ≡ j * 1 = ap (λ (x : ℕ). j * x) h in omega arith
 
-  place : (i j at : ℕ) → at ≡ base + 8 * (c * line + (k + i) * step) → floatAt bytes (at + 8 * (j * line)) ≡ lineValue bytes base line step (c + j) (k + i)
+pub across-values : (bytes : List ℕ) (at line n : ℕ) (out : List Float) → line ≡ 1 → out ≡ tabulate n (λ i. floatAt bytes (at + 8 * i)) → out ≡ tabulate n (λ i. floatAt bytes (at + 8 * (i * line)))
+across-values bytes at line n out h e = e ∙ tabulate-ext n (λ i. floatAt bytes (at + 8 * i)) (λ i. floatAt bytes (at + 8 * (i * line))) (λ i b. ap (floatAt bytes) (across-place at line i h))
+
+-- they end where the last one ends
+pub across-fits : (at line n size : ℕ) → line ≡ 1 → 0 < n → ((i : ℕ) → i < n → at + 8 * (i * line) + 8 ≤ size) → at + 8 * n ≤ size
+across-fits at line n size h p b = let e : at + 8 * (n - 1) ≡ at + 8 * ((n - 1) * line) = across-place at line (n - 1) h in omega (arith, b (n - 1) (omega arith))
+
+-- value i of line r + j, from the place of value i of line r
+pub line-place : (bytes : List ℕ) (base line step r i j at : ℕ) → at ≡ base + 8 * (r * line + i * step) → floatAt bytes (at + 8 * (j * line)) ≡ lineValue bytes base line step (r + j) i
+unfolding lineValue
+line-place bytes base line step r i j at q = ap (floatAt bytes) (let e : at + 8 * (j * line) ≡ base + 8 * ((r + j) * line + i * step) = omega arith in e)
+
+-- value i of line c, from the place of its first one
+pub line-term : (bytes : List ℕ) (base line step c i at : ℕ) → at ≡ base + 8 * (c * line + 0 * step) → floatAt bytes (at + 8 * (i * step)) ≡ lineValue bytes base line step c i
+unfolding lineValue
+line-term bytes base line step c i at q = ap (floatAt bytes) (let e : at + 8 * (i * step) ≡ base + 8 * (c * line + i * step) = omega arith in e)
+
+-- four terms of neighbouring lines with neighbouring values
+module _ (base line step r t at : ℕ) (h : line ≡ 1) (a : at ≡ base + 8 * (r * line + t * step)) where
+  four-place : (u j : ℕ) → at + 8 * (u * step) + 8 * j ≡ base + 8 * ((r + j) * line + (t + u) * step)
+  four-place u j = let e : at + 8 * j ≡ at + 8 * (j * line) = across-place at line j h in omega arith
+
+  pub four-term : (bytes : List ℕ) (u j : ℕ) → floatAt bytes (at + 8 * (u * step) + 8 * j) ≡ lineValue bytes base line step (r + j) (t + u)
   unfolding lineValue
-  place i j at q = ap (floatAt bytes) (let e : at + 8 * (j * line) ≡ base + 8 * ((c + j) * line + (k + i) * step) = omega arith in e)
+  four-term bytes u j = ap (floatAt bytes) (four-place u j)
 
+  pub four-fits : (u m size : ℕ) → (0 < m) × (base + 8 * ((r + (m - 1)) * line + (t + u) * step) + 8 ≤ size) → at + 8 * (u * step) + 8 * m ≤ size
+  four-fits u m size b = omega (arith, four-place u (m - 1))
+
+-- term t + i of line c, from the place of term t
+pub term-from : (bytes : List ℕ) (base line step c t i at : ℕ) → at ≡ base + 8 * (c * line + t * step) → floatAt bytes (at + 8 * (i * step)) ≡ lineValue bytes base line step c (t + i)
+unfolding lineValue
+term-from bytes base line step c t i at q = ap (floatAt bytes) (let e : at + 8 * (i * step) ≡ base + 8 * (c * line + (t + i) * step) = omega arith in e)
+
+module _ (bytes : List ℕ) (base line step r m g : ℕ) where
   -- one more row of the tile
-  pub tile-more : (i size at : ℕ) (x part : List Float) → at ≡ base + 8 * (c * line + (k + i) * step) → size ≡ m → m ≤ 64 → i * 64 + m ≤ length x
-      → part ≡ tabulate (length (take size (drop (i * 64) x))) (λ j. floatAt bytes (at + 8 * (j * line)))
-      → TileTo x i → TileTo (putMid (i * 64) size x part) (i + 1)
+  pub tile-more : (i size at : ℕ) (x part : List Float) → at ≡ base + 8 * (r * line + i * step) → size ≡ m → m ≤ g → i * g + m ≤ length x
+      → part ≡ tabulate (length (take size (drop (i * g) x))) (λ j. floatAt bytes (at + 8 * (j * line)))
+      → Tile x g (lineValue bytes base line step) r i m → Tile (putMid (i * g) size x part) g (lineValue bytes base line step) r (i + 1) m
   tile-more i size at x part a s h b e old i' j l l' =
-      let n : length (take size (drop (i * 64) x)) ≡ m = length-part (i * 64) size x (omega arith) ∙ s in
-      let g : length part ≡ m = ap length e ∙ length-tabulate (length (take size (drop (i * 64) x))) (λ j. floatAt bytes (at + 8 * (j * line))) ∙ n in
+      let n : length (take size (drop (i * g) x)) ≡ m = length-part (i * g) size x (omega arith) ∙ s in
+      let z : length part ≡ m = ap length e ∙ length-tabulate (length (take size (drop (i * g) x))) (λ j. floatAt bytes (at + 8 * (j * line))) ∙ n in
       ⊎-elim
-      (λ b'. put-out (i * 64) size x part nan (i' * 64 + j) (omega arith) (omega arith) (λ p p'. omega arith) ∙ old i' j b' l')
+      (λ b'. let u : i' * g + g ≤ i * g = row-in i g i' b' in put-out (i * g) size x part nan (i' * g + j) (omega arith) (omega arith) (λ p p'. omega arith) ∙ old i' j b' l')
       (λ b'.
       let q : i' ≡ i = omega arith in
-      ap (λ (t : ℕ). getD (putMid (i * 64) size x part) (t * 64 + j) nan) q
-      ∙ put-in (i * 64) size x part nan j (omega arith) (omega arith)
+      ap (λ (t : ℕ). getD (putMid (i * g) size x part) (t * g + j) nan) q
+      ∙ put-in (i * g) size x part nan j (omega arith) (omega arith)
       ∙ ap (λ (t : List Float). getD t j nan) e
-      ∙ getD-tabulate (length (take size (drop (i * 64) x))) (λ j. floatAt bytes (at + 8 * (j * line))) j nan (omega arith)
-      ∙ place i j at a
-      ∙ ap (λ (t : ℕ). lineValue bytes base line step (c + j) (k + t)) (sym q))
+      ∙ getD-tabulate (length (take size (drop (i * g) x))) (λ j. floatAt bytes (at + 8 * (j * line))) j nan (omega arith)
+      ∙ line-place bytes base line step r i j at a
+      ∙ ap (λ (t : ℕ). lineValue bytes base line step (r + j) t) (sym q))
       (below-or i' i)

@@ -1,12 +1,13 @@
 -- How far a piece is formed, for the private functions alone: no promise of a public one cites this file.
-use mathlib.Core.Bool.{cond}
+use mathlib.Core.Path.{_≡_}
+use mathlib.Core.Bool.{Bool, cond, _&&_}
 use mathlib.Core.List.{List}
-use Prim.Native.Nat.{ℕ, zero, suc, _+_, _*_, _<_, _≤_}
-use lib.Dec.{leb}
+use Prim.Native.Nat.{ℕ, zero, suc, _+_, _*_, _/_, _%_, _<_, _≤_}
+use lib.Dec.{leb, ltb}
 use lib.Ieee.{Float, nan, Format, add, mul}
-use lib.ListN.{length, getD}
+use lib.ListN.{length, getD, take, drop}
 use Rattle.genotype.specs.Lists.{tabulate}
-use Rattle.product.specs.Values.{floatAt}
+use Rattle.product.specs.Values.{leNumber, floatAt}
 use Rattle.product.specs.Dot.{plusZero}
 use Rattle.product.specs.Piece.{pieceOf}
 
@@ -19,20 +20,42 @@ sumMore f sum x y (suc n) = add f (sumMore f sum x y n) (mul f (x n) (y n))
 unfoldable pub lineValue : List ℕ → ℕ → ℕ → ℕ → ℕ → ℕ → Float
 lineValue bytes base line step r k = floatAt bytes (base + 8 * (r * line + k * step))
 
--- values from k on, n of them, of each of so many lines stand in the bytes
-abbrev pub LinesIn : ℕ → ℕ → ℕ → ℕ → ℕ → ℕ → ℕ → Type 0
-LinesIn byteCount base line step lines k n = (r i : ℕ) → r < lines → i < n → base + 8 * (r * line + (k + i) * step) + 8 ≤ byteCount
+-- the first n values of each of so many lines stand in the bytes
+abbrev pub LinesIn : ℕ → ℕ → ℕ → ℕ → ℕ → ℕ → Type 0
+LinesIn byteCount base line step lines n = (r i : ℕ) → r < lines → i < n → base + 8 * (r * line + i * step) + 8 ≤ byteCount
 
--- a piece with +0 above the diagonal, and so many terms of each other sum
-unfoldable pub lowerPiece : Format → ℕ → ℕ → (ℕ → ℕ → Float) → (ℕ → ℕ → ℕ) → List Float
-unfolding pieceOf
-lowerPiece f height width value terms =
-    pieceOf height width (λ r c. cond (leb c r) (sumMore f plusZero (value r) (value c) (terms r c)) plusZero)
+-- the first n values from a place on are no NaN's patterns
+abbrev pub Finite : List ℕ → ℕ → ℕ → Type 0
+Finite bytes at n = (i : ℕ) → i < n → leNumber (take 8 (drop (at + 8 * i) bytes)) % 9223372036854775808 ≤ 9218868437227405312
+
+-- the first n values of lines r to r + m - 1, value i of line r + j at place i × g + j
+abbrev pub Tile : List Float → ℕ → (ℕ → ℕ → Float) → ℕ → ℕ → ℕ → Type 0
+Tile x g value r n m = (i j : ℕ) → i < n → j < m → getD x (i * g + j) nan ≡ value (r + j) i
 
 -- each sum with one product more, by v
 abbrev pub termMore : Format → (ℕ → Float) → Float → List Float → List Float
 termMore f value v sums = tabulate (length sums) (λ j. add f (getD sums j nan) (mul f (value j) v))
 
--- the sums of lines r, r + 1 and so on with line c, each with the n products more from term k on
-abbrev pub linesMore : Format → (ℕ → ℕ → Float) → ℕ → ℕ → ℕ → ℕ → List Float → List Float
-linesMore f value k n r c sums = tabulate (length sums) (λ j. sumMore f (getD sums j nan) (λ t. value (r + j) (k + t)) (λ t. value c (k + t)) n)
+-- sum j with the products of the first n values of x j and y more
+abbrev pub rowMore : Format → (ℕ → ℕ → Float) → (ℕ → Float) → ℕ → List Float → List Float
+rowMore f x y n sums = tabulate (length sums) (λ j. sumMore f (getD sums j nan) (x j) y n)
+
+-- a list's values at places a width apart, and the other places as before
+abbrev pub Put : List Float → ℕ → ℕ → List Float → List Float → Type 0
+Put src from width old new =
+    ((i : ℕ) → i < length src → getD new (from + i * width) nan ≡ getD src i nan)
+    × ((p : ℕ) → ((i : ℕ) → i < length src → p ≡ from + i * width → ⊥) → getD new p nan ≡ getD old p nan)
+
+-- entry (r, c) is on or below the diagonal, in rows top to bottom - 1 and columns left to right - 1
+abbrev pub inBlock : ℕ → ℕ → ℕ → ℕ → ℕ → ℕ → Bool
+inBlock top bottom left right r c = leb c r && (leb top r && (ltb r bottom && (leb left c && ltb c right)))
+
+-- a piece with n products more in each entry of a block
+unfoldable pub blockMore : Format → ℕ → (ℕ → ℕ → Float) → ℕ → ℕ → ℕ → ℕ → ℕ → List Float → List Float
+blockMore f width value n top bottom left right piece =
+    tabulate (length piece) (λ p. cond (inBlock top bottom left right (p / width) (p % width)) (sumMore f (getD piece p nan) (value (p / width)) (value (p % width)) n) (getD piece p nan))
+
+-- a piece with +0 above the diagonal, and n terms of each other sum
+unfoldable pub lowerPiece : Format → ℕ → ℕ → (ℕ → ℕ → Float) → ℕ → List Float
+unfolding pieceOf
+lowerPiece f height width value n = pieceOf height width (λ r c. cond (leb c r) (sumMore f plusZero (value r) (value c) n) plusZero)

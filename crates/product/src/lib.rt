@@ -1,9 +1,8 @@
 // The pieces of A'A and AA', from a matrix of f64 in lent bytes.
 ghost use mathlib.Core.Path.{_≡_};
-ghost use mathlib.Core.Bool.{true, cond, _&&_};
-ghost use mathlib.Core.Logic.{_⊎_};
+ghost use mathlib.Core.Bool.{cond, _&&_};
 ghost use Prim.Native.Nat.{ℕ, _+_, _*_, _/_, _%_, _^_, _<_, _≤_, min};
-ghost use lib.Dec.{leb, ltb};
+ghost use lib.Dec.{leb};
 ghost use lib.ListN.{length, getD, take, drop};
 ghost use lib.Ieee.{nan, binary64, ofBits};
 ghost use Rattle.genotype.specs.Answer.{countLimit};
@@ -12,7 +11,7 @@ ghost use Rattle.product.specs.Values.{leNumber, floatAt};
 ghost use Rattle.product.specs.Dot.{plusZero};
 ghost use Rattle.product.specs.Piece.{pieceAnswer, goodPiece, enoughBytes, ataAnswer, ataLeaves, aatAnswer, aatLeaves};
 ghost use Rattle.product.specs.Says.{pieceSays};
-ghost use Rattle.product.specs.Steps.{sumMore, lineValue, LinesIn, lowerPiece};
+ghost use Rattle.product.specs.Steps.{lineValue, Finite, LinesIn, Tile, termMore, rowMore, blockMore, lowerPiece};
 
 mod narrow;
 
@@ -90,22 +89,31 @@ fn float_at(bytes: &[u8], at: usize) -> f64
     float_of_bits(eight_at(bytes, at))
 }
 
-// Fills dst with values from a place on, each step values after the one before.
+// Value i of those from a place on, each step values after the one before.
+fn term(bytes: &[u8], at: usize, step: usize, i: usize) -> f64
+    requires { ⌜ at + 8 * (i * step) + 8 ≤ length (now bytes) ⌝ }
+    ensures { λ v. ⌜ v ≡ floatAt (now (bytes .entry)) (at + 8 * (i * step)) ⌝ }
+{
+    float_at(bytes, at + 8 * (i * step))
+}
+
+// Fills dst with such values.
 fn load(bytes: &[u8], at: usize, step: usize, dst: &mut [f64])
     requires { ⌜ ((i : ℕ) → i < length (now dst) → at + 8 * (i * step) + 8 ≤ length (now bytes)) ⌝ }
     ensures { λ _. ⌜ now (dst .exit) ≡ tabulate (length (now (dst .entry))) (λ i. floatAt (now (bytes .entry)) (at + 8 * (i * step))) ⌝ }
 {
     let mut i = 0;
     while i < dst.len() {
-        dst[i] = float_at(bytes, at + 8 * (i * step));
+        dst[i] = term(bytes, at, step, i);
         i += 1;
     }
 }
 
 // The pieces are formed from lines of values: columns for A'A, rows for AA'. Value k of line r stands at
-// base + 8 × (r × line + k × step). The sums grow in passes of some terms each, so AA' goes once through the
-// matrix. In a pass the columns of the piece are taken in tiles of up to 64, whose values are made floats once for
-// all rows; a narrow piece is taken column by column.
+// base + 8 × (r × line + k × step). The rows of the piece are taken in blocks, and a block's terms in passes. The
+// values of a block in a pass are made floats once, in a tile; then each column's sums in the block are taken out,
+// get their products, and are put back. A'A goes through all passes of a block and then to the next block, AA'
+// through all blocks of a pass and then to the next pass: so each reads the matrix as it stands, about once.
 
 // Where value k of line r stands.
 fn place(base: usize, line: usize, step: usize, r: usize, k: usize) -> usize
@@ -115,150 +123,303 @@ fn place(base: usize, line: usize, step: usize, r: usize, k: usize) -> usize
     base + 8 * (r * line + k * step)
 }
 
-// Loads a tile: value k + i of line c + j to x[i × 64 + j], for i below n and j below m.
+// Fills dst with neighbouring values, none of them a NaN.
+fn load_finite(bytes: &[u8], at: usize, dst: &mut [f64])
+    requires { ⌜ (at + 8 * length (now dst) ≤ length (now bytes)) × Finite (now bytes) at (length (now dst)) ⌝ }
+    ensures { λ _. ⌜ now (dst .exit) ≡ tabulate (length (now (dst .entry))) (λ i. floatAt (now (bytes .entry)) (at + 8 * i)) ⌝ }
+{
+    let mut i = 0;
+    while i < dst.len() {
+        let bits = eight_at(bytes, at + 8 * i);
+        dst[i] = f64::from_bits(bits);
+        i += 1;
+    }
+}
+
+// The same of eight values.
+fn load_eight(bytes: &[u8], at: usize, step: usize, dst: &mut [f64])
+    requires { ⌜ (length (now dst) ≡ 8) × ((i : ℕ) → i < 8 → at + 8 * (i * step) + 8 ≤ length (now bytes)) ⌝ }
+    ensures { λ _. ⌜ now (dst .exit) ≡ tabulate (length (now (dst .entry))) (λ i. floatAt (now (bytes .entry)) (at + 8 * (i * step))) ⌝ }
+{
+    dst[0] = term(bytes, at, step, 0);
+    dst[1] = term(bytes, at, step, 1);
+    dst[2] = term(bytes, at, step, 2);
+    dst[3] = term(bytes, at, step, 3);
+    dst[4] = term(bytes, at, step, 4);
+    dst[5] = term(bytes, at, step, 5);
+    dst[6] = term(bytes, at, step, 6);
+    dst[7] = term(bytes, at, step, 7);
+}
+
+// Fills dst with the values of lines from a place on.
+fn load_lines(bytes: &[u8], at: usize, line: usize, dst: &mut [f64])
+    requires { ⌜ (0 < length (now dst)) × ((i : ℕ) → i < length (now dst) → at + 8 * (i * line) + 8 ≤ length (now bytes)) ⌝ }
+    ensures { λ _. ⌜ now (dst .exit) ≡ tabulate (length (now (dst .entry))) (λ i. floatAt (now (bytes .entry)) (at + 8 * (i * line))) ⌝ }
+{
+    if line == 1 {
+        if narrow::all_finite(bytes, at, dst.len()) {
+            load_finite(bytes, at, dst);
+            return;
+        }
+    }
+    if dst.len() == 8 {
+        load_eight(bytes, at, line, dst);
+        return;
+    }
+    load(bytes, at, line, dst);
+}
+
+// Loads a tile: value i of line r + j to x[i × g + j], for i below n and j below m.
 fn load_tile(
     bytes: &[u8],
     base: usize,
     line: usize,
     step: usize,
-    k: usize,
     n: usize,
-    c: usize,
+    r: usize,
     m: usize,
+    g: usize,
     x: &mut [f64],
 )
-    requires { ⌜ (n ≤ 32) × (k + n < 2 ^ 64) × (0 < m) × (m ≤ 64) × (length (now x) ≡ 2048) × LinesIn (length (now bytes)) base line step (c + m) k n ⌝ }
-    ensures { λ _. ⌜ ((i j : ℕ) → i < n → j < m → getD (now (x .exit)) (i * 64 + j) nan ≡ lineValue (now (bytes .entry)) base line step (c + j) (k + i)) ⌝ }
+    requires { ⌜ (0 < m) × (m ≤ g) × (n * g ≤ length (now x)) × LinesIn (length (now bytes)) base line step (r + m) n ⌝ }
+    ensures { λ _. ⌜ Tile (now (x .exit)) g (lineValue (now (bytes .entry)) base line step) r n m ⌝ }
 {
     let mut i = 0;
     while i < n {
-        let at = place(base, line, step, c, k + i);
-        let from = i * 64;
+        let at = place(base, line, step, r, i);
+        let from = i * g;
         let end = from + m;
-        load(bytes, at, line, &mut x[from..end]);
+        load_lines(bytes, at, line, &mut x[from..end]);
         i += 1;
     }
 }
 
-// Adds the products of place i to each sum.
-fn add_one(x: &[f64], y: &[f64; 32], i: usize, sums: &mut [f64])
-    requires { ⌜ (i + 1 ≤ 32) × (length (now x) ≡ 2048) × (length (now sums) ≤ 64) ⌝ }
-    ensures { λ _. ⌜ now (sums .exit) ≡ tabulate (length (now (sums .entry))) (λ j. sumMore binary64 (getD (now (sums .entry)) j nan) (λ t. getD (now (y .entry)) (i + t) nan) (λ t. getD (now (x .entry)) ((i + t) * 64 + j) nan) 1) ⌝ }
+// Adds the products of y and the values of x from a place on, one to each sum.
+fn add_one(x: &[f64], from: usize, y: f64, sums: &mut [f64])
+    requires { ⌜ from + length (now sums) ≤ length (now x) ⌝ }
+    ensures { λ _. ⌜ now (sums .exit) ≡ termMore binary64 (λ j. getD (now (x .entry)) (from + j) nan) y (now (sums .entry)) ⌝ }
 {
-    let y0 = y[i];
-    let x0 = i * 64;
     let mut j = 0;
     while j < sums.len() {
-        sums[j] = sums[j] + y0 * x[x0 + j];
+        sums[j] = sums[j] + x[from + j] * y;
         j += 1;
     }
 }
 
-// Adds the products of places i to i + 3 to each sum, upward.
-fn add_four(x: &[f64], y: &[f64; 32], i: usize, sums: &mut [f64])
-    requires { ⌜ (i + 4 ≤ 32) × (length (now x) ≡ 2048) × (length (now sums) ≤ 64) ⌝ }
-    ensures { λ _. ⌜ now (sums .exit) ≡ tabulate (length (now (sums .entry))) (λ j. sumMore binary64 (getD (now (sums .entry)) j nan) (λ t. getD (now (y .entry)) (i + t) nan) (λ t. getD (now (x .entry)) ((i + t) * 64 + j) nan) 4) ⌝ }
+// Adds the products of places i to i + 3 of a tile's lines to each sum, upward.
+fn add_four(bytes: &[u8], at: usize, step: usize, i: usize, g: usize, x: &[f64], sums: &mut [f64])
+    requires { ⌜ (i + 4 < 2 ^ 64) × (length (now sums) ≤ g) × ((i + 4) * g ≤ length (now x)) × ((t : ℕ) → t < i + 4 → at + 8 * (t * step) + 8 ≤ length (now bytes)) ⌝ }
+    ensures { λ _. ⌜ now (sums .exit) ≡ rowMore binary64 (λ j t. getD (now (x .entry)) ((i + t) * g + j) nan) (λ t. floatAt (now (bytes .entry)) (at + 8 * ((i + t) * step))) 4 (now (sums .entry)) ⌝ }
 {
-    let y0 = y[i];
-    let y1 = y[i + 1];
-    let y2 = y[i + 2];
-    let y3 = y[i + 3];
-    let x0 = i * 64;
-    let x1 = (i + 1) * 64;
-    let x2 = (i + 2) * 64;
-    let x3 = (i + 3) * 64;
+    let y0 = term(bytes, at, step, i);
+    let y1 = term(bytes, at, step, i + 1);
+    let y2 = term(bytes, at, step, i + 2);
+    let y3 = term(bytes, at, step, i + 3);
+    let x0 = i * g;
+    let x1 = x0 + g;
+    let x2 = x1 + g;
+    let x3 = x2 + g;
     let mut j = 0;
     while j < sums.len() {
-        sums[j] = sums[j] + y0 * x[x0 + j] + y1 * x[x1 + j] + y2 * x[x2 + j] + y3 * x[x3 + j];
+        sums[j] = sums[j] + x[x0 + j] * y0 + x[x1 + j] * y1 + x[x2 + j] * y2 + x[x3 + j] * y3;
         j += 1;
     }
 }
 
-// Adds the products of places 0 to n - 1 to each sum, upward.
-fn add_many(x: &[f64], y: &[f64; 32], n: usize, sums: &mut [f64])
-    requires { ⌜ (n ≤ 32) × (length (now x) ≡ 2048) × (length (now sums) ≤ 64) ⌝ }
-    ensures { λ _. ⌜ now (sums .exit) ≡ tabulate (length (now (sums .entry))) (λ j. sumMore binary64 (getD (now (sums .entry)) j nan) (λ i. getD (now (y .entry)) i nan) (λ i. getD (now (x .entry)) (i * 64 + j) nan) n) ⌝ }
+// Adds the products of a tile's lines with one line, its first n values, to each sum, upward.
+fn add_many(bytes: &[u8], at: usize, step: usize, n: usize, g: usize, x: &[f64], sums: &mut [f64])
+    requires { ⌜ (length (now sums) ≤ g) × (n * g ≤ length (now x)) × ((t : ℕ) → t < n → at + 8 * (t * step) + 8 ≤ length (now bytes)) ⌝ }
+    ensures { λ _. ⌜ now (sums .exit) ≡ rowMore binary64 (λ j t. getD (now (x .entry)) (t * g + j) nan) (λ t. floatAt (now (bytes .entry)) (at + 8 * (t * step))) n (now (sums .entry)) ⌝ }
 {
     let mut i = 0;
-    while i + 4 <= n {
-        add_four(x, y, i, sums);
+    while n - i >= 4 {
+        add_four(bytes, at, step, i, g, x, sums);
         i += 4;
     }
     while i < n {
-        add_one(x, y, i, sums);
+        add_one(x, i * g, term(bytes, at, step, i), sums);
         i += 1;
     }
 }
 
-// Adds the products of the four values from a place on and step values apart to each sum, upward.
-fn add_row_of_four(bytes: &[u8], at: usize, step: usize, x: &[f64], sums: &mut [f64])
-    requires { ⌜ (length (now x) ≡ 2048) × (length (now sums) ≤ 64) × ((i : ℕ) → i < 4 → at + 8 * (i * step) + 8 ≤ length (now bytes)) ⌝ }
-    ensures { λ _. ⌜ now (sums .exit) ≡ tabulate (length (now (sums .entry))) (λ j. sumMore binary64 (getD (now (sums .entry)) j nan) (λ i. floatAt (now (bytes .entry)) (at + 8 * (i * step))) (λ i. getD (now (x .entry)) (i * 64 + j) nan) 4) ⌝ }
+// The same for up to eight sums, which are at hand for all terms. Spare sums get spare values.
+fn add_eight(bytes: &[u8], at: usize, step: usize, n: usize, g: usize, x: &[f64], sums: &mut [f64])
+    requires { ⌜ (length (now sums) ≤ 8) × (n * g + 8 ≤ length (now x)) × ((t : ℕ) → t < n → at + 8 * (t * step) + 8 ≤ length (now bytes)) ⌝ }
+    ensures { λ _. ⌜ now (sums .exit) ≡ rowMore binary64 (λ j t. getD (now (x .entry)) (t * g + j) nan) (λ t. floatAt (now (bytes .entry)) (at + 8 * (t * step))) n (now (sums .entry)) ⌝ }
 {
-    let mut y = [0.0f64; 32];
-    y[0] = float_at(bytes, at);
-    y[1] = float_at(bytes, at + 8 * step);
-    y[2] = float_at(bytes, at + 8 * (2 * step));
-    y[3] = float_at(bytes, at + 8 * (3 * step));
-    add_four(x, &y, 0, sums);
+    let m = sums.len();
+    let mut s = [0.0f64; 8];
+    narrow::take_out(sums, 0, 1, &mut s[0..m]);
+    let mut i = 0;
+    while i < n {
+        add_one(x, i * g, term(bytes, at, step, i), &mut s);
+        i += 1;
+    }
+    narrow::put_back(&s[0..m], 0, 1, sums);
 }
 
-// Adds terms k to k + n - 1 to the sums of columns c to c + m - 1, in each row as far as the diagonal.
-fn add_rows(
+// Adds n products to the sums of lines r, r + 1 and so on with line c: from a tile if it has all n terms, else
+// straight from the bytes.
+fn add_products(
     bytes: &[u8],
     base: usize,
     line: usize,
     step: usize,
-    k: usize,
     n: usize,
+    r: usize,
     c: usize,
-    m: usize,
+    loaded: usize,
+    g: usize,
     x: &[f64],
-    height: usize,
-    width: usize,
-    piece: &mut [f64],
+    sums: &mut [f64],
 )
-    requires { ⌜ (0 < n) × (n ≤ 32) × (0 < m) × (m ≤ 64) × (c + m ≤ width) × (length (now x) ≡ 2048) × LinesIn (length (now bytes)) base line step height k n × ((i j : ℕ) → i < n → j < m → getD (now x) (i * 64 + j) nan ≡ lineValue (now bytes) base line step (c + j) (k + i)) × (now piece ≡ lowerPiece binary64 height width (lineValue (now bytes) base line step) (λ r' c'. cond (ltb c' c) (k + n) k)) ⌝ }
-    ensures { λ _. ⌜ now (piece .exit) ≡ lowerPiece binary64 height width (lineValue (now (bytes .entry)) base line step) (λ r' c'. cond (ltb c' (c + m)) (k + n) k) ⌝ }
+    requires { ⌜ (0 < length (now sums)) × (length (now sums) ≤ g) × (0 < n) × (c < r + length (now sums)) × (r + length (now sums) < 2 ^ 64) × (loaded * g + 8 ≤ length (now x)) × LinesIn (length (now bytes)) base line step (r + length (now sums)) n × Tile (now x) g (lineValue (now bytes) base line step) r loaded (length (now sums)) ⌝ }
+    ensures { λ _. ⌜ now (sums .exit) ≡ rowMore binary64 (λ j t. lineValue (now (bytes .entry)) base line step (r + j) t) (λ t. lineValue (now (bytes .entry)) base line step c t) n (now (sums .entry)) ⌝ }
 {
-    let mut y = [0.0f64; 32];
-    let mut r = c;
-    while r < height {
-        let at = place(base, line, step, r, k);
-        let from = r * width + c;
-        let end = from + least(m, r - c + 1);
-        if n == 4 {
-            add_row_of_four(bytes, at, step, x, &mut piece[from..end]);
+    if loaded == n {
+        let at = place(base, line, step, c, 0);
+        if sums.len() <= 8 {
+            add_eight(bytes, at, step, n, g, x, sums);
         } else {
-            load(bytes, at, step, &mut y[0..n]);
-            add_many(x, &y, n, &mut piece[from..end]);
+            add_many(bytes, at, step, n, g, x, sums);
         }
-        r += 1;
+    } else {
+        narrow::add_across(bytes, base, line, step, n, r, c, sums);
     }
 }
 
-// Adds terms k to k + n - 1 to every sum.
-fn add_tiles(
+// Adds n products to the sums of as many rows from r on as there is room for.
+fn add_block(
     bytes: &[u8],
     base: usize,
     line: usize,
     step: usize,
-    k: usize,
     n: usize,
-    height: usize,
+    r: usize,
+    loaded: usize,
+    g: usize,
+    x: &[f64],
+    width: usize,
+    room: &mut [f64],
+    piece: &mut [f64],
+)
+    requires { ⌜ (0 < length (now room)) × (length (now room) ≤ g) × (0 < n) × (r + length (now room) < 2 ^ 64) × (loaded * g + 8 ≤ length (now x)) × LinesIn (length (now bytes)) base line step (r + length (now room)) n × Tile (now x) g (lineValue (now bytes) base line step) r loaded (length (now room)) × (0 < width) × ((r + length (now room)) * width ≤ length (now piece)) ⌝ }
+    ensures { λ _. ⌜ now (piece .exit) ≡ blockMore binary64 width (lineValue (now (bytes .entry)) base line step) n r (r + length (now (room .entry))) 0 width (now (piece .entry)) ⌝ }
+{
+    let end = least(width, r + room.len());
+    let mut c = 0;
+    while c < end {
+        let from = r * width + c;
+        narrow::take_out(piece, from, width, room);
+        add_products(bytes, base, line, step, n, r, c, loaded, g, x, room);
+        let above = c - least(c, r);
+        narrow::put_back(&room[above..], from + above * width, width, piece);
+        c += 1;
+    }
+}
+
+// Adds n products to the sums of rows top to bottom - 1.
+fn add_blocks(
+    bytes: &[u8],
+    base: usize,
+    line: usize,
+    step: usize,
+    n: usize,
+    loaded: usize,
+    g: usize,
+    top: usize,
+    bottom: usize,
     width: usize,
     x: &mut [f64],
     piece: &mut [f64],
 )
-    requires { ⌜ (0 < n) × (n ≤ 32) × (k + n < 2 ^ 64) × (width ≤ height) × (length (now x) ≡ 2048) × LinesIn (length (now bytes)) base line step height k n × (now piece ≡ lowerPiece binary64 height width (lineValue (now bytes) base line step) (λ r c. k)) ⌝ }
-    ensures { λ _. ⌜ now (piece .exit) ≡ lowerPiece binary64 height width (lineValue (now (bytes .entry)) base line step) (λ r c. k + n) ⌝ }
+    requires { ⌜ (0 < g) × (g ≤ 64) × (0 < n) × (loaded ≤ n) × (loaded * g + 8 ≤ length (now x)) × (0 < width) × (top ≤ bottom) × (bottom * width ≤ length (now piece)) × LinesIn (length (now bytes)) base line step bottom n ⌝ }
+    ensures { λ _. ⌜ now (piece .exit) ≡ blockMore binary64 width (lineValue (now (bytes .entry)) base line step) n top bottom 0 width (now (piece .entry)) ⌝ }
 {
-    let mut c = 0;
-    while c < width {
-        let m = least(64, width - c);
-        load_tile(bytes, base, line, step, k, n, c, m, x);
-        add_rows(bytes, base, line, step, k, n, c, m, x, height, width, piece);
-        c += m;
+    let mut room = [0.0f64; 64];
+    let mut r = top;
+    while r < bottom {
+        let m = least(g, bottom - r);
+        load_tile(bytes, base, line, step, loaded, r, m, g, x);
+        add_block(
+            bytes,
+            base,
+            line,
+            step,
+            n,
+            r,
+            loaded,
+            g,
+            x,
+            width,
+            &mut room[0..m],
+            piece,
+        );
+        r += m;
+    }
+}
+
+// How many rows a block has.
+fn block_rows(line: usize) -> usize
+    ensures { λ r. ⌜ (0 < r) × (r ≤ 64) ⌝ }
+{
+    if line == 1 {
+        return 64;
+    }
+    8
+}
+
+// How many terms a tile holds, for blocks of so many rows: none where it would serve one column only.
+fn tile_terms(rows: usize, width: usize) -> usize
+    requires { ⌜ 0 < rows ⌝ }
+    ensures { λ r. ⌜ r * rows ≤ 2048 ⌝ }
+{
+    if rows == 64 {
+        if width == 1 {
+            return 0;
+        }
+    }
+    2048 / rows
+}
+
+// Adds all terms to the sums of rows top to bottom - 1.
+fn add_terms(
+    bytes: &[u8],
+    base: usize,
+    line: usize,
+    step: usize,
+    count: usize,
+    top: usize,
+    bottom: usize,
+    width: usize,
+    x: &mut [f64],
+    piece: &mut [f64],
+)
+    requires { ⌜ (2056 ≤ length (now x)) × (0 < width) × (top < bottom) × (bottom * width ≤ length (now piece)) × LinesIn (length (now bytes)) base line step bottom count ⌝ }
+    ensures { λ _. ⌜ now (piece .exit) ≡ blockMore binary64 width (lineValue (now (bytes .entry)) base line step) count top bottom 0 width (now (piece .entry)) ⌝ }
+{
+    let g = block_rows(line);
+    let tile = tile_terms(g, width);
+    let mut k = 0;
+    while k < count {
+        let n = least(2048 / g, count - k);
+        let at = place(base, line, step, 0, k);
+        let loaded = least(tile, n);
+        add_blocks(
+            bytes,
+            at,
+            line,
+            step,
+            n,
+            loaded,
+            g,
+            top,
+            bottom,
+            width,
+            x,
+            piece,
+        );
+        k += n;
     }
 }
 
@@ -273,57 +434,15 @@ fn clear(piece: &mut [f64])
     }
 }
 
-// Whether a piece is formed column by column.
-fn is_narrow(line: usize, width: usize) -> bool {
+// How many rows get all their terms before the next ones.
+fn rows_together(line: usize, height: usize) -> usize
+    requires { ⌜ 0 < height ⌝ }
+    ensures { λ r. ⌜ 0 < r ⌝ }
+{
     if line == 1 {
-        return width < 3;
+        return height;
     }
-    width < 5
-}
-
-// How many terms a pass adds. Column by column: few where neighbouring lines have neighbouring values, which stay at
-// hand for every column; else all, with four lines at hand. In tiles: 32, or 4 where rows are short.
-fn pass_terms(narrow: bool, line: usize, width: usize, count: usize) -> usize
-    requires { ⌜ 0 < count ⌝ }
-    ensures { λ r. ⌜ (0 < r) × (r ≤ 32 ⊎ (narrow ≡ true)) ⌝ }
-{
-    if line != 1 {
-        if narrow {
-            return count;
-        }
-        return 32;
-    }
-    if narrow {
-        return 8;
-    }
-    if width < 16 {
-        return 4;
-    }
-    32
-}
-
-// Adds terms k to k + n - 1 to every sum: by columns, or by tiles.
-fn add_terms(
-    bytes: &[u8],
-    base: usize,
-    line: usize,
-    step: usize,
-    k: usize,
-    n: usize,
-    height: usize,
-    width: usize,
-    narrow: bool,
-    x: &mut [f64],
-    piece: &mut [f64],
-)
-    requires { ⌜ (0 < n) × (n ≤ 32 ⊎ (narrow ≡ true)) × (k + n < 2 ^ 64) × (width ≤ height) × (length (now x) ≡ 2048) × LinesIn (length (now bytes)) base line step height k n × (now piece ≡ lowerPiece binary64 height width (lineValue (now bytes) base line step) (λ r c. k)) ⌝ }
-    ensures { λ _. ⌜ now (piece .exit) ≡ lowerPiece binary64 height width (lineValue (now (bytes .entry)) base line step) (λ r c. k + n) ⌝ }
-{
-    if narrow {
-        narrow::add_columns(bytes, base, line, step, k, n, height, width, piece);
-    } else {
-        add_tiles(bytes, base, line, step, k, n, height, width, x, piece);
-    }
+    8
 }
 
 // Forms the sums on and below the diagonal, and +0 above it.
@@ -338,32 +457,33 @@ fn lower_piece(
     width: usize,
     piece: &mut [f64],
 )
-    requires { ⌜ (0 < height) × (width ≤ height) × (length (now piece) ≡ height * width) × LinesIn (length (now bytes)) (offset + 8 * first) line step height 0 count ⌝ }
-    ensures { λ _. ⌜ now (piece .exit) ≡ lowerPiece binary64 height width (lineValue (now (bytes .entry)) (offset + 8 * first) line step) (λ r c. count) ⌝ }
+    requires { ⌜ (0 < height) × (width ≤ height) × (length (now piece) ≡ height * width) × LinesIn (length (now bytes)) (offset + 8 * first) line step height count ⌝ }
+    ensures { λ _. ⌜ now (piece .exit) ≡ lowerPiece binary64 height width (lineValue (now (bytes .entry)) (offset + 8 * first) line step) count ⌝ }
 {
     clear(piece);
+    if width == 0 {
+        return;
+    }
     if count > 0 {
         let base = offset as usize + 8 * first;
-        let narrow = is_narrow(line, width);
-        let pass = pass_terms(narrow, line, width, count);
-        let mut x = [0.0f64; 2048];
-        let mut k = 0;
-        while k < count {
-            let n = least(pass, count - k);
+        let rows = rows_together(line, height);
+        let mut x = [0.0f64; 2056];
+        let mut r = 0;
+        while r < height {
+            let bottom = r + least(rows, height - r);
             add_terms(
                 bytes,
                 base,
                 line,
                 step,
-                k,
-                n,
-                height,
+                count,
+                r,
+                bottom,
                 width,
-                narrow,
                 &mut x,
                 piece,
             );
-            k += n;
+            r = bottom;
         }
     }
 }

@@ -1,52 +1,42 @@
-use mathlib.Core.Path.{_≡_, refl, _∙_}
-use Prim.Native.Nat.{_-_, _≤_}
+-- `add_four`: the sums before place j have their products.
+use mathlib.Core.Path.{_≡_, refl, ap, _∙_}
+use Prim.Native.Nat.{ℕ, _+_, _-_, _*_, _≤_}
 use native.Mathlib.Omega.{arith}
 use borrow.Author.Needs.{needs}
-use lib.ListN.{length, length-set}
-use lib.Ieee.{binary64}
+use lib.ListN.{length, getD, length-set}
+use lib.Ieee.{nan, binary64}
+use Rattle.product.specs.Values.{floatAt}
 use Rattle.product.proofs.InPlace.{filled, filled-none, filled-all}
-use Rattle.product.proofs.Rows.{grown, four-step}
+use Rattle.product.proofs.Rows.{byFour, four-step}
 use Rattle.product.proofs.add_four.Statement.{statement}
 use Rattle.product.proofs.add_four.Tie as tie
 
 abbrev Inv-loop : tie.InvT-loop
-Inv-loop x y i sums₀ y0 y1 y2 y3 x0 x1 x2 x3 j₀ sums j = (j ≤ length sums₀) × (length sums ≡ length sums₀) × (sums ≡ filled (grown binary64 x y i 4 sums₀) j sums₀)
+Inv-loop bytes at step i g x sums₀ y0 y1 y2 y3 x0 x1 x2 x3 j₀ sums j = (j ≤ length sums₀) × (length sums ≡ length sums₀) × (sums ≡ filled (byFour binary64 (λ j t. getD x ((i + t) * g + j) nan) (λ t. floatAt bytes (at + 8 * ((i + t) * step))) sums₀) j sums₀)
 
 abbrev μ-loop : tie.MeasureT-loop
-μ-loop x y i sums₀ y0 y1 y2 y3 x0 x1 x2 x3 j₀ sums j = length sums₀ - j
+μ-loop bytes at step i g x sums₀ y0 y1 y2 y3 x0 x1 x2 x3 j₀ sums j = length sums₀ - j
 
-mul-y0 : tie.Need-mul-y0 Inv-loop μ-loop
-mul-y0 c = omega arith
+term-requires : tie.Need-term-requires Inv-loop μ-loop
+term-requires c κs = c .before .before .before .pre .3 (c .before .before .before .args .i) (omega arith)
 
-element-copy-out-y0 : tie.Need-element-copy-out-y0 Inv-loop μ-loop
-element-copy-out-y0 c = omega arith
+add-term : tie.Need-add-term Inv-loop μ-loop
+add-term c = omega arith
 
-add-y1 : tie.Need-add-y1 Inv-loop μ-loop
-add-y1 c = omega arith
+term-requires-2 : tie.Need-term-requires-2 Inv-loop μ-loop
+term-requires-2 c κs = c .before .before .before .before .pre .3 (c .before .before .before .before .args .i + 1) (omega arith)
 
-mul-y1 : tie.Need-mul-y1 Inv-loop μ-loop
-mul-y1 c = omega arith
+add-term-2 : tie.Need-add-term-2 Inv-loop μ-loop
+add-term-2 c = omega arith
 
-element-copy-out-y1 : tie.Need-element-copy-out-y1 Inv-loop μ-loop
-element-copy-out-y1 c = omega arith
+term-requires-3 : tie.Need-term-requires-3 Inv-loop μ-loop
+term-requires-3 c κs = c .before .before .before .before .before .pre .3 (c .before .before .before .before .before .args .i + 2) (omega arith)
 
-add-y2 : tie.Need-add-y2 Inv-loop μ-loop
-add-y2 c = omega arith
+add-term-3 : tie.Need-add-term-3 Inv-loop μ-loop
+add-term-3 c = omega arith
 
-mul-y2 : tie.Need-mul-y2 Inv-loop μ-loop
-mul-y2 c = omega arith
-
-element-copy-out-y2 : tie.Need-element-copy-out-y2 Inv-loop μ-loop
-element-copy-out-y2 c = omega arith
-
-add-y3 : tie.Need-add-y3 Inv-loop μ-loop
-add-y3 c = omega arith
-
-mul-y3 : tie.Need-mul-y3 Inv-loop μ-loop
-mul-y3 c = omega arith
-
-element-copy-out-y3 : tie.Need-element-copy-out-y3 Inv-loop μ-loop
-element-copy-out-y3 c = omega arith
+term-requires-4 : tie.Need-term-requires-4 Inv-loop μ-loop
+term-requires-4 c κs = c .before .before .before .before .before .before .pre .3 (c .before .before .before .before .before .before .args .i + 3) (omega arith)
 
 mul-x0 : tie.Need-mul-x0 Inv-loop μ-loop
 mul-x0 c = omega arith
@@ -54,20 +44,11 @@ mul-x0 c = omega arith
 add-x1 : tie.Need-add-x1 Inv-loop μ-loop
 add-x1 c = omega arith
 
-mul-x1 : tie.Need-mul-x1 Inv-loop μ-loop
-mul-x1 c = omega arith
-
 add-x2 : tie.Need-add-x2 Inv-loop μ-loop
 add-x2 c = omega arith
 
-mul-x2 : tie.Need-mul-x2 Inv-loop μ-loop
-mul-x2 c = omega arith
-
 add-x3 : tie.Need-add-x3 Inv-loop μ-loop
 add-x3 c = omega arith
-
-mul-x3 : tie.Need-mul-x3 Inv-loop μ-loop
-mul-x3 c = omega arith
 
 loop-holds : tie.Need-loop-holds Inv-loop μ-loop
 loop-holds c = (search needs, refl, filled-none _ _)
@@ -128,9 +109,9 @@ loop-less c = omega arith
 
 loop-again : tie.Need-loop-again Inv-loop μ-loop
 loop-again c =
-    let a = c .before .before .before .before .before .before .before .before .before .before .before .args in
+    let a = c .before .before .before .before .before .before .before .before .before .before .before .before .before .before .args in
     let w = c .before .before .before .before .before .before .loop in
-    (omega arith, simp length-set (omega arith), four-step binary64 (a .x .now) (a .y .now) (a .sums .now) (w .sums) (a .i) (w .j) (omega arith) (w .inv .2))
+    (omega arith, simp length-set (omega arith), four-step binary64 (λ j t. getD (a .x .now) ((a .i + t) * a .g + j) nan) (λ t. floatAt (a .bytes .now) (a .at + 8 * ((a .i + t) * a .step))) (a .sums .now) (w .sums) (w .j) (getD (a .x .now) (a .i * a .g + w .j) nan) (getD (a .x .now) (a .i * a .g + a .g + w .j) nan) (getD (a .x .now) (a .i * a .g + a .g + a .g + w .j) nan) (getD (a .x .now) (a .i * a .g + a .g + a .g + a .g + w .j) nan) (c .before .before .before .before .before .before .before .before .before .before .term .result) (c .before .before .before .before .before .before .before .before .before .term2 .result) (c .before .before .before .before .before .before .before .before .term3 .result) (c .before .before .before .before .before .before .before .term4 .result) (ap (λ (k : ℕ). getD (a .x .now) k nan) (let u : a .i * a .g + w .j ≡ (a .i + 0) * a .g + w .j = omega arith in u)) (ap (λ (k : ℕ). getD (a .x .now) k nan) (let u : a .i * a .g + a .g + w .j ≡ (a .i + 1) * a .g + w .j = omega arith in u)) (ap (λ (k : ℕ). getD (a .x .now) k nan) (let u : a .i * a .g + a .g + a .g + w .j ≡ (a .i + 2) * a .g + w .j = omega arith in u)) (ap (λ (k : ℕ). getD (a .x .now) k nan) (let u : a .i * a .g + a .g + a .g + a .g + w .j ≡ (a .i + 3) * a .g + w .j = omega arith in u)) (c .before .before .before .before .before .before .before .before .before .before .term .ensures ∙ ap (λ (k : ℕ). floatAt (a .bytes .now) (a .at + 8 * (k * a .step))) (let u : a .i ≡ a .i + 0 = omega arith in u)) (c .before .before .before .before .before .before .before .before .before .term2 .ensures) (c .before .before .before .before .before .before .before .before .term3 .ensures) (c .before .before .before .before .before .before .before .term4 .ensures) (omega arith) (w .inv .2))
 
 same-length : tie.Need-same-length Inv-loop μ-loop
 same-length c = c .before .loop .inv .1
@@ -144,24 +125,17 @@ add-four-spec =
     (tie.spec
     Inv-loop
     μ-loop
-    mul-y0
-    element-copy-out-y0
-    add-y1
-    mul-y1
-    element-copy-out-y1
-    add-y2
-    mul-y2
-    element-copy-out-y2
-    add-y3
-    mul-y3
-    element-copy-out-y3
+    term-requires
+    add-term
+    term-requires-2
+    add-term-2
+    term-requires-3
+    add-term-3
+    term-requires-4
     mul-x0
     add-x1
-    mul-x1
     add-x2
-    mul-x2
     add-x3
-    mul-x3
     loop-holds
     mul-sums
     slice-read-sums

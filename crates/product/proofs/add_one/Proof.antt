@@ -1,28 +1,20 @@
+-- `add_one`: the sums before place j have their product.
 use mathlib.Core.Path.{_≡_, refl, _∙_}
-use Prim.Native.Nat.{_-_, _≤_}
+use Prim.Native.Nat.{_+_, _-_, _≤_}
 use native.Mathlib.Omega.{arith}
 use borrow.Author.Needs.{needs}
-use lib.ListN.{length, length-set}
-use lib.Ieee.{binary64}
+use lib.ListN.{length, getD, length-set}
+use lib.Ieee.{nan, binary64}
 use Rattle.product.proofs.InPlace.{filled, filled-none, filled-all}
-use Rattle.product.proofs.Rows.{grown, one-step}
+use Rattle.product.proofs.Rows.{withTerm, term-step}
 use Rattle.product.proofs.add_one.Statement.{statement}
 use Rattle.product.proofs.add_one.Tie as tie
 
 abbrev Inv-loop : tie.InvT-loop
-Inv-loop x y i sums₀ y0 x0 j₀ sums j = (j ≤ length sums₀) × (length sums ≡ length sums₀) × (sums ≡ filled (grown binary64 x y i 1 sums₀) j sums₀)
+Inv-loop x from y sums₀ j₀ sums j = (j ≤ length sums₀) × (length sums ≡ length sums₀) × (sums ≡ filled (withTerm binary64 (λ j. getD x (from + j) nan) y sums₀) j sums₀)
 
 abbrev μ-loop : tie.MeasureT-loop
-μ-loop x y i sums₀ y0 x0 j₀ sums j = length sums₀ - j
-
-mul-y0 : tie.Need-mul-y0 Inv-loop μ-loop
-mul-y0 c = omega arith
-
-element-copy-out-y0 : tie.Need-element-copy-out-y0 Inv-loop μ-loop
-element-copy-out-y0 c = omega arith
-
-mul-x0 : tie.Need-mul-x0 Inv-loop μ-loop
-mul-x0 c = omega arith
+μ-loop x from y sums₀ j₀ sums j = length sums₀ - j
 
 loop-holds : tie.Need-loop-holds Inv-loop μ-loop
 loop-holds c = (search needs, refl, filled-none _ _)
@@ -56,9 +48,9 @@ loop-less c = omega arith
 
 loop-again : tie.Need-loop-again Inv-loop μ-loop
 loop-again c =
-    let a = c .before .before .before .before .before .args in
+    let a = c .before .before .before .before .args in
     let w = c .before .before .before .loop in
-    (omega arith, simp length-set (omega arith), one-step binary64 (a .x .now) (a .y .now) (a .sums .now) (w .sums) (a .i) (w .j) (omega arith) (w .inv .2))
+    (omega arith, simp length-set (omega arith), term-step binary64 (λ j. getD (a .x .now) (a .from + j) nan) (a .y) (a .sums .now) (w .sums) (w .j) (getD (a .x .now) (a .from + w .j) nan) (w .inv .2) (omega arith) refl)
 
 same-length : tie.Need-same-length Inv-loop μ-loop
 same-length c = c .before .loop .inv .1
@@ -72,9 +64,6 @@ add-one-spec =
     (tie.spec
     Inv-loop
     μ-loop
-    mul-y0
-    element-copy-out-y0
-    mul-x0
     loop-holds
     mul-sums
     slice-read-sums

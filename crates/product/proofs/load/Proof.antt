@@ -1,3 +1,4 @@
+-- `load`: the places before i are filled.
 use mathlib.Core.Path.{_≡_, refl, _∙_}
 use Prim.Native.Nat.{_+_, _-_, _*_, _≤_}
 use native.Mathlib.Omega.{arith}
@@ -17,34 +18,23 @@ abbrev μ-loop : tie.MeasureT-loop
 loop-holds : tie.Need-loop-holds Inv-loop μ-loop
 loop-holds c = (search needs, refl, filled-none _ _)
 
-mul-float-at : tie.Need-mul-float-at Inv-loop μ-loop
-mul-float-at c = omega (arith, c .before .before .before .before .pre (c .before .loop .i) (omega arith))
-
-mul-float-at-2 : tie.Need-mul-float-at-2 Inv-loop μ-loop
-mul-float-at-2 c = omega (arith, c .before .before .before .before .pre (c .before .loop .i) (omega arith))
-
-add-float-at : tie.Need-add-float-at Inv-loop μ-loop
-add-float-at c = omega (arith, c .before .before .before .before .pre (c .before .loop .i) (omega arith))
-
-float-at-requires : tie.Need-float-at-requires Inv-loop μ-loop
-float-at-requires c κs = c .before .before .before .before .pre (c .before .loop .i) (omega arith)
+term-requires : tie.Need-term-requires Inv-loop μ-loop
+term-requires c κs = c .before .before .before .before .pre (c .before .loop .i) (omega arith)
 
 mul-dst : tie.Need-mul-dst Inv-loop μ-loop
 mul-dst c = omega arith
 
 slice-write-dst : tie.Need-slice-write-dst Inv-loop μ-loop
-slice-write-dst c = search needs
+slice-write-dst c = omega arith
 
 add-i : tie.Need-add-i Inv-loop μ-loop
-add-i c = search needs
+add-i c = omega arith
 
 loop-less : tie.Need-loop-less Inv-loop μ-loop
 loop-less c = omega arith
 
 loop-again : tie.Need-loop-again Inv-loop μ-loop
-loop-again c =
-    let inv = c .before .before .loop .inv in
-    (omega arith, simp length-set (omega arith), filled-step _ _ _ _ _ (inv .2) (omega arith) (c .float-at .ensures))
+loop-again c = (omega arith, simp length-set (omega arith), filled-step _ _ _ _ _ (c .before .before .loop .inv .2) (omega arith) (c .term .ensures))
 
 same-length : tie.Need-same-length Inv-loop μ-loop
 same-length c = c .before .loop .inv .1
@@ -59,10 +49,7 @@ load-spec =
     Inv-loop
     μ-loop
     loop-holds
-    mul-float-at
-    mul-float-at-2
-    add-float-at
-    float-at-requires
+    term-requires
     mul-dst
     slice-write-dst
     add-i

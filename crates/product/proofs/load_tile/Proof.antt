@@ -1,3 +1,4 @@
+-- `load_tile`: the first i rows of the tile are loaded.
 use mathlib.Core.Path.{_≡_, refl, _∙_}
 use Prim.Native.Nat.{_+_, _-_, _*_, _≤_}
 use native.Mathlib.Nat.{not-suc-le-zero, add-sub-cancel-left}
@@ -5,54 +6,49 @@ use native.Mathlib.Omega.{arith}
 use borrow.Author.Needs.{needs}
 use lib.ListN.{length, take, drop}
 use borrow.Rule.Slice.PartMut.{same-len-mid}
+use Rattle.product.specs.Steps.{lineValue, Tile}
 use Rattle.product.proofs.Parts.{length-part}
-use Rattle.product.proofs.Tile.{TileTo, tile-more}
+use Rattle.product.proofs.Grid.{row-in}
+use Rattle.product.proofs.Tile.{tile-more}
 use Rattle.product.proofs.load_tile.Statement.{statement}
 use Rattle.product.proofs.load_tile.Tie as tie
 
 abbrev Inv-loop : tie.InvT-loop
-Inv-loop bytes base line step k n c m x₀ i₀ x i =
-    (i ≤ n) × (length x ≡ length x₀) × TileTo bytes base line step k c m x i
+Inv-loop bytes base line step n r m g x₀ i₀ x i = (i ≤ n) × (length x ≡ length x₀) × Tile x g (lineValue bytes base line step) r i m
 
 abbrev μ-loop : tie.MeasureT-loop
-μ-loop bytes base line step k n c m x₀ i₀ x i = n - i
+μ-loop bytes base line step n r m g x₀ i₀ x i = n - i
 
 loop-holds : tie.Need-loop-holds Inv-loop μ-loop
 loop-holds c = (search needs, refl, λ i' j h h'. absurd (not-suc-le-zero h))
 
-add-place : tie.Need-add-place Inv-loop μ-loop
-add-place c = omega arith
-
 place-requires : tie.Need-place-requires Inv-loop μ-loop
-place-requires c κs =
-    let s = c .before .before .before .before in
-    omega (arith, s .pre .5 (s .args .c) (c .before .loop .i) (omega arith) (omega arith))
+place-requires c κs = omega (arith, c .before .before .before .before .pre .3 (c .before .before .before .before .args .r) (c .before .loop .i) (omega arith) (omega arith))
 
 mul-from : tie.Need-mul-from Inv-loop μ-loop
-mul-from c = omega arith
+mul-from c = omega (arith, row-in (c .before .before .before .before .before .args .n) (c .before .before .before .before .before .args .g) (c .before .before .loop .i) (c .before .loop-test .taken))
 
 add-end : tie.Need-add-end Inv-loop μ-loop
-add-end c = omega arith
+add-end c = omega (arith, row-in (c .before .before .before .before .before .args .n) (c .before .before .before .before .before .args .g) (c .before .before .loop .i) (c .before .loop-test .taken))
 
-mul-load : tie.Need-mul-load Inv-loop μ-loop
-mul-load c = omega arith
+mul-load-lines : tie.Need-mul-load-lines Inv-loop μ-loop
+mul-load-lines c = omega (arith, row-in (c .before .before .before .before .before .args .n) (c .before .before .before .before .before .args .g) (c .before .before .loop .i) (c .before .loop-test .taken))
 
-sub-load : tie.Need-sub-load Inv-loop μ-loop
-sub-load c = omega arith
+sub-load-lines : tie.Need-sub-load-lines Inv-loop μ-loop
+sub-load-lines c = omega arith
 
-part-load-start : tie.Need-part-load-start Inv-loop μ-loop
-part-load-start c = omega arith
+part-load-lines-start : tie.Need-part-load-lines-start Inv-loop μ-loop
+part-load-lines-start c = omega arith
 
-part-load-end : tie.Need-part-load-end Inv-loop μ-loop
-part-load-end c = omega arith
+part-load-lines-end : tie.Need-part-load-lines-end Inv-loop μ-loop
+part-load-lines-end c = omega (arith, row-in (c .before .before .before .before .before .args .n) (c .before .before .before .before .before .args .g) (c .before .before .loop .i) (c .before .loop-test .taken))
 
-load-requires : tie.Need-load-requires Inv-loop μ-loop
-load-requires c κs =
-    let s = c .before .before .before .before .before .before in
+load-lines-requires : tie.Need-load-lines-requires Inv-loop μ-loop
+load-lines-requires c κs =
+    let a = c .before .before .before .before .before .before .args in
     let w = c .before .before .before .loop in
-    λ j h.
-    let e : length (take (w .i * 64 + s .args .m - w .i * 64) (drop (w .i * 64) (w .x))) ≡ w .i * 64 + s .args .m - w .i * 64 = length-part (w .i * 64) (w .i * 64 + s .args .m - w .i * 64) (w .x) (omega arith) in
-    omega (arith, s .pre .5 (s .args .c + j) (w .i) (omega arith) (omega arith))
+    let e : length (take (w .i * a .g + a .m - w .i * a .g) (drop (w .i * a .g) (w .x))) ≡ w .i * a .g + a .m - w .i * a .g = length-part (w .i * a .g) (w .i * a .g + a .m - w .i * a .g) (w .x) (omega (arith, row-in (a .n) (a .g) (w .i) (c .before .before .loop-test .taken))) in
+    (omega arith, λ j h. omega (arith, c .before .place .ensures, c .before .before .before .before .before .before .pre .3 (a .r + j) (w .i) (omega arith) (omega arith)))
 
 add-i : tie.Need-add-i Inv-loop μ-loop
 add-i c = omega arith
@@ -62,11 +58,10 @@ loop-less c = omega arith
 
 loop-again : tie.Need-loop-again Inv-loop μ-loop
 loop-again c =
-    let s = c .before .before .before .before .before .before .before .before .before in
+    let a = c .before .before .before .before .before .before .before .before .before .args in
     let w = c .before .before .before .before .before .before .loop in
-    let p = c .before .before .before .before .place in
-    let q = c .before .before .load in
-    (omega arith, same-len-mid (w .i * 64) (w .i * 64 + s .args .m - w .i * 64) (w .x) (q .last .1 .1 .1 .0) (q .kept .1 .1 .1 .0) ∙ w .inv .1, tile-more (s .args .bytes .now) (s .args .base) (s .args .line) (s .args .step) (s .args .k) (s .args .c) (s .args .m) (w .i) (w .i * 64 + s .args .m - w .i * 64) (p .result) (w .x) (q .last .1 .1 .1 .0) (p .ensures) (add-sub-cancel-left (w .i * 64) (s .args .m)) (omega arith) (omega arith) (q .ensures) (w .inv .2))
+    let q = c .before .before .load-lines in
+    (omega arith, same-len-mid (w .i * a .g) (w .i * a .g + a .m - w .i * a .g) (w .x) (q .last .1 .1 .1 .0) (q .kept .1 .1 .1 .0) ∙ w .inv .1, tile-more (a .bytes .now) (a .base) (a .line) (a .step) (a .r) (a .m) (a .g) (w .i) (w .i * a .g + a .m - w .i * a .g) (c .before .before .before .before .place .result) (w .x) (q .last .1 .1 .1 .0) (c .before .before .before .before .place .ensures) (add-sub-cancel-left (w .i * a .g) (a .m)) (c .before .before .before .before .before .before .before .before .before .pre .1) (omega (arith, row-in (a .n) (a .g) (w .i) (c .before .before .before .before .before .loop-test .taken))) (q .ensures) (w .inv .2))
 
 same-length : tie.Need-same-length Inv-loop μ-loop
 same-length c = c .before .loop .inv .1
@@ -81,15 +76,14 @@ load-tile-spec =
     Inv-loop
     μ-loop
     loop-holds
-    add-place
     place-requires
     mul-from
     add-end
-    mul-load
-    sub-load
-    part-load-start
-    part-load-end
-    load-requires
+    mul-load-lines
+    sub-load-lines
+    part-load-lines-start
+    part-load-lines-end
+    load-lines-requires
     add-i
     loop-less
     loop-again

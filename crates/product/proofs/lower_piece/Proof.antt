@@ -1,41 +1,47 @@
-use mathlib.Core.Path.{_≡_, refl, sym, _∙_}
-use Prim.Native.Nat.{_+_, _-_, _*_, _≤_, _<_}
+-- `lower_piece`: the rows before r have all their terms.
+use mathlib.Core.Path.{_≡_, refl, sym, ap, _∙_}
+use Prim.Native.Nat.{ℕ, _+_, _-_, _*_, _≤_, _<_}
+use native.Mathlib.Nat.{mul-le-mul-right}
 use native.Mathlib.Omega.{arith}
+use borrow.Author.Needs.{needs}
 use lib.ListN.{length}
 use lib.Ieee.{binary64}
-use Rattle.product.specs.Steps.{lineValue, lowerPiece}
-use Rattle.product.proofs.Terms.{least-above, less-or}
-use Rattle.product.proofs.Lower.{lower-ext, lower-none}
+use Rattle.product.specs.Steps.{lineValue, blockMore, lowerPiece}
+use Rattle.product.proofs.Parts.{least-above}
+use Rattle.product.proofs.Blocks.{block-none, rows-more}
+use Rattle.product.proofs.Lower.{lower-none, lower-empty, lower-all}
 use Rattle.product.proofs.lower_piece.Statement.{statement}
 use Rattle.product.proofs.lower_piece.Tie as tie
 
 abbrev Inv-loop : tie.InvT-loop
-Inv-loop bytes offset first line step count height width piece₀ base narrow pass x₀ k₀ piece x k =
-    (k ≤ count) × (length x ≡ 2048) × (length piece ≡ length piece₀) × (piece ≡ lowerPiece binary64 height width (lineValue bytes base line step) (λ r c. k))
+Inv-loop bytes offset first line step count height width piece₀ base rows x₀ r₀ piece x r = (r ≤ height) × (length x ≡ 2056) × (length piece ≡ length piece₀) × (piece ≡ blockMore binary64 width (lineValue bytes base line step) count 0 r 0 width piece₀)
 
 abbrev μ-loop : tie.MeasureT-loop
-μ-loop bytes offset first line step count height width piece₀ base narrow pass x₀ k₀ piece x k = count - k
+μ-loop bytes offset first line step count height width piece₀ base rows x₀ r₀ piece x r = height - r
 
 clear-requires : tie.Need-clear-requires Inv-loop μ-loop
 clear-requires c κs = tt
 
+same-length : tie.Need-same-length Inv-loop μ-loop
+same-length c = c .before .before .before .clear .kept .0
+
+returns : tie.Need-returns Inv-loop μ-loop
+returns c =
+    let a = c .before .before .before .before .before .before .before .args in
+    lower-none binary64 (a .height) (a .width) (lineValue (a .bytes .now) (a .offset + 8 * a .first) (a .line) (a .step)) (length (a .piece .now)) (c .before .before .before .clear .last .0) (c .before .before .before .before .before .before .before .pre .2) (c .before .before .before .clear .ensures)
+    ∙ lower-empty binary64 (a .height) (a .width) (lineValue (a .bytes .now) (a .offset + 8 * a .first) (a .line) (a .step)) (a .count) 0 (c .if1 .taken)
+
 mul-base : tie.Need-mul-base Inv-loop μ-loop
-mul-base c = omega (arith, c .before .before .before .before .before .before .before .pre .3 0 0 (omega arith) (omega arith))
+mul-base c = omega (arith, c .before .before .before .before .before .before .before .before .pre .3 0 0 (omega arith) (omega arith))
 
 add-base : tie.Need-add-base Inv-loop μ-loop
-add-base c = omega (arith, c .before .before .before .before .before .before .before .pre .3 0 0 (omega arith) (omega arith))
+add-base c = omega (arith, c .before .before .before .before .before .before .before .before .pre .3 0 0 (omega arith) (omega arith))
 
-is-narrow-requires : tie.Need-is-narrow-requires Inv-loop μ-loop
-is-narrow-requires c κs = tt
-
-pass-terms-requires : tie.Need-pass-terms-requires Inv-loop μ-loop
-pass-terms-requires c κs = omega arith
+rows-together-requires : tie.Need-rows-together-requires Inv-loop μ-loop
+rows-together-requires c κs = c .before .before .before .before .before .before .before .before .pre .0
 
 loop-holds : tie.Need-loop-holds Inv-loop μ-loop
-loop-holds c =
-    let a = c .before .before .before .before .before .before .before .before .before .args in
-    let q = c .before .before .before .before .before .clear in
-    (omega arith, refl, refl, lower-none binary64 (a .height) (a .width) (lineValue (a .bytes .now) (a .offset + 8 * a .first) (a .line) (a .step)) (length (a .piece .now)) (q .last .0) (c .before .before .before .before .before .before .before .before .before .pre .2) (q .ensures))
+loop-holds c = (omega arith, refl, refl, block-none binary64 _ _ _ _ _ _ _ _ (λ x y i. omega arith))
 
 sub-least : tie.Need-sub-least Inv-loop μ-loop
 sub-least c = omega arith
@@ -43,10 +49,11 @@ sub-least c = omega arith
 least-requires : tie.Need-least-requires Inv-loop μ-loop
 least-requires c κs = tt
 
-sized : (c : tie.After-least Inv-loop μ-loop) → (0 < c .least .result) × (c .least .result ≤ c .before .before .before .pass-terms .result) × (c .least .result ≤ c .before .before .before .before .before .before .before .before .before .before .before .before .args .count - c .before .before .loop .k)
-sized c =
-    let q = c .before .before .before .pass-terms in
-    least-above (q .result) (c .before .before .before .before .before .before .before .before .before .before .before .before .args .count - c .before .before .loop .k) (c .least .result) (q .ensures .0) (omega arith) (c .least .ensures)
+sized : (c : tie.After-least Inv-loop μ-loop) → (0 < c .least .result) × (c .least .result ≤ c .before .before .before .rows-together .result) × (c .least .result ≤ c .before .before .before .before .before .before .before .before .before .before .before .before .args .height - c .before .before .loop .r)
+sized c = least-above (c .before .before .before .rows-together .result) (c .before .before .before .before .before .before .before .before .before .before .before .before .args .height - c .before .before .loop .r) (c .least .result) (c .before .before .before .rows-together .ensures) (omega arith) (c .least .ensures)
+
+add-bottom : tie.Need-add-bottom Inv-loop μ-loop
+add-bottom c = omega (arith, sized c)
 
 slice-aggregate-add-terms : tie.Need-slice-aggregate-add-terms Inv-loop μ-loop
 slice-aggregate-add-terms c = sym (c .before .before .before .loop .inv .1)
@@ -56,40 +63,36 @@ add-terms-requires c κs =
     let s = c .before .before .before .before .before .before .before .before .before .before .before .before .before .before .pre in
     let w = c .before .before .before .before .loop in
     let l = sized (c .before .before) in
-    (l .0, less-or (c .before .before .least .result) (c .before .before .before .before .before .pass-terms .result) 32 (l .1) (c .before .before .before .before .before .pass-terms .ensures .1), omega arith, s .1, w .inv .1, λ r i h h'. omega (arith, s .3 r (w .k + i) h (omega arith)), w .inv .3)
-
-add-k : tie.Need-add-k Inv-loop μ-loop
-add-k c = omega arith
+    (omega (arith, w .inv .1), omega (arith, c .before .before .before .before .before .before .before .if1 .left), omega (arith, l), omega (arith, s .2, w .inv .2, c .before .before .before .before .before .before .before .before .before .before .clear .kept .0, mul-le-mul-right (c .before .before .before .before .before .before .before .before .before .before .before .before .before .before .args .width) (let u : w .r + c .before .before .least .result ≤ c .before .before .before .before .before .before .before .before .before .before .before .before .before .before .args .height = omega (arith, l) in u)), λ r i h h'. s .3 r i (omega (arith, l)) h')
 
 loop-less : tie.Need-loop-less Inv-loop μ-loop
 loop-less c = omega (arith, sized (c .before .before .before .before .before .before))
 
 loop-again : tie.Need-loop-again Inv-loop μ-loop
 loop-again c =
+    let a = c .before .before .before .before .before .before .before .before .before .before .before .before .before .before .before .before .before .before .args in
     let w = c .before .before .before .before .before .before .before .before .loop in
     let q = c .before .before .before .add-terms in
     let l = sized (c .before .before .before .before .before .before) in
-    (omega (arith, w .inv .0), q .kept .1 .1 .1 .1 .1 .1 .1 .1 .1 .0 ∙ w .inv .1, q .kept .1 .1 .1 .1 .1 .1 .1 .1 .1 .1 .0 ∙ w .inv .2, q .ensures)
-
-same-length : tie.Need-same-length Inv-loop μ-loop
-same-length c = c .before .loop .inv .2 ∙ c .before .before .before .before .before .before .before .clear .kept .0
-
-returns : tie.Need-returns Inv-loop μ-loop
-returns c =
-    let a = c .before .before .before .before .before .before .before .before .before .before .before .args in
-    let w = c .before .loop in
-    w .inv .3
-    ∙ lower-ext binary64 (a .height) (a .width) (lineValue (a .bytes .now) (a .offset + 8 * a .first) (a .line) (a .step)) _ _ (λ r' c' h h' h''. omega arith)
+    (omega (arith, l), q .kept .1 .1 .1 .1 .1 .1 .1 .1 .0 ∙ w .inv .1, q .kept .1 .1 .1 .1 .1 .1 .1 .1 .1 .0 ∙ w .inv .2, rows-more binary64 (a .width) (lineValue (a .bytes .now) (a .offset + 8 * a .first) (a .line) (a .step)) (a .count) 0 (w .r) (w .r + c .before .before .before .before .before .before .least .result) (c .before .before .before .before .before .before .before .before .before .before .before .before .before .before .clear .last .0) (w .piece) (q .last .1 .1 .1 .1 .1 .1 .1 .1 .1 .0) (omega (arith, c .before .before .before .before .before .before .before .before .before .before .before .if1 .left)) (omega arith) (omega arith) (w .inv .3) (q .ensures))
 
 same-length-2 : tie.Need-same-length-2 Inv-loop μ-loop
-same-length-2 c = c .before .before .before .clear .kept .0
+same-length-2 c = c .before .loop .inv .2 ∙ c .before .before .before .before .before .before .before .clear .kept .0
 
 returns-2 : tie.Need-returns-2 Inv-loop μ-loop
 returns-2 c =
-    let a = c .before .before .before .before .before .before .before .args in
-    let q = c .before .before .before .clear in
-    lower-none binary64 (a .height) (a .width) (lineValue (a .bytes .now) (a .offset + 8 * a .first) (a .line) (a .step)) (length (a .piece .now)) (q .last .0) (c .before .before .before .before .before .before .before .pre .2) (q .ensures)
-    ∙ lower-ext binary64 (a .height) (a .width) (lineValue (a .bytes .now) (a .offset + 8 * a .first) (a .line) (a .step)) _ _ (λ r' c' h h' h''. omega arith)
+    let a = c .before .before .before .before .before .before .before .before .before .before .before .args in
+    let w = c .before .loop in
+    lower-all binary64 (a .height) (a .width) (lineValue (a .bytes .now) (a .offset + 8 * a .first) (a .line) (a .step)) (a .count) (c .before .before .before .before .before .before .before .clear .last .0) (w .piece) (omega (arith, c .before .before .before .before .if1 .left)) (lower-none binary64 (a .height) (a .width) (lineValue (a .bytes .now) (a .offset + 8 * a .first) (a .line) (a .step)) (length (a .piece .now)) (c .before .before .before .before .before .before .before .clear .last .0) (c .before .before .before .before .before .before .before .before .before .before .before .pre .2) (c .before .before .before .before .before .before .before .clear .ensures)) (w .inv .3 ∙ ap (λ (z : ℕ). blockMore binary64 (a .width) (lineValue (a .bytes .now) (a .offset + 8 * a .first) (a .line) (a .step)) (a .count) 0 z 0 (a .width) (c .before .before .before .before .before .before .before .clear .last .0)) (let u : w .r ≡ a .height = omega arith in u))
+
+same-length-3 : tie.Need-same-length-3 Inv-loop μ-loop
+same-length-3 c = c .before .before .before .before .clear .kept .0
+
+returns-3 : tie.Need-returns-3 Inv-loop μ-loop
+returns-3 c =
+    let a = c .before .before .before .before .before .before .before .before .args in
+    lower-none binary64 (a .height) (a .width) (lineValue (a .bytes .now) (a .offset + 8 * a .first) (a .line) (a .step)) (length (a .piece .now)) (c .before .before .before .before .clear .last .0) (c .before .before .before .before .before .before .before .before .pre .2) (c .before .before .before .before .clear .ensures)
+    ∙ ap (lowerPiece binary64 (a .height) (a .width) (lineValue (a .bytes .now) (a .offset + 8 * a .first) (a .line) (a .step))) (let u : 0 ≡ a .count = omega arith in u)
 
 pub lower-piece-spec : {M : Type 1} → statement M
 lower-piece-spec =
@@ -98,19 +101,20 @@ lower-piece-spec =
     Inv-loop
     μ-loop
     clear-requires
+    same-length
+    returns
     mul-base
     add-base
-    is-narrow-requires
-    pass-terms-requires
+    rows-together-requires
     loop-holds
     sub-least
     least-requires
+    add-bottom
     slice-aggregate-add-terms
     add-terms-requires
-    add-k
     loop-less
     loop-again
-    same-length
-    returns
     same-length-2
-    returns-2)
+    returns-2
+    same-length-3
+    returns-3)

@@ -7,15 +7,15 @@ use lib.ListN.{length, length-set}
 use lib.Ieee.{binary64}
 use Rattle.product.specs.Values.{floatAt}
 use Rattle.product.proofs.InPlace.{filled, filled-none, filled-all}
-use Rattle.product.proofs.Columns.{withTerm, term-step}
+use Rattle.product.proofs.Rows.{withTerm, term-step}
 use Rattle.product.proofs.narrow.add_any.Statement.{statement}
 use Rattle.product.proofs.narrow.add_any.Tie as tie
 
 abbrev Inv-loop : tie.InvT-loop
-Inv-loop bytes at v sums₀ j₀ sums j = (j ≤ length sums₀) × (length sums ≡ length sums₀) × (sums ≡ filled (withTerm binary64 (λ j. floatAt bytes (at + 8 * j)) v sums₀) j sums₀)
+Inv-loop bytes at line v sums₀ j₀ sums j = (j ≤ length sums₀) × (length sums ≡ length sums₀) × (sums ≡ filled (withTerm binary64 (λ j. floatAt bytes (at + 8 * (j * line))) v sums₀) j sums₀)
 
 abbrev μ-loop : tie.MeasureT-loop
-μ-loop bytes at v sums₀ j₀ sums j = length sums₀ - j
+μ-loop bytes at line v sums₀ j₀ sums j = length sums₀ - j
 
 loop-holds : tie.Need-loop-holds Inv-loop μ-loop
 loop-holds c = (search needs, refl, filled-none _ _)
@@ -26,14 +26,8 @@ mul-sums c = omega arith
 slice-read-sums : tie.Need-slice-read-sums Inv-loop μ-loop
 slice-read-sums c = omega arith
 
-mul-float-at : tie.Need-mul-float-at Inv-loop μ-loop
-mul-float-at c = omega arith
-
-add-float-at : tie.Need-add-float-at Inv-loop μ-loop
-add-float-at c = omega arith
-
-float-at-requires : tie.Need-float-at-requires Inv-loop μ-loop
-float-at-requires c κs = omega arith
+term-requires : tie.Need-term-requires Inv-loop μ-loop
+term-requires c κs = c .before .before .before .before .before .pre (c .before .before .loop .j) (omega arith)
 
 mul-sums-2 : tie.Need-mul-sums-2 Inv-loop μ-loop
 mul-sums-2 c = omega arith
@@ -51,7 +45,7 @@ loop-again : tie.Need-loop-again Inv-loop μ-loop
 loop-again c =
     let a = c .before .before .before .before .before .before .args in
     let w = c .before .before .before .loop in
-    (omega arith, simp length-set (omega arith), term-step binary64 (λ j. floatAt (a .bytes .now) (a .at + 8 * j)) (a .v) (a .sums .now) (w .sums) (w .j) (c .float-at .result) (w .inv .2) (omega arith) (c .float-at .ensures))
+    (omega arith, simp length-set (omega arith), term-step binary64 (λ j. floatAt (a .bytes .now) (a .at + 8 * (j * a .line))) (a .v) (a .sums .now) (w .sums) (w .j) (c .term .result) (w .inv .2) (omega arith) (c .term .ensures))
 
 same-length : tie.Need-same-length Inv-loop μ-loop
 same-length c = c .before .loop .inv .1
@@ -68,9 +62,7 @@ add-any-spec =
     loop-holds
     mul-sums
     slice-read-sums
-    mul-float-at
-    add-float-at
-    float-at-requires
+    term-requires
     mul-sums-2
     slice-write-sums
     add-j

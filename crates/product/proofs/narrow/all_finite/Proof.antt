@@ -4,7 +4,8 @@ use Prim.Native.Nat.{_-_, _≤_}
 use native.Mathlib.Nat.{not-suc-le-zero}
 use native.Mathlib.Omega.{arith}
 use borrow.Author.Tests.{eqb-true}
-use Rattle.product.proofs.Bytes.{Finite, finite-more}
+use Rattle.product.specs.Steps.{Finite}
+use Rattle.product.proofs.Bytes.{finite-more}
 use Rattle.product.proofs.narrow.all_finite.Statement.{statement}
 use Rattle.product.proofs.narrow.all_finite.Tie as tie
 
