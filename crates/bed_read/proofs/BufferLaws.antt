@@ -1,24 +1,25 @@
 -- The later value buffer of reading, once over the width of values.
-use mathlib.Core.Path.{_≡_, refl, sym, ap, subst, _∙_}
+use mathlib.Core.Path.{_≡_, sym, ap, subst, _∙_}
 use mathlib.Core.Bool.{Bool, true, false}
 use mathlib.Core.List.{List, map}
 use Prim.Native.Nat.{ℕ, _*_, _/_, _%_, _<_}
 use native.Mathlib.Omega.{arith}
 use lib.IntN.{ℤ}
 use lib.ListN.{length, getD}
-use Rattle.genotype.specs.Answer.{Answer, isDone}
+use Rattle.genotype.specs.Answer.{isDone}
 use Rattle.genotype.specs.Block.{blockWidth, fileLength}
 use Rattle.genotype.specs.Code.{codeTable}
 use Rattle.genotype.specs.Matrix.{matrix}
 use Rattle.genotype.specs.Value.{Width, values, valueOf}
 use Rattle.genotype.proofs.AnswerLaws.{new-if-done, old-if-not}
-use Rattle.genotype.proofs.Tabulate.{tabulate-ext, map-tabulate}
+use Rattle.genotype.proofs.Tabulate.{tabulate-ext, map-tabulate, getD-inside}
 use Rattle.bed_file.specs.File.{isMode1, items, blocks}
 use Rattle.bed_read.specs.Reading.{readCode, readAnswer, codesRead, valuesRead, readBuffer}
 use Rattle.bed_read.specs.Inner.{Ready, valueIn}
 use Rattle.bed_read.proofs.CallLaws.{call-below}
 use Rattle.bed_read.proofs.ReadLaws.{Readable}
-use Rattle.bed_read.proofs.TableLaws.{any-default, made-value}
+use Rattle.bed_read.proofs.TableLaws.{made-value}
+use Rattle.genotype.proofs.ValueLaws.{four-values}
 
 -- every code that is read is a code
 pub read-below : (file : List ℕ) (iids sids : ℕ) (il sl : List ℤ) (k m : ℕ) → readCode file iids sids il sl k m < 4
@@ -39,11 +40,6 @@ map-codes f g e false file iids sids il sl =
     ∙ tabulate-ext (length il * length sl) _ _ (λ p h. e (readCode file iids sids il sl (p % length il) (p / length il)) (read-below file iids sids il sl (p % length il) (p / length il)))
     ∙ sym (map-tabulate g (length il * length sl) (λ p. readCode file iids sids il sl (p % length il) (p / length il)))
 
-four-values : (w : Width) (flag : Bool) (missing : w .Value) → length (values w flag missing) ≡ 4
-unfolding values
-four-values w true missing = refl
-four-values w false missing = refl
-
 -- the values of the codes, by the list of the four values
 values-read :
     (w : Width) (flag : Bool) (missing d : w .Value) (order : Bool) (file : List ℕ) (iids sids : ℕ) (il sl : List ℤ)
@@ -51,13 +47,10 @@ values-read :
 unfolding valuesRead valueOf
 values-read w flag missing d order file iids sids il sl =
     map-codes (λ code. getD (values w flag missing) code d) (λ code. getD (values w flag missing) code missing)
-    (λ c h. any-default (values w flag missing) c d missing (let n = four-values w flag missing in omega arith))
+    (λ c h. getD-inside (values w flag missing) c d missing (let n = four-values w flag missing in omega arith))
     order file iids sids il sl
 
 -- ---- from the checks
-pub is-done-of : (a b : Answer) (t : Bool) → a ≡ b → t ≡ isDone a → (v : Bool) → t ≡ v → isDone b ≡ v
-is-done-of a b t e f v g = sym (ap isDone e) ∙ sym f ∙ g
-
 module _ (file : List ℕ) (iids sids : ℕ) (il sl : List ℤ) (n : ℕ) (r : Readable file iids sids il sl n)
     (m : Bool) (w i s : ℕ) (em : m ≡ isMode1 file) (ew : w ≡ blockWidth (items (isMode1 file) iids sids)) (ei : i ≡ iids) (es : s ≡ sids) where
   pub ready : Ready file m w i s il sl

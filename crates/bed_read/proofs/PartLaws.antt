@@ -286,11 +286,11 @@ module _ (m : Bool) (w iids sids : ℕ) (il sl : List ℤ) (animals : Bool) wher
   four-there o b0 b1 b2 b3 e0 e1 e2 e3 (suc (suc (suc (suc j)))) h = absurd (omega arith)
 
   module _ (from : ℕ) where
-    pub resolved-none : (bytes places : List ℕ) → length bytes ≡ 2048 → length places ≡ 2048 → Resolved m w iids sids il sl animals from (from + 0) bytes places
+    pub resolved-none : (bytes places : List ℕ) → length bytes ≡ 1024 → length places ≡ 1024 → Resolved m w iids sids il sl animals from (from + 0) bytes places
     resolved-none bytes places b p = record { bytes-long = b; places-long = p; byte-is = λ k h. absurd (omega arith); place-is = λ k h. absurd (omega arith) }
 
     pub resolved-more :
-        (k b p : ℕ) (bytes places : List ℕ) → Resolved m w iids sids il sl animals from (from + k) bytes places → k < 2048
+        (k b p : ℕ) (bytes places : List ℕ) → Resolved m w iids sids il sl animals from (from + k) bytes places → k < 1024
         → b ≡ byteAt m w iids sids il sl animals (from + k) → p ≡ placeAt m iids sids il sl animals (from + k)
         → Resolved m w iids sids il sl animals from (from + (k + 1)) (set bytes k b) (set places k p)
     resolved-more k b p bytes places r h eb ep =

@@ -1,25 +1,24 @@
 -- Laws of the lists' checks and of all of reading's, over plain numbers and lists.
-use mathlib.Core.Path.{_≡_, refl, sym, ap, subst, _∙_}
-use mathlib.Core.Bool.{Bool, true, false, cond}
+use mathlib.Core.Path.{_≡_, sym, ap, subst, _∙_}
+use mathlib.Core.Bool.{Bool, true, false}
 use mathlib.Core.List.{List, [], _∷_}
-use mathlib.Core.Option.{Option, some, none}
+use mathlib.Core.Option.{some, none}
 use Prim.Native.Nat.{ℕ, _*_, _^_, _<_, _≤_}
-use native.Mathlib.Omega.{arith}
 use borrow.Author.Tests.{eqb-true}
 use lib.Dec.{eqb}
-use lib.IntN.{ℤ, pos}
-use lib.ListN.{length, getD}
+use lib.IntN.{ℤ}
+use lib.ListN.{length}
 use lib.Signed.{mag}
 use mir.Syntax.{w64}
 use mir.Val.{ofZ, toZ}
 use mir.ValLaws.{toZ-ofZ}
-use Rattle.genotype.specs.Answer.{Answer, done, refused, check, checkCount, checkEntry, countLimit, isDone}
+use Rattle.genotype.specs.Answer.{Answer, done, refused, check, countLimit, isDone}
 use Rattle.genotype.specs.Entry.{firstBad}
-use Rattle.genotype.proofs.AnswerLaws.{check-passes, check-refuses, count-passes, count-refuses, entry-passes, entry-refuses, check-done, count-done, entry-done, Stage, heard, stays, before-later}
+use Rattle.genotype.proofs.AnswerLaws.{check-passes, check-refuses, count-passes, count-refuses, check-done, count-done, entry-done, heard, stays, before-later}
 use Rattle.genotype.specs.Block.{fileLength}
 use Rattle.bed_file.specs.File.{isMode1, items, blocks, checkFile, acceptAnswer}
 use Rattle.bed_read.specs.Reading.{checkLists, readAnswer}
-use Rattle.bed_file.proofs.FileLaws.{Accepted, accepted, accept-file, file-stage, file-long, file-mode, file-length}
+use Rattle.bed_file.proofs.FileLaws.{accepted, accept-file, file-stage, file-long, file-length}
 
 -- ---- 5 and 6, by the first bad entries
 module _ (items blocks : ℕ) (within outside : List ℤ) where

@@ -1,20 +1,14 @@
 -- Laws of a table of the values of all codes, over any type of values.
 use mathlib.Core.Path.{_≡_, refl, sym, ap, subst, _∙_}
-use mathlib.Core.List.{List, [], _∷_, map}
-use Prim.Native.Nat.{ℕ, zero, suc, _+_, _*_, _/_, _%_, _<_}
+use mathlib.Core.List.{List, map}
+use Prim.Native.Nat.{ℕ, _+_, _*_, _/_, _%_, _<_}
 use native.Mathlib.Omega.{arith}
 use lib.ListN.{length, getD, length-map, List·getD-map}
 use Rattle.genotype.specs.Code.{codeAt, codeTable}
 use Rattle.genotype.proofs.CodeLaws.{table-at, code-below}
-use Rattle.genotype.proofs.Tabulate.{length-tabulate, getD-tabulate, tabulate-ext, map-tabulate}
+use Rattle.genotype.proofs.Tabulate.{length-tabulate, getD-tabulate, tabulate-ext, map-tabulate, getD-inside}
 use Rattle.bed_read.specs.Inner.{Drawn, valueIn, ByCode, valueAt}
 use Rattle.bed_read.proofs.DrawLaws.{drawn-all}
-
--- an element that is there is the same whatever the default
-pub any-default : {A : Type 0} (l : List A) (k : ℕ) (d e : A) → k < length l → getD l k d ≡ getD l k e
-any-default [] k d e h = absurd (omega arith)
-any-default (x ∷ xs) zero d e h = refl
-any-default (x ∷ xs) (suc k) d e h = any-default xs k d e (omega arith)
 
 table-length : length codeTable ≡ 1024
 unfolding codeTable
@@ -46,7 +40,7 @@ module _ {A : Type 0} (d : A) where
       let m : p % 4 ≡ p = omega arith in
       let l : length (map f codeTable) ≡ 1024 = length-map codeTable f ∙ table-length in
       ap (λ (t : List A). getD t (x * 4 + p) d) e
-      ∙ any-default (map f codeTable) (x * 4 + p) d (f 0) (omega arith)
+      ∙ getD-inside (map f codeTable) (x * 4 + p) d (f 0) (omega arith)
       ∙ List·getD-map f codeTable (x * 4 + p) 0
       ∙ ap f (ap (λ (q : ℕ). getD codeTable (x * 4 + q) 0) (sym m) ∙ table-at codeTable x x p refl refl h ∙ ap (codeAt x) m)
 

@@ -9,6 +9,7 @@ use borrow.Author.Tests.{lt-ltb, le-ltb, le-leb, lt-leb, eq-eqb, ne-eqb}
 use Rattle.genotype.specs.Answer.{Answer, done, refused, check, countLimit}
 use Rattle.genotype.proofs.Tests.{leb-both}
 use Rattle.product.specs.Piece.{goodPiece, enoughBytes, pieceAnswer}
+use Rattle.genotype.proofs.AnswerLaws.{check-passes, check-refuses}
 
 -- 18
 module _ (a b c d e : ℕ) where
@@ -82,14 +83,6 @@ unfolding check
 check-and true b n later = refl
 check-and false b n later = refl
 
-check-true : (b : Bool) (n : ℕ) (later : Answer) → b ≡ true → check b n later ≡ later
-unfolding check
-check-true b n later e = ap (λ (t : Bool). check t n later) e
-
-check-false : (b : Bool) (n : ℕ) (later : Answer) → b ≡ false → check b n later ≡ refused n []
-unfolding check
-check-false b n later e = ap (λ (t : Bool). check t n later) e
-
 -- the answer, by four tests
 module _ (fine : Bool) (bytes offset rows columns start height width piece : ℕ) where
   abbrev last2 : Answer
@@ -105,29 +98,29 @@ module _ (fine : Bool) (bytes offset rows columns start height width piece : ℕ
 
   module _ (t1 : Bool) (e1 : t1 ≡ counts rows columns start height width) where
     pub answer-18 : t1 ≡ false → pieceAnswer fine bytes offset rows columns start height width piece ≡ refused 18 []
-    answer-18 n = four-checks ∙ check-false (counts rows columns start height width) 18 (check fine 20 last2) (sym e1 ∙ n)
+    answer-18 n = four-checks ∙ check-refuses (counts rows columns start height width) 18 (check fine 20 last2) (sym e1 ∙ n)
 
     module _ (y1 : t1 ≡ true) where
       upto-20 : pieceAnswer fine bytes offset rows columns start height width piece ≡ check fine 20 last2
-      upto-20 = four-checks ∙ check-true (counts rows columns start height width) 18 (check fine 20 last2) (sym e1 ∙ y1)
+      upto-20 = four-checks ∙ check-passes (counts rows columns start height width) 18 (check fine 20 last2) (sym e1 ∙ y1)
 
       module _ (t2 : Bool) (e2 : t2 ≡ fine) where
         pub answer-20 : t2 ≡ false → pieceAnswer fine bytes offset rows columns start height width piece ≡ refused 20 []
-        answer-20 n = upto-20 ∙ check-false fine 20 last2 (sym e2 ∙ n)
+        answer-20 n = upto-20 ∙ check-refuses fine 20 last2 (sym e2 ∙ n)
 
         module _ (y2 : t2 ≡ true) (t3 : Bool) (e3 : t3 ≡ eqb (height * width) piece) where
           upto-15 : pieceAnswer fine bytes offset rows columns start height width piece ≡ last2
-          upto-15 = upto-20 ∙ check-true fine 20 last2 (sym e2 ∙ y2)
+          upto-15 = upto-20 ∙ check-passes fine 20 last2 (sym e2 ∙ y2)
 
           pub answer-15 : t3 ≡ false → pieceAnswer fine bytes offset rows columns start height width piece ≡ refused 15 []
-          answer-15 n = upto-15 ∙ check-false (eqb (height * width) piece) 15 (check (enoughBytes bytes offset rows columns) 1 (done [])) (sym e3 ∙ n)
+          answer-15 n = upto-15 ∙ check-refuses (eqb (height * width) piece) 15 (check (enoughBytes bytes offset rows columns) 1 (done [])) (sym e3 ∙ n)
 
           module _ (y3 : t3 ≡ true) (t4 : Bool) (e4 : t4 ≡ enoughBytes bytes offset rows columns) where
             upto-1 : pieceAnswer fine bytes offset rows columns start height width piece ≡ check (enoughBytes bytes offset rows columns) 1 (done [])
-            upto-1 = upto-15 ∙ check-true (eqb (height * width) piece) 15 (check (enoughBytes bytes offset rows columns) 1 (done [])) (sym e3 ∙ y3)
+            upto-1 = upto-15 ∙ check-passes (eqb (height * width) piece) 15 (check (enoughBytes bytes offset rows columns) 1 (done [])) (sym e3 ∙ y3)
 
             pub answer-1 : t4 ≡ false → pieceAnswer fine bytes offset rows columns start height width piece ≡ refused 1 []
-            answer-1 n = upto-1 ∙ check-false (enoughBytes bytes offset rows columns) 1 (done []) (sym e4 ∙ n)
+            answer-1 n = upto-1 ∙ check-refuses (enoughBytes bytes offset rows columns) 1 (done []) (sym e4 ∙ n)
 
             pub answer-done : t4 ≡ true → pieceAnswer fine bytes offset rows columns start height width piece ≡ done []
-            answer-done y = upto-1 ∙ check-true (enoughBytes bytes offset rows columns) 1 (done []) (sym e4 ∙ y)
+            answer-done y = upto-1 ∙ check-passes (enoughBytes bytes offset rows columns) 1 (done []) (sym e4 ∙ y)

@@ -45,7 +45,7 @@ loop-less c = omega arith
 
 loop-again : tie.Need-loop-again Inv-loop μ-loop
 loop-again c =
-    let h : c .before .before .loop .k < 2048 = omega (arith, c .before .loop-test .taken, c .before .before .before .before .pre .3) in
+    let h : c .before .before .loop .k < 1024 = omega (arith, c .before .loop-test .taken, c .before .before .before .before .pre .3) in
     (omega (arith, c .before .loop-test .taken), resolved-more _ _ _ _ _ _ _ _ _ _ _ _ _ (c .before .before .loop .inv .1) h (c .part-at .ensures .0) (c .part-at .ensures .1))
 
 returns : tie.Need-returns Inv-loop μ-loop

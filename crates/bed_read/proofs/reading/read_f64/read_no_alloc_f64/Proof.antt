@@ -12,7 +12,8 @@ use Rattle.bed_read.specs.Reading.{readAnswer}
 use Rattle.bed_read.specs.Inner.{Ready}
 use Rattle.bed_read.proofs.ReadLaws.{Readable, readable}
 use Rattle.bed_read.proofs.TableLaws.{made-by-code}
-use Rattle.bed_read.proofs.BufferLaws.{is-done-of, ready, buffer-read, buffer-kept}
+use Rattle.genotype.proofs.AnswerLaws.{is-done-of}
+use Rattle.bed_read.proofs.BufferLaws.{ready, buffer-read, buffer-kept}
 use Rattle.bed_read.proofs.reading.read_f64.read_no_alloc_f64.Statement.{statement}
 use Rattle.bed_read.proofs.reading.read_f64.read_no_alloc_f64.Tie as tie
 

@@ -14,7 +14,8 @@ use Rattle.bed_read.specs.Reading.{readAnswer}
 use Rattle.bed_read.specs.Inner.{Ready}
 use Rattle.bed_read.proofs.ReadLaws.{Readable, readable}
 use Rattle.bed_read.proofs.TableLaws.{made-by-code}
-use Rattle.bed_read.proofs.BufferLaws.{is-done-of, ready, buffer-read, buffer-kept}
+use Rattle.genotype.proofs.AnswerLaws.{is-done-of}
+use Rattle.bed_read.proofs.BufferLaws.{ready, buffer-read, buffer-kept}
 use Rattle.bed_read.proofs.reading.read_i8.read_no_alloc_i8.Statement.{statement}
 use Rattle.bed_read.proofs.reading.read_i8.read_no_alloc_i8.Tie as tie
 
