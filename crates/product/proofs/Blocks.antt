@@ -6,14 +6,13 @@ use mathlib.Core.Logic.{_⊎_, inl, inr, ⊎-elim}
 use Prim.Native.Nat.{ℕ, _+_, _-_, _*_, _/_, _%_, _≤_, _<_, min}
 use native.Mathlib.Nat.{div-add-mod', mod-lt, min-eq-left, min-eq-right}
 use native.Mathlib.Omega.{arith}
-use lib.Dec.{leb, ltb}
 use lib.ListN.{length, getD, take, drop}
 use lib.Seq.{getD-take, getD-drop}
 use lib.Arith.{digits-div, digits-mod}
 use lib.Ieee.{Float, nan, Format}
 use borrow.Author.Tests.{le-leb, lt-leb, lt-ltb, le-ltb}
 use Rattle.genotype.specs.Lists.{tabulate}
-use Rattle.genotype.proofs.Tabulate.{length-tabulate, getD-tabulate, tabulate-ext, is-tabulate}
+use Rattle.genotype.proofs.Tabulate.{length-tabulate, getD-tabulate, is-tabulate}
 use Rattle.product.specs.Steps.{sumMore, rowMore, inBlock, blockMore, Put}
 use Rattle.product.proofs.Parts.{below-or, length-part}
 use Rattle.product.proofs.Grid.{row-in}

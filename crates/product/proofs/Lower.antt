@@ -1,6 +1,6 @@
 -- Laws of a piece with some terms of each sum on and below the diagonal.
 use mathlib.Core.Path.{_≡_, refl, sym, ap, _∙_}
-use mathlib.Core.Bool.{Bool, cond}
+use mathlib.Core.Bool.{cond}
 use mathlib.Core.List.{List}
 use mathlib.Core.Logic.{⊎-elim}
 use Prim.Native.Nat.{ℕ, _+_, _*_, _/_, _%_, _≤_, _<_}
@@ -16,8 +16,8 @@ use Rattle.product.specs.Values.{floatAt}
 use Rattle.product.specs.Dot.{plusZero}
 use Rattle.product.specs.Steps.{sumMore, lineValue, blockMore, lowerPiece}
 use Rattle.product.proofs.Parts.{below-or}
-use Rattle.product.proofs.Grid.{grid, row-below}
-use Rattle.product.proofs.Blocks.{Inside, inside-or, block-in, block-out, length-block}
+use Rattle.product.proofs.Grid.{row-below}
+use Rattle.product.proofs.Blocks.{inside-or, block-in, block-out, length-block}
 
 -- the values of a line from term k on
 pub line-from : (bytes : List ℕ) (base line step k at : ℕ) → at ≡ base + 8 * (0 * line + k * step) → (r t : ℕ) → lineValue bytes at line step r t ≡ lineValue bytes base line step r (k + t)

@@ -136,7 +136,7 @@ fn load_finite(bytes: &[u8], at: usize, dst: &mut [f64])
     }
 }
 
-// The same of eight values.
+// `load` of eight values, each by a load of its own, so that the processor fetches each line ahead.
 fn load_eight(bytes: &[u8], at: usize, step: usize, dst: &mut [f64])
     requires { ⌜ (length (now dst) ≡ 8) × ((i : ℕ) → i < 8 → at + 8 * (i * step) + 8 ≤ length (now bytes)) ⌝ }
     ensures { λ _. ⌜ now (dst .exit) ≡ tabulate (length (now (dst .entry))) (λ i. floatAt (now (bytes .entry)) (at + 8 * (i * step))) ⌝ }

@@ -1,7 +1,7 @@
 // Sums that are formed straight from the bytes, and sums of a column that are taken out of a piece and put back.
 ghost use mathlib.Core.Path.{_≡_};
 ghost use mathlib.Core.Bool.{true};
-ghost use Prim.Native.Nat.{ℕ, _+_, _*_, _^_, _<_, _≤_};
+ghost use Prim.Native.Nat.{ℕ, _+_, _*_, _<_, _≤_};
 ghost use lib.ListN.{length, getD, take, drop};
 ghost use lib.Ieee.{nan, binary64};
 ghost use Rattle.genotype.specs.Lists.{tabulate};

@@ -1,7 +1,6 @@
 use mathlib.Core.Path.{refl}
 use Prim.Native.Nat.{_+_, _*_}
 use native.Mathlib.Omega.{arith}
-use borrow.Author.Needs.{needs}
 use lib.ListN.{length-set}
 use Rattle.product.specs.Values.{floatAt}
 use Rattle.product.proofs.InPlace.{eight-filled}
