@@ -136,7 +136,7 @@ fn load_finite(bytes: &[u8], at: usize, dst: &mut [f64])
     }
 }
 
-// The same of eight values.
+// `load` of eight values, each by a load of its own, so that the processor fetches each line ahead.
 fn load_eight(bytes: &[u8], at: usize, step: usize, dst: &mut [f64])
     requires { ⌜ (length (now dst) ≡ 8) × ((i : ℕ) → i < 8 → at + 8 * (i * step) + 8 ≤ length (now bytes)) ⌝ }
     ensures { λ _. ⌜ now (dst .exit) ≡ tabulate (length (now (dst .entry))) (λ i. floatAt (now (bytes .entry)) (at + 8 * (i * step))) ⌝ }
@@ -372,14 +372,14 @@ fn block_rows(line: usize) -> usize
 // How many terms a tile holds, for blocks of so many rows: none where it would serve one column only.
 fn tile_terms(rows: usize, width: usize) -> usize
     requires { ⌜ 0 < rows ⌝ }
-    ensures { λ r. ⌜ r * rows ≤ 2048 ⌝ }
+    ensures { λ r. ⌜ r * rows ≤ 1792 ⌝ }
 {
     if rows == 64 {
         if width == 1 {
             return 0;
         }
     }
-    2048 / rows
+    1792 / rows
 }
 
 // Adds all terms to the sums of rows top to bottom - 1.
@@ -395,14 +395,14 @@ fn add_terms(
     x: &mut [f64],
     piece: &mut [f64],
 )
-    requires { ⌜ (2056 ≤ length (now x)) × (0 < width) × (top < bottom) × (bottom * width ≤ length (now piece)) × LinesIn (length (now bytes)) base line step bottom count ⌝ }
+    requires { ⌜ (1800 ≤ length (now x)) × (0 < width) × (top < bottom) × (bottom * width ≤ length (now piece)) × LinesIn (length (now bytes)) base line step bottom count ⌝ }
     ensures { λ _. ⌜ now (piece .exit) ≡ blockMore binary64 width (lineValue (now (bytes .entry)) base line step) count top bottom 0 width (now (piece .entry)) ⌝ }
 {
     let g = block_rows(line);
     let tile = tile_terms(g, width);
     let mut k = 0;
     while k < count {
-        let n = least(2048 / g, count - k);
+        let n = least(1792 / g, count - k);
         let at = place(base, line, step, 0, k);
         let loaded = least(tile, n);
         add_blocks(
@@ -467,7 +467,7 @@ fn lower_piece(
     if count > 0 {
         let base = offset as usize + 8 * first;
         let rows = rows_together(line, height);
-        let mut x = [0.0f64; 2056];
+        let mut x = [0.0f64; 1800];
         let mut r = 0;
         while r < height {
             let bottom = r + least(rows, height - r);

@@ -23,8 +23,8 @@ block-rows-requires : tie.Need-block-rows-requires Inv-loop μ-loop
 block-rows-requires c κs = tt
 
 -- a tile has room for some terms
-some-terms : (g : ℕ) → (0 < g) × (g ≤ 64) → 0 < 2048 / g
-some-terms g h = omega (arith, div-mono 1 1 2048 g (omega arith) (h .0) (omega arith))
+some-terms : (g : ℕ) → (0 < g) × (g ≤ 64) → 0 < 1792 / g
+some-terms g h = omega (arith, div-mono 1 1 1792 g (omega arith) (h .0) (omega arith))
 
 tile-terms-requires : tie.Need-tile-terms-requires Inv-loop μ-loop
 tile-terms-requires c κs = c .block-rows .ensures .0
@@ -41,8 +41,8 @@ sub-least c = omega arith
 least-requires : tie.Need-least-requires Inv-loop μ-loop
 least-requires c κs = tt
 
-sized : (c : tie.After-least Inv-loop μ-loop) → (0 < c .least .result) × (c .least .result ≤ 2048 / c .before .before .before .before .block-rows .result) × (c .least .result ≤ c .before .before .before .before .before .before .before .before .args .count - c .before .before .loop .k)
-sized c = least-above (2048 / c .before .before .before .before .block-rows .result) (c .before .before .before .before .before .before .before .before .args .count - c .before .before .loop .k) (c .least .result) (some-terms (c .before .before .before .before .block-rows .result) (c .before .before .before .before .block-rows .ensures)) (omega arith) (c .least .ensures)
+sized : (c : tie.After-least Inv-loop μ-loop) → (0 < c .least .result) × (c .least .result ≤ 1792 / c .before .before .before .before .block-rows .result) × (c .least .result ≤ c .before .before .before .before .before .before .before .before .args .count - c .before .before .loop .k)
+sized c = least-above (1792 / c .before .before .before .before .block-rows .result) (c .before .before .before .before .before .before .before .before .args .count - c .before .before .loop .k) (c .least .result) (some-terms (c .before .before .before .before .block-rows .result) (c .before .before .before .before .block-rows .ensures)) (omega arith) (c .least .ensures)
 
 place-requires : tie.Need-place-requires Inv-loop μ-loop
 place-requires c κs = omega (arith, c .before .before .before .before .before .before .before .before .pre .4 0 (c .before .before .loop .k) (omega arith) (omega arith))

@@ -13,7 +13,7 @@ use Rattle.product.proofs.lower_piece.Statement.{statement}
 use Rattle.product.proofs.lower_piece.Tie as tie
 
 abbrev Inv-loop : tie.InvT-loop
-Inv-loop bytes offset first line step count height width piece₀ base rows x₀ r₀ piece x r = (r ≤ height) × (length x ≡ 2056) × (length piece ≡ length piece₀) × (piece ≡ blockMore binary64 width (lineValue bytes base line step) count 0 r 0 width piece₀)
+Inv-loop bytes offset first line step count height width piece₀ base rows x₀ r₀ piece x r = (r ≤ height) × (length x ≡ 1800) × (length piece ≡ length piece₀) × (piece ≡ blockMore binary64 width (lineValue bytes base line step) count 0 r 0 width piece₀)
 
 abbrev μ-loop : tie.MeasureT-loop
 μ-loop bytes offset first line step count height width piece₀ base rows x₀ r₀ piece x r = height - r
