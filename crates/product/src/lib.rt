@@ -13,7 +13,7 @@ ghost use Rattle.product.specs.Piece.{pieceAnswer, goodPiece, enoughByte
 ghost use Rattle.product.specs.Says.{pieceSays};
 ghost use Rattle.product.specs.Steps.{lineValue, Finite, LinesIn, Tile, termMore, rowMore, blockMore, lowerPiece};
 
-mod narrow;
+mod column;
 
 // What a product call answers: done, or 18, 20, 15, 1.
 pub enum PieceAnswer {
@@ -157,7 +157,7 @@ fn load_lines(bytes: &[u8], at: usize, line: usize, dst: &mut [f64])
     ensures { λ _. ⌜ now (dst .exit) ≡ tabulate (length (now (dst .entry))) (λ i. floatAt (now (bytes .entry)) (at + 8 * (i * line))) ⌝ }
 {
     if line == 1 {
-        if narrow::all_finite(bytes, at, dst.len()) {
+        if column::all_finite(bytes, at, dst.len()) {
             load_finite(bytes, at, dst);
             return;
         }
@@ -249,13 +249,13 @@ fn add_eight(bytes: &[u8], at: usize, step: usize, n: usize, g: usize, x: &[f64]
 {
     let m = sums.len();
     let mut s = [0.0f64; 8];
-    narrow::take_out(sums, 0, 1, &mut s[0..m]);
+    column::take_out(sums, 0, 1, &mut s[0..m]);
     let mut i = 0;
     while i < n {
         add_one(x, i * g, term(bytes, at, step, i), &mut s);
         i += 1;
     }
-    narrow::put_back(&s[0..m], 0, 1, sums);
+    column::put_back(&s[0..m], 0, 1, sums);
 }
 
 // Adds n products to the sums of lines r, r + 1 and so on with line c: from a tile if it has all n terms, else
@@ -284,7 +284,7 @@ fn add_products(
             add_many(bytes, at, step, n, g, x, sums);
         }
     } else {
-        narrow::add_across(bytes, base, line, step, n, r, c, sums);
+        column::add_across(bytes, base, line, step, n, r, c, sums);
     }
 }
 
@@ -310,10 +310,10 @@ fn add_block(
     let mut c = 0;
     while c < end {
         let from = r * width + c;
-        narrow::take_out(piece, from, width, room);
+        column::take_out(piece, from, width, room);
         add_products(bytes, base, line, step, n, r, c, loaded, g, x, room);
         let above = c - least(c, r);
-        narrow::put_back(&room[above..], from + above * width, width, piece);
+        column::put_back(&room[above..], from + above * width, width, piece);
         c += 1;
     }
 }

@@ -8,8 +8,8 @@ use lib.Ieee.{binary64}
 use Rattle.product.specs.Values.{floatAt}
 use Rattle.product.proofs.InPlace.{filled, filled-none, filled-all}
 use Rattle.product.proofs.Rows.{withTerm, term-step}
-use Rattle.product.proofs.narrow.add_any.Statement.{statement}
-use Rattle.product.proofs.narrow.add_any.Tie as tie
+use Rattle.product.proofs.column.add_any.Statement.{statement}
+use Rattle.product.proofs.column.add_any.Tie as tie
 
 abbrev Inv-loop : tie.InvT-loop
 Inv-loop bytes at line v sums₀ j₀ sums j = (j ≤ length sums₀) × (length sums ≡ length sums₀) × (sums ≡ filled (withTerm binary64 (λ j. floatAt bytes (at + 8 * (j * line))) v sums₀) j sums₀)

@@ -7,8 +7,8 @@ use native.Mathlib.Omega.{arith}
 use lib.Dec.{T}
 use Rattle.product.specs.Steps.{Finite}
 use Rattle.product.proofs.Parts.{below-or}
-use Rattle.product.proofs.narrow.four_finite.Statement.{statement}
-use Rattle.product.proofs.narrow.four_finite.Tie as tie
+use Rattle.product.proofs.column.four_finite.Statement.{statement}
+use Rattle.product.proofs.column.four_finite.Tie as tie
 
 abbrev Inv-loop : tie.InvT-loop
 Inv-loop bytes at step n t₀ t = (t ≤ 4) × ((u : ℕ) → u < t → Finite bytes (at + 8 * (u * step)) n)

@@ -4,8 +4,8 @@ use Prim.Native.Nat.{_-_, _≤_}
 use native.Mathlib.Omega.{arith}
 use lib.ListN.{length, length-set}
 use Rattle.product.proofs.Columns.{PutTo, put-none, put-more}
-use Rattle.product.proofs.narrow.put_back.Statement.{statement}
-use Rattle.product.proofs.narrow.put_back.Tie as tie
+use Rattle.product.proofs.column.put_back.Statement.{statement}
+use Rattle.product.proofs.column.put_back.Tie as tie
 
 abbrev Inv-loop : tie.InvT-loop
 Inv-loop src from width piece₀ i₀ piece i = (i ≤ length src) × (length piece ≡ length piece₀) × PutTo src from width piece₀ piece i

@@ -6,8 +6,8 @@ use native.Mathlib.Omega.{arith}
 use borrow.Author.Tests.{eqb-true}
 use Rattle.product.specs.Steps.{Finite}
 use Rattle.product.proofs.Bytes.{finite-more}
-use Rattle.product.proofs.narrow.all_finite.Statement.{statement}
-use Rattle.product.proofs.narrow.all_finite.Tie as tie
+use Rattle.product.proofs.column.all_finite.Statement.{statement}
+use Rattle.product.proofs.column.all_finite.Tie as tie
 
 abbrev Inv-loop : tie.InvT-loop
 Inv-loop bytes at n others₀ i₀ others i = (i ≤ n) × (others ≤ i) × (others ≡ 0 → Finite bytes at i)

@@ -9,8 +9,8 @@ use Rattle.product.specs.Values.{floatAt}
 use Rattle.product.proofs.Bytes.{float-of, number-of}
 use Rattle.product.proofs.InPlace.{filled, filled-none, filled-all}
 use Rattle.product.proofs.Rows.{byFour, four-step}
-use Rattle.product.proofs.narrow.add_finite.Statement.{statement}
-use Rattle.product.proofs.narrow.add_finite.Tie as tie
+use Rattle.product.proofs.column.add_finite.Statement.{statement}
+use Rattle.product.proofs.column.add_finite.Tie as tie
 
 abbrev Inv-loop : tie.InvT-loop
 Inv-loop bytes at own step sums₀ y0 y1 y2 y3 j₀ sums j = (j ≤ length sums₀) × (length sums ≡ length sums₀) × (sums ≡ filled (byFour binary64 (λ j t. floatAt bytes (at + 8 * (t * step) + 8 * j)) (λ t. floatAt bytes (own + 8 * (t * step))) sums₀) j sums₀)

@@ -9,8 +9,8 @@ use Rattle.product.specs.Steps.{lineValue}
 use Rattle.product.proofs.Rows.{row-ext, one-more}
 use Rattle.product.proofs.Tile.{line-place, four-term, four-fits, term-from}
 use Rattle.product.proofs.Columns.{value-at}
-use Rattle.product.proofs.narrow.add_next.Statement.{statement}
-use Rattle.product.proofs.narrow.add_next.Tie as tie
+use Rattle.product.proofs.column.add_next.Statement.{statement}
+use Rattle.product.proofs.column.add_next.Tie as tie
 
 place-requires : tie.Need-place-requires
 place-requires c κs = omega (arith, c .before .before .pre .3 (c .before .before .args .r) (c .before .before .args .t) (omega arith) (c .before .before .pre .2))

@@ -6,8 +6,8 @@ use borrow.Author.Needs.{needs}
 use lib.ListN.{length, getD, length-set}
 use lib.Ieee.{nan}
 use Rattle.product.proofs.InPlace.{filled, filled-none, filled-step, filled-all}
-use Rattle.product.proofs.narrow.take_out.Statement.{statement}
-use Rattle.product.proofs.narrow.take_out.Tie as tie
+use Rattle.product.proofs.column.take_out.Statement.{statement}
+use Rattle.product.proofs.column.take_out.Tie as tie
 
 abbrev Inv-loop : tie.InvT-loop
 Inv-loop piece from width dst₀ i₀ dst i = (i ≤ length dst₀) × (length dst ≡ length dst₀) × (dst ≡ filled (λ j. getD piece (from + j * width) nan) i dst₀)

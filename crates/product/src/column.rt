@@ -1,4 +1,4 @@
-// Sums that are formed straight from the bytes, and sums of a column that are taken out of a piece and put back.
+// The sums of one column of a piece: formed straight from the bytes, and taken out of the piece and put back.
 ghost use mathlib.Core.Path.{_≡_};
 ghost use mathlib.Core.Bool.{true};
 ghost use Prim.Native.Nat.{ℕ, _+_, _*_, _<_, _≤_};

@@ -6,8 +6,8 @@ use lib.ListN.{length}
 use lib.Ieee.{binary64}
 use Rattle.product.specs.Steps.{lineValue, rowMore}
 use Rattle.product.proofs.Rows.{row-none, row-add}
-use Rattle.product.proofs.narrow.add_across.Statement.{statement}
-use Rattle.product.proofs.narrow.add_across.Tie as tie
+use Rattle.product.proofs.column.add_across.Statement.{statement}
+use Rattle.product.proofs.column.add_across.Tie as tie
 
 abbrev Inv-loop : tie.InvT-loop
 Inv-loop bytes base line step n r c sums₀ t₀ sums t = (t ≤ n) × (length sums ≡ length sums₀) × (sums ≡ rowMore binary64 (λ j t. lineValue bytes base line step (r + j) t) (λ t. lineValue bytes base line step c t) t sums₀)
