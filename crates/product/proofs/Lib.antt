@@ -3,6 +3,7 @@ pub mod InPlace
 pub mod Sums
 pub mod Columns
 pub mod Rows
+pub mod Straight
 pub mod Parts
 pub mod Tile
 pub mod Grid

@@ -35,23 +35,6 @@ pub line-term : (bytes : List ℕ) (base line step c i at : ℕ) → at ≡ base
 unfolding lineValue
 line-term bytes base line step c i at q = ap (floatAt bytes) (let e : at + 8 * (i * step) ≡ base + 8 * (c * line + i * step) = omega arith in e)
 
--- four terms of neighbouring lines with neighbouring values
-module _ (base line step r t at : ℕ) (h : line ≡ 1) (a : at ≡ base + 8 * (r * line + t * step)) where
-  four-place : (u j : ℕ) → at + 8 * (u * step) + 8 * j ≡ base + 8 * ((r + j) * line + (t + u) * step)
-  four-place u j = let e : at + 8 * j ≡ at + 8 * (j * line) = across-place at line j h in omega arith
-
-  pub four-term : (bytes : List ℕ) (u j : ℕ) → floatAt bytes (at + 8 * (u * step) + 8 * j) ≡ lineValue bytes base line step (r + j) (t + u)
-  unfolding lineValue
-  four-term bytes u j = ap (floatAt bytes) (four-place u j)
-
-  pub four-fits : (u m size : ℕ) → (0 < m) × (base + 8 * ((r + (m - 1)) * line + (t + u) * step) + 8 ≤ size) → at + 8 * (u * step) + 8 * m ≤ size
-  four-fits u m size b = omega (arith, four-place u (m - 1))
-
--- term t + i of line c, from the place of term t
-pub term-from : (bytes : List ℕ) (base line step c t i at : ℕ) → at ≡ base + 8 * (c * line + t * step) → floatAt bytes (at + 8 * (i * step)) ≡ lineValue bytes base line step c (t + i)
-unfolding lineValue
-term-from bytes base line step c t i at q = ap (floatAt bytes) (let e : at + 8 * (i * step) ≡ base + 8 * (c * line + (t + i) * step) = omega arith in e)
-
 module _ (bytes : List ℕ) (base line step r m g : ℕ) where
   -- one more row of the tile
   pub tile-more : (i size at : ℕ) (x part : List Float) → at ≡ base + 8 * (r * line + i * step) → size ≡ m → m ≤ g → i * g + m ≤ length x

@@ -6,7 +6,7 @@ ghost use lib.ListN.{length, getD, take, drop};
 ghost use lib.Ieee.{nan, binary64};
 ghost use Rattle.genotype.specs.Lists.{tabulate};
 ghost use Rattle.product.specs.Values.{leNumber, floatAt};
-ghost use Rattle.product.specs.Steps.{lineValue, Finite, LinesIn, termMore, rowMore, Put};
+ghost use Rattle.product.specs.Steps.{Finite, rowMore, Put};
 
 // Whether n neighbouring values are all finite. The others are counted, which takes no branch for each value.
 pub(crate) fn all_finite(bytes: &[u8], at: usize, n: usize) -> bool
@@ -24,7 +24,7 @@ pub(crate) fn all_finite(bytes: &[u8], at: usize, n: usize) -> bool
 }
 
 // Whether they are in four runs of n values, the starts step values apart.
-fn four_finite(bytes: &[u8], at: usize, step: usize, n: usize) -> bool
+pub(crate) fn four_finite(bytes: &[u8], at: usize, step: usize, n: usize) -> bool
     requires { ⌜ ((t : ℕ) → t < 4 → at + 8 * (t * step) + 8 * n ≤ length (now bytes)) ⌝ }
     ensures { λ r. ⌜ (r ≡ true → (t : ℕ) → t < 4 → Finite (now (bytes .entry)) (at + 8 * (t * step)) n) ⌝ }
 {
@@ -49,7 +49,7 @@ fn bits(bytes: &[u8], at: usize, step: usize, t: usize, j: usize) -> u64
 
 // Adds four products to each sum, upward: of neighbouring values in four such runs, none of them a NaN, with the values
 // from a place on, step values apart.
-fn add_finite(bytes: &[u8], at: usize, own: usize, step: usize, sums: &mut [f64])
+pub(crate) fn add_finite(bytes: &[u8], at: usize, own: usize, step: usize, sums: &mut [f64])
     requires { ⌜ ((t : ℕ) → t < 4 → at + 8 * (t * step) + 8 * length (now sums) ≤ length (now bytes)) × ((t : ℕ) → t < 4 → Finite (now bytes) (at + 8 * (t * step)) (length (now sums))) × ((t : ℕ) → t < 4 → own + 8 * (t * step) + 8 ≤ length (now bytes)) ⌝ }
     ensures { λ _. ⌜ now (sums .exit) ≡ rowMore binary64 (λ j t. floatAt (now (bytes .entry)) (at + 8 * (t * step) + 8 * j)) (λ t. floatAt (now (bytes .entry)) (own + 8 * (t * step))) 4 (now (sums .entry)) ⌝ }
 {
@@ -69,68 +69,6 @@ fn add_finite(bytes: &[u8], at: usize, own: usize, step: usize, sums: &mut [f64]
             + f64::from_bits(b2) * y2
             + f64::from_bits(b3) * y3;
         j += 1;
-    }
-}
-
-// Adds the products of any values of neighbouring lines with v, one to each sum.
-fn add_any(bytes: &[u8], at: usize, line: usize, v: f64, sums: &mut [f64])
-    requires { ⌜ ((j : ℕ) → j < length (now sums) → at + 8 * (j * line) + 8 ≤ length (now bytes)) ⌝ }
-    ensures { λ _. ⌜ now (sums .exit) ≡ termMore binary64 (λ j. floatAt (now (bytes .entry)) (at + 8 * (j * line))) v (now (sums .entry)) ⌝ }
-{
-    let mut j = 0;
-    while j < sums.len() {
-        sums[j] = sums[j] + super::term(bytes, at, line, j) * v;
-        j += 1;
-    }
-}
-
-// Adds some terms from term t on, and says how many: four, where neighbouring lines have neighbouring values and these
-// are no NaNs, else one.
-fn add_next(
-    bytes: &[u8],
-    base: usize,
-    line: usize,
-    step: usize,
-    n: usize,
-    t: usize,
-    r: usize,
-    c: usize,
-    sums: &mut [f64],
-) -> usize
-    requires { ⌜ (0 < length (now sums)) × (c < r + length (now sums)) × (t < n) × LinesIn (length (now bytes)) base line step (r + length (now sums)) n ⌝ }
-    ensures { λ m. ⌜ (0 < m) × (t + m ≤ n) × (now (sums .exit) ≡ rowMore binary64 (λ j i. lineValue (now (bytes .entry)) base line step (r + j) (t + i)) (λ i. lineValue (now (bytes .entry)) base line step c (t + i)) m (now (sums .entry))) ⌝ }
-{
-    let at = super::place(base, line, step, r, t);
-    let own = super::place(base, line, step, c, t);
-    if line == 1 {
-        if n - t >= 4 {
-            if four_finite(bytes, at, step, sums.len()) {
-                add_finite(bytes, at, own, step, sums);
-                return 4;
-            }
-        }
-    }
-    add_any(bytes, at, line, super::float_at(bytes, own), sums);
-    1
-}
-
-// Adds n products to the sums of lines r, r + 1 and so on with line c.
-pub(crate) fn add_across(
-    bytes: &[u8],
-    base: usize,
-    line: usize,
-    step: usize,
-    n: usize,
-    r: usize,
-    c: usize,
-    sums: &mut [f64],
-)
-    requires { ⌜ (0 < length (now sums)) × (c < r + length (now sums)) × LinesIn (length (now bytes)) base line step (r + length (now sums)) n ⌝ }
-    ensures { λ _. ⌜ now (sums .exit) ≡ rowMore binary64 (λ j t. lineValue (now (bytes .entry)) base line step (r + j) t) (λ t. lineValue (now (bytes .entry)) base line step c t) n (now (sums .entry)) ⌝ }
-{
-    let mut t = 0;
-    while t < n {
-        t += add_next(bytes, base, line, step, n, t, r, c, sums);
     }
 }
 

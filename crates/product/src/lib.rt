@@ -11,7 +11,7 @@ ghost use Rattle.product.specs.Values.{leNumber, floatAt};
 ghost use Rattle.product.specs.Dot.{plusZero};
 ghost use Rattle.product.specs.Piece.{pieceAnswer, goodPiece, enoughBytes, ataAnswer, ataLeaves, aatAnswer, aatLeaves};
 ghost use Rattle.product.specs.Says.{pieceSays};
-ghost use Rattle.product.specs.Steps.{lineValue, Finite, LinesIn, Tile, termMore, rowMore, blockMore, lowerPiece};
+ghost use Rattle.product.specs.Steps.{lineValue, Finite, Straight, LinesIn, Tile, termMore, rowMore, blockMore, lowerPiece};
 
 mod column;
 
@@ -258,8 +258,8 @@ fn add_eight(bytes: &[u8], at: usize, step: usize, n: usize, g: usize, x: &[f64]
     column::put_back(&s[0..m], 0, 1, sums);
 }
 
-// Adds n products to the sums of lines r, r + 1 and so on with line c: from a tile if it has all n terms, else
-// straight from the bytes.
+// Adds n products to the sums of lines r, r + 1 and so on with line c: from a tile if it has them, else straight from
+// the bytes.
 fn add_products(
     bytes: &[u8],
     base: usize,
@@ -273,7 +273,7 @@ fn add_products(
     x: &[f64],
     sums: &mut [f64],
 )
-    requires { ⌜ (0 < length (now sums)) × (length (now sums) ≤ g) × (0 < n) × (c < r + length (now sums)) × (r + length (now sums) < 2 ^ 64) × (loaded * g + 8 ≤ length (now x)) × LinesIn (length (now bytes)) base line step (r + length (now sums)) n × Tile (now x) g (lineValue (now bytes) base line step) r loaded (length (now sums)) ⌝ }
+    requires { ⌜ (0 < length (now sums)) × (length (now sums) ≤ g) × (0 < n) × (c < r + length (now sums)) × (r + length (now sums) < 2 ^ 64) × (loaded * g + 8 ≤ length (now x)) × LinesIn (length (now bytes)) base line step (r + length (now sums)) n × Tile (now x) g (lineValue (now bytes) base line step) r loaded (length (now sums)) × ((loaded ≡ n → ⊥) → Straight (now bytes) base line step n r (r + length (now sums))) ⌝ }
     ensures { λ _. ⌜ now (sums .exit) ≡ rowMore binary64 (λ j t. lineValue (now (bytes .entry)) base line step (r + j) t) (λ t. lineValue (now (bytes .entry)) base line step c t) n (now (sums .entry)) ⌝ }
 {
     if loaded == n {
@@ -284,7 +284,9 @@ fn add_products(
             add_many(bytes, at, step, n, g, x, sums);
         }
     } else {
-        column::add_across(bytes, base, line, step, n, r, c, sums);
+        let at = place(base, line, step, r, 0);
+        let own = place(base, line, step, c, 0);
+        column::add_finite(bytes, at, own, step, sums);
     }
 }
 
@@ -303,7 +305,7 @@ fn add_block(
     room: &mut [f64],
     piece: &mut [f64],
 )
-    requires { ⌜ (0 < length (now room)) × (length (now room) ≤ g) × (0 < n) × (r + length (now room) < 2 ^ 64) × (loaded * g + 8 ≤ length (now x)) × LinesIn (length (now bytes)) base line step (r + length (now room)) n × Tile (now x) g (lineValue (now bytes) base line step) r loaded (length (now room)) × (0 < width) × ((r + length (now room)) * width ≤ length (now piece)) ⌝ }
+    requires { ⌜ (0 < length (now room)) × (length (now room) ≤ g) × (0 < n) × (r + length (now room) < 2 ^ 64) × (loaded * g + 8 ≤ length (now x)) × LinesIn (length (now bytes)) base line step (r + length (now room)) n × Tile (now x) g (lineValue (now bytes) base line step) r loaded (length (now room)) × (0 < width) × ((r + length (now room)) * width ≤ length (now piece)) × ((loaded ≡ n → ⊥) → Straight (now bytes) base line step n r (r + length (now room))) ⌝ }
     ensures { λ _. ⌜ now (piece .exit) ≡ blockMore binary64 width (lineValue (now (bytes .entry)) base line step) n r (r + length (now (room .entry))) 0 width (now (piece .entry)) ⌝ }
 {
     let end = least(width, r + room.len());
@@ -333,7 +335,7 @@ fn add_blocks(
     x: &mut [f64],
     piece: &mut [f64],
 )
-    requires { ⌜ (0 < g) × (g ≤ 64) × (0 < n) × (loaded ≤ n) × (loaded * g + 8 ≤ length (now x)) × (0 < width) × (top ≤ bottom) × (bottom * width ≤ length (now piece)) × LinesIn (length (now bytes)) base line step bottom n ⌝ }
+    requires { ⌜ (0 < g) × (g ≤ 64) × (0 < n) × (loaded ≤ n) × (loaded * g + 8 ≤ length (now x)) × (0 < width) × (top ≤ bottom) × (bottom * width ≤ length (now piece)) × LinesIn (length (now bytes)) base line step bottom n × ((loaded ≡ n → ⊥) → Straight (now bytes) base line step n top bottom) ⌝ }
     ensures { λ _. ⌜ now (piece .exit) ≡ blockMore binary64 width (lineValue (now (bytes .entry)) base line step) n top bottom 0 width (now (piece .entry)) ⌝ }
 {
     let mut room = [0.0f64; 64];
@@ -369,17 +371,43 @@ fn block_rows(line: usize) -> usize
     8
 }
 
-// How many terms a tile holds, for blocks of so many rows: none where it would serve one column only.
-fn tile_terms(rows: usize, width: usize) -> usize
-    requires { ⌜ 0 < rows ⌝ }
-    ensures { λ r. ⌜ r * rows ≤ 1792 ⌝ }
+// How many terms a pass has, for blocks of so many rows: four where so few columns would use a tile that the products
+// are rather formed straight from the bytes.
+fn pass_terms(rows: usize, width: usize) -> usize
+    requires { ⌜ (0 < rows) × (rows ≤ 64) ⌝ }
+    ensures { λ r. ⌜ (0 < r) × (r * rows ≤ 1792) ⌝ }
 {
     if rows == 64 {
-        if width == 1 {
-            return 0;
+        if width < 8 {
+            return 4;
         }
     }
     1792 / rows
+}
+
+// How many of n terms go into tiles: none where the products of lines top to bottom - 1 can be formed straight from the
+// bytes. These are then read once in their order, which is as fast as they come.
+fn tile_terms(
+    bytes: &[u8],
+    base: usize,
+    line: usize,
+    step: usize,
+    n: usize,
+    top: usize,
+    bottom: usize,
+) -> usize
+    requires { ⌜ (top < bottom) × LinesIn (length (now bytes)) base line step bottom n ⌝ }
+    ensures { λ r. ⌜ (r ≤ n) × ((r ≡ n → ⊥) → Straight (now (bytes .entry)) base line step n top bottom) ⌝ }
+{
+    if line == 1 {
+        if n == 4 {
+            let at = place(base, line, step, top, 0);
+            if column::four_finite(bytes, at, step, bottom - top) {
+                return 0;
+            }
+        }
+    }
+    n
 }
 
 // Adds all terms to the sums of rows top to bottom - 1.
@@ -399,12 +427,12 @@ fn add_terms(
     ensures { λ _. ⌜ now (piece .exit) ≡ blockMore binary64 width (lineValue (now (bytes .entry)) base line step) count top bottom 0 width (now (piece .entry)) ⌝ }
 {
     let g = block_rows(line);
-    let tile = tile_terms(g, width);
+    let terms = pass_terms(g, width);
     let mut k = 0;
     while k < count {
-        let n = least(1792 / g, count - k);
+        let n = least(terms, count - k);
         let at = place(base, line, step, 0, k);
-        let loaded = least(tile, n);
+        let loaded = tile_terms(bytes, at, line, step, n, top, bottom);
         add_blocks(
             bytes,
             at,
@@ -435,12 +463,11 @@ fn clear(piece: &mut [f64])
 }
 
 // How many rows get all their terms before the next ones.
-fn rows_together(line: usize, height: usize) -> usize
-    requires { ⌜ 0 < height ⌝ }
+fn rows_together(line: usize) -> usize
     ensures { λ r. ⌜ 0 < r ⌝ }
 {
     if line == 1 {
-        return height;
+        return 32768;
     }
     8
 }
@@ -466,7 +493,7 @@ fn lower_piece(
     }
     if count > 0 {
         let base = offset as usize + 8 * first;
-        let rows = rows_together(line, height);
+        let rows = rows_together(line);
         let mut x = [0.0f64; 1800];
         let mut r = 0;
         while r < height {

@@ -8,6 +8,7 @@ use lib.Ieee.{binary64}
 use Rattle.product.specs.Steps.{lineValue, blockMore}
 use Rattle.product.proofs.Parts.{least-above, length-part}
 use Rattle.product.proofs.Grid.{row-in}
+use Rattle.product.proofs.Straight.{straight-part}
 use Rattle.product.proofs.Blocks.{some-below, below-places, block-none, columns-all, column-turn}
 use Rattle.product.proofs.add_block.Statement.{statement}
 use Rattle.product.proofs.add_block.Tie as tie
@@ -47,8 +48,9 @@ take-out-requires c κs = λ i h. omega (arith, c .before .before .before .befor
 add-products-requires : tie.Need-add-products-requires Inv-loop μ-loop
 add-products-requires c κs =
     let s = c .before .before .before .before .before .before .before .before .before .before .before .before .before .pre in
+    let a = c .before .before .before .before .before .before .before .before .before .before .before .before .before .args in
     let e = c .before .before .before .take-out .kept .1 .1 .1 .0 in
-    (omega (arith, c .before .before .before .before .before .before .before .loop .inv .1), omega (arith, c .before .before .before .before .before .before .before .loop .inv .1), s .2, omega (arith, c .before .before .before .before .before .before .before .loop .inv .1, within (c .before .before .before .before .before .before)), omega (arith, c .before .before .before .before .before .before .before .loop .inv .1), s .4, λ r' i h h'. s .5 r' i (omega (arith, c .before .before .before .before .before .before .before .loop .inv .1)) h', λ i j h h'. s .6 i j h (omega (arith, c .before .before .before .before .before .before .before .loop .inv .1)))
+    (omega (arith, c .before .before .before .before .before .before .before .loop .inv .1), omega (arith, c .before .before .before .before .before .before .before .loop .inv .1), s .2, omega (arith, c .before .before .before .before .before .before .before .loop .inv .1, within (c .before .before .before .before .before .before)), omega (arith, c .before .before .before .before .before .before .before .loop .inv .1), s .4, λ r' i h h'. s .5 r' i (omega (arith, c .before .before .before .before .before .before .before .loop .inv .1)) h', λ i j h h'. s .6 i j h (omega (arith, c .before .before .before .before .before .before .before .loop .inv .1)), λ d. straight-part (a .bytes .now) (a .base) (a .line) (a .step) (a .n) (a .r) (a .r + length (a .room .now)) (a .r) _ (omega arith) (omega (arith, c .before .before .before .before .before .before .before .loop .inv .1)) (omega arith) (s .9 d))
 
 least-requires-2 : tie.Need-least-requires-2 Inv-loop μ-loop
 least-requires-2 c κs = omega arith

@@ -8,6 +8,7 @@ use lib.Seq.{length-take-le, length-front}
 use lib.Ieee.{binary64}
 use Rattle.product.specs.Steps.{lineValue, blockMore}
 use Rattle.product.proofs.Parts.{least-above}
+use Rattle.product.proofs.Straight.{straight-part}
 use Rattle.product.proofs.Blocks.{block-none, rows-more}
 use Rattle.product.proofs.add_blocks.Statement.{statement}
 use Rattle.product.proofs.add_blocks.Tie as tie
@@ -50,7 +51,7 @@ add-block-requires c κs =
     let m = c .before .before .before .before .before .before .before .least .result in
     let l = sized (c .before .before .before .before .before .before .before) in
     let e : length (take (m - 0) (w .room)) ≡ m - 0 = length-take-le (m - 0) (w .room) (omega (arith, w .inv .3, l, s .1)) in
-    (omega (arith, l), omega (arith, l), s .2, omega (arith, l), omega (arith, s .4, w .inv .2, c .before .before .before .before .before .load-tile .kept .1 .1 .1 .1 .1 .1 .1 .1 .0), λ r' i h h'. s .8 r' i (omega (arith, l)) h', λ i j h h'. c .before .before .before .before .before .load-tile .ensures i j h (omega (arith, l)), s .5, omega (arith, s .7, w .inv .4, ap (λ (z : ℕ). (w .r + z) * a .width) (let u : length (take (m - 0) (w .room)) ≡ m = omega arith in u), mul-le-mul-right (a .width) (let u : w .r + m ≤ a .bottom = omega (arith, l) in u)))
+    (omega (arith, l), omega (arith, l), s .2, omega (arith, l), omega (arith, s .4, w .inv .2, c .before .before .before .before .before .load-tile .kept .1 .1 .1 .1 .1 .1 .1 .1 .0), λ r' i h h'. s .8 r' i (omega (arith, l)) h', λ i j h h'. c .before .before .before .before .before .load-tile .ensures i j h (omega (arith, l)), s .5, omega (arith, s .7, w .inv .4, ap (λ (z : ℕ). (w .r + z) * a .width) (let u : length (take (m - 0) (w .room)) ≡ m = omega arith in u), mul-le-mul-right (a .width) (let u : w .r + m ≤ a .bottom = omega (arith, l) in u)), λ d. straight-part (a .bytes .now) (a .base) (a .line) (a .step) (a .n) (a .top) (a .bottom) (w .r) _ (w .inv .0) (omega (arith, l)) (omega arith) (s .9 d))
 
 add-r : tie.Need-add-r Inv-loop μ-loop
 add-r c = omega (arith, sized (c .before .before .before .before .before .before .before .before .before .before .before))

@@ -1,11 +1,10 @@
 -- `add_terms`: the first k terms are in.
 use mathlib.Core.Path.{_≡_, refl, ap, _∙_}
-use Prim.Native.Nat.{ℕ, _+_, _-_, _/_, _≤_, _<_}
-use native.Mathlib.Nat.{mul-le-mul-right, min-le-left, min-le-right}
+use Prim.Native.Nat.{ℕ, _+_, _-_, _≤_, _<_}
+use native.Mathlib.Nat.{mul-le-mul-right}
 use native.Mathlib.Omega.{arith}
 use lib.ListN.{length}
 use lib.Ieee.{binary64}
-use lib.Ieee.Nearest.{div-mono}
 use Rattle.product.specs.Steps.{lineValue, blockMore}
 use Rattle.product.proofs.Parts.{least-above}
 use Rattle.product.proofs.Lower.{line-from}
@@ -14,26 +13,19 @@ use Rattle.product.proofs.add_terms.Statement.{statement}
 use Rattle.product.proofs.add_terms.Tie as tie
 
 abbrev Inv-loop : tie.InvT-loop
-Inv-loop bytes base line step count top bottom width x₀ piece₀ g tile k₀ x piece k = (k ≤ count) × (length x ≡ length x₀) × (length piece ≡ length piece₀) × (piece ≡ blockMore binary64 width (lineValue bytes base line step) k top bottom 0 width piece₀)
+Inv-loop bytes base line step count top bottom width x₀ piece₀ g terms k₀ x piece k = (k ≤ count) × (length x ≡ length x₀) × (length piece ≡ length piece₀) × (piece ≡ blockMore binary64 width (lineValue bytes base line step) k top bottom 0 width piece₀)
 
 abbrev μ-loop : tie.MeasureT-loop
-μ-loop bytes base line step count top bottom width x₀ piece₀ g tile k₀ x piece k = count - k
+μ-loop bytes base line step count top bottom width x₀ piece₀ g terms k₀ x piece k = count - k
 
 block-rows-requires : tie.Need-block-rows-requires Inv-loop μ-loop
 block-rows-requires c κs = tt
 
--- a tile has room for some terms
-some-terms : (g : ℕ) → (0 < g) × (g ≤ 64) → 0 < 1792 / g
-some-terms g h = omega (arith, div-mono 1 1 1792 g (omega arith) (h .0) (omega arith))
-
-tile-terms-requires : tie.Need-tile-terms-requires Inv-loop μ-loop
-tile-terms-requires c κs = c .block-rows .ensures .0
+pass-terms-requires : tie.Need-pass-terms-requires Inv-loop μ-loop
+pass-terms-requires c κs = c .block-rows .ensures
 
 loop-holds : tie.Need-loop-holds Inv-loop μ-loop
 loop-holds c = (omega arith, refl, refl, block-zero binary64 _ _ 0 refl _ _ _ _ _)
-
-div-least : tie.Need-div-least Inv-loop μ-loop
-div-least c = omega arith
 
 sub-least : tie.Need-sub-least Inv-loop μ-loop
 sub-least c = omega arith
@@ -41,23 +33,26 @@ sub-least c = omega arith
 least-requires : tie.Need-least-requires Inv-loop μ-loop
 least-requires c κs = tt
 
-sized : (c : tie.After-least Inv-loop μ-loop) → (0 < c .least .result) × (c .least .result ≤ 1792 / c .before .before .before .before .block-rows .result) × (c .least .result ≤ c .before .before .before .before .before .before .before .before .args .count - c .before .before .loop .k)
-sized c = least-above (1792 / c .before .before .before .before .block-rows .result) (c .before .before .before .before .before .before .before .before .args .count - c .before .before .loop .k) (c .least .result) (some-terms (c .before .before .before .before .block-rows .result) (c .before .before .before .before .block-rows .ensures)) (omega arith) (c .least .ensures)
+sized : (c : tie.After-least Inv-loop μ-loop) → (0 < c .least .result) × (c .least .result ≤ c .before .before .before .pass-terms .result) × (c .least .result ≤ c .before .before .before .before .before .before .before .before .args .count - c .before .before .loop .k)
+sized c = least-above (c .before .before .before .pass-terms .result) (c .before .before .before .before .before .before .before .before .args .count - c .before .before .loop .k) (c .least .result) (c .before .before .before .pass-terms .ensures .0) (omega arith) (c .least .ensures)
 
 place-requires : tie.Need-place-requires Inv-loop μ-loop
 place-requires c κs = omega (arith, c .before .before .before .before .before .before .before .before .pre .4 0 (c .before .before .loop .k) (omega arith) (omega arith))
 
-least-requires-2 : tie.Need-least-requires-2 Inv-loop μ-loop
-least-requires-2 c κs = tt
+tile-terms-requires : tie.Need-tile-terms-requires Inv-loop μ-loop
+tile-terms-requires c κs =
+    let s = c .before .before .before .before .before .before .before .before .before .pre in
+    (s .2, λ r i h h'. omega (arith, c .place .ensures, s .4 r (c .before .before .before .loop .k + i) h (omega (arith, sized (c .before)))))
 
 add-blocks-requires : tie.Need-add-blocks-requires Inv-loop μ-loop
 add-blocks-requires c κs =
     let s = c .before .before .before .before .before .before .before .before .before .before .before .before .pre in
     let w = c .before .before .before .before .before .before .loop in
     let l = sized (c .before .before .before .before) in
-    let m = c .before .before .least2 in
-    let t : m .result ≤ c .before .before .before .before .before .before .before .tile-terms .result = omega (arith, m .ensures, min-le-left (c .before .before .before .before .before .before .before .tile-terms .result) (c .before .before .before .before .least .result)) in
-    (c .before .before .before .before .before .before .before .before .block-rows .ensures .0, c .before .before .before .before .before .before .before .before .block-rows .ensures .1, l .0, omega (arith, m .ensures, min-le-right (c .before .before .before .before .before .before .before .tile-terms .result) (c .before .before .before .before .least .result)), omega (arith, w .inv .1, s .0, c .before .before .before .before .before .before .before .tile-terms .ensures, mul-le-mul-right (c .before .before .before .before .before .before .before .before .block-rows .result) t), s .1, omega (arith, s .2), omega (arith, w .inv .2, s .3), λ r i h h'. omega (arith, c .before .before .before .place .ensures, s .4 r (w .k + i) h (omega (arith, l))))
+    let g = c .before .before .before .before .before .before .before .before .block-rows in
+    let p = c .before .before .before .before .before .before .before .pass-terms in
+    let m = c .before .before .tile-terms in
+    (g .ensures .0, g .ensures .1, l .0, m .ensures .0, omega (arith, w .inv .1, s .0, p .ensures .1, mul-le-mul-right (g .result) (let t : m .result ≤ p .result = omega (arith, m .ensures .0, l) in t)), s .1, omega (arith, s .2), omega (arith, w .inv .2, s .3), λ r i h h'. omega (arith, c .before .before .before .place .ensures, s .4 r (w .k + i) h (omega (arith, l))), m .ensures .1)
 
 add-k : tie.Need-add-k Inv-loop μ-loop
 add-k c = omega (arith, sized (c .before .before .before .before .before .before .before .before .before))
@@ -91,13 +86,12 @@ add-terms-spec =
     Inv-loop
     μ-loop
     block-rows-requires
-    tile-terms-requires
+    pass-terms-requires
     loop-holds
-    div-least
     sub-least
     least-requires
     place-requires
-    least-requires-2
+    tile-terms-requires
     add-blocks-requires
     add-k
     loop-less

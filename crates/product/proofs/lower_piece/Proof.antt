@@ -37,7 +37,7 @@ add-base : tie.Need-add-base Inv-loop μ-loop
 add-base c = omega (arith, c .before .before .before .before .before .before .before .before .pre .3 0 0 (omega arith) (omega arith))
 
 rows-together-requires : tie.Need-rows-together-requires Inv-loop μ-loop
-rows-together-requires c κs = c .before .before .before .before .before .before .before .before .pre .0
+rows-together-requires c κs = tt
 
 loop-holds : tie.Need-loop-holds Inv-loop μ-loop
 loop-holds c = (omega arith, refl, refl, block-none binary64 _ _ _ _ _ _ _ _ (λ x y i. omega arith))
