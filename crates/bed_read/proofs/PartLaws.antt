@@ -73,6 +73,15 @@ pub as-block : (b : Bool) (w n : ℕ) → b ≡ true → (3 + n * w ≡ partByte
 unfolding partByte partPlace
 as-block b w n e = (ap (λ (x : Bool). partByte x w n) (sym e), ap (λ (x : Bool). partPlace x n) (sym e))
 
+-- a place is one of four
+pub place-below : (m : Bool) (iids sids : ℕ) (il sl : List ℤ) (animals : Bool) (k : ℕ) → placeAt m iids sids il sl animals k < 4
+unfolding placeAt partPlace
+place-below m iids sids il sl animals k = below (isBlock m animals) (numberAt animals iids sids il sl k)
+  where
+    below : (b : Bool) (n : ℕ) → partPlace b n < 4
+    below true n = omega arith
+    below false n = omega arith
+
 pub along-one : (m order : Bool) → m ≡ true → not order ≡ isBlock m order
 along-one m true e = ap not (sym e)
 along-one m false e = sym e
@@ -286,11 +295,11 @@ module _ (m : Bool) (w iids sids : ℕ) (il sl : List ℤ) (animals : Bool) wher
   four-there o b0 b1 b2 b3 e0 e1 e2 e3 (suc (suc (suc (suc j)))) h = absurd (omega arith)
 
   module _ (from : ℕ) where
-    pub resolved-none : (bytes places : List ℕ) → length bytes ≡ 1024 → length places ≡ 1024 → Resolved m w iids sids il sl animals from (from + 0) bytes places
+    pub resolved-none : (bytes places : List ℕ) → length bytes ≡ 2048 → length places ≡ 2048 → Resolved m w iids sids il sl animals from (from + 0) bytes places
     resolved-none bytes places b p = record { bytes-long = b; places-long = p; byte-is = λ k h. absurd (omega arith); place-is = λ k h. absurd (omega arith) }
 
     pub resolved-more :
-        (k b p : ℕ) (bytes places : List ℕ) → Resolved m w iids sids il sl animals from (from + k) bytes places → k < 1024
+        (k b p : ℕ) (bytes places : List ℕ) → Resolved m w iids sids il sl animals from (from + k) bytes places → k < 2048
         → b ≡ byteAt m w iids sids il sl animals (from + k) → p ≡ placeAt m iids sids il sl animals (from + k)
         → Resolved m w iids sids il sl animals from (from + (k + 1)) (set bytes k b) (set places k p)
     resolved-more k b p bytes places r h eb ep =

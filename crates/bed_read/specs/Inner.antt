@@ -55,8 +55,8 @@ placeAt mode1 iids sids iidList sidList animals k = partPlace (isBlock mode1 ani
 
 -- what the entries from `from` to `until` add
 pub record Resolved (mode1 : Bool) (width iids sids : ℕ) (iidList sidList : List ℤ) (animals : Bool) (from until : ℕ) (bytes places : List ℕ) : Type 0 where
-  pub bytes-long : length bytes ≡ 1024
-  pub places-long : length places ≡ 1024
+  pub bytes-long : length bytes ≡ 2048
+  pub places-long : length places ≡ 2048
   pub byte-is : (k : ℕ) → k < until - from → getD bytes k 0 ≡ byteAt mode1 width iids sids iidList sidList animals (from + k)
   pub place-is : (k : ℕ) → k < until - from → getD places k 0 ≡ placeAt mode1 iids sids iidList sidList animals (from + k)
 

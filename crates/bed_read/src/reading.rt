@@ -257,17 +257,17 @@ fn resolve(
     animals: bool,
     from: usize,
     until: usize,
-    bytes: &mut [usize; 1024],
-    places: &mut [usize; 1024],
+    bytes: &mut [usize; 2048],
+    places: &mut [u8; 2048],
 )
-    requires { ⌜ Ready (now file) (shape .mode1) (shape .width) (shape .iids) (shape .sids) (now «iid_index») (now «sid_index») × (from ≤ until) × (until ≤ lengthOf animals (now «iid_index») (now «sid_index»)) × (until - from ≤ 1024) × (length (now bytes) ≡ 1024) × (length (now places) ≡ 1024) ⌝ }
+    requires { ⌜ Ready (now file) (shape .mode1) (shape .width) (shape .iids) (shape .sids) (now «iid_index») (now «sid_index») × (from ≤ until) × (until ≤ lengthOf animals (now «iid_index») (now «sid_index»)) × (until - from ≤ 2048) × (length (now bytes) ≡ 2048) × (length (now places) ≡ 2048) ⌝ }
     ensures { λ _. ⌜ Resolved (shape .mode1) (shape .width) (shape .iids) (shape .sids) (now («iid_index» .entry)) (now («sid_index» .entry)) animals from until (now (bytes .exit)) (now (places .exit)) ⌝ }
 {
     let mut k = 0;
     while k < until - from {
         let part = part_at(file, shape, iid_index, sid_index, animals, from + k);
         bytes[k] = part.byte;
-        places[k] = part.place;
+        places[k] = part.place as u8;
         k += 1;
     }
 }
@@ -314,16 +314,16 @@ fn lines_by_four(mode_1: bool, animal_order: bool, lines: usize, n: usize) -> us
     0
 }
 
-// The end of the tile that starts at `from`: 1,024 neighbouring items or 128 neighbouring blocks, or what is left.
+// The end of the tile that starts at `from`: 2,048 neighbouring items or 128 neighbouring blocks, or what is left.
 fn tile_end(mode_1: bool, animal_order: bool, from: usize, inner: usize) -> usize
     requires { ⌜ from < inner ⌝ }
-    ensures { λ r. ⌜ (from < r) × (r ≤ inner) × (r - from ≤ 1024) ⌝ }
+    ensures { λ r. ⌜ (from < r) × (r ≤ inner) × (r - from ≤ 2048) ⌝ }
 {
     if is_along(mode_1, animal_order) {
-        if inner - from < 1024 {
+        if inner - from < 2048 {
             return inner;
         }
-        return from + 1024;
+        return from + 2048;
     }
     if inner - from < 128 {
         return inner;

@@ -1,5 +1,5 @@
--- Laws of values at their places, and of lists that get values at some places.
-use mathlib.Core.Path.{_≡_, refl, ap, subst, _∙_}
+-- Lists that get values at places a width apart.
+use mathlib.Core.Path.{_≡_, refl, subst, _∙_}
 use mathlib.Core.List.{List}
 use mathlib.Core.Logic.{⊎-elim}
 use Prim.Native.Nat.{ℕ, suc, _+_, _*_, _≤_, _<_}
@@ -8,17 +8,9 @@ use native.Mathlib.Omega.{arith}
 use lib.ListN.{length, getD, set}
 use lib.Seq.{getD-set-same, getD-set-other}
 use lib.Ieee.{Float, nan}
-use Rattle.product.specs.Values.{floatAt}
-use Rattle.product.specs.Steps.{lineValue}
 use Rattle.product.proofs.Parts.{below-or}
 
--- a value at the place of term i of line r
-pub value-at :
-    (bytes : List ℕ) (base line step r i p : ℕ) (a : Float) → a ≡ floatAt bytes p → p ≡ base + 8 * (r * line + i * step) → a ≡ lineValue bytes base line step r i
-unfolding lineValue
-value-at bytes base line step r i p a e q = e ∙ ap (floatAt bytes) q
-
--- values put into places a width apart: the first n are there, and every other place is as it was
+-- the first n are there, and every other place is as it was
 module _ (src : List Float) (from width : ℕ) (old : List Float) where
   abbrev pub PutTo : List Float → ℕ → Type 0
   PutTo l n = ((i : ℕ) → i < n → getD l (from + i * width) nan ≡ getD src i nan) × ((p : ℕ) → ((i : ℕ) → i < n → p ≡ from + i * width → ⊥) → getD l p nan ≡ getD old p nan)

@@ -4,7 +4,7 @@ use mathlib.Core.List.{List, [], _∷_, _++_, append-nil}
 use Prim.Native.Nat.{ℕ, suc, _+_, _≤_, _<_}
 use native.Mathlib.Numerals.{add-one}
 use native.Mathlib.Omega.{arith}
-use lib.ListN.{length, take, drop, getD, set, length-append, length-drop, drop-of-length-le}
+use lib.ListN.{length, take, drop, getD, set, drop-of-length-le}
 use lib.Seq.{take-suc, drop-cons, length-take-le, set-at, getD-at, append-snoc, take-all}
 use Rattle.genotype.specs.Lists.{tabulate}
 use Rattle.genotype.proofs.Tabulate.{length-tabulate, getD-tabulate}
@@ -21,10 +21,6 @@ module _ {A : Type 0} where
   module _ (g : ℕ → A) (d : List A) where
     front : (i : ℕ) → i ≤ length d → length (take i (tabulate (length d) g)) ≡ i
     front i h = length-take-le i (tabulate (length d) g) (simp length-tabulate h)
-
-    pub length-filled : (i : ℕ) → i ≤ length d → length (filled g i d) ≡ length d
-    unfolding filled
-    length-filled i h = let e : length (take i (tabulate (length d) g)) ≡ i = front i h in simp (length-append, length-drop) (omega arith)
 
     -- the place to be written still has what d has
     pub getD-filled : (i : ℕ) (z : A) → i < length d → getD (filled g i d) i z ≡ getD d i z

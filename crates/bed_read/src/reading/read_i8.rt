@@ -74,20 +74,20 @@ fn read_line(
     file: &[u8],
     byte: usize,
     place: usize,
-    bytes: &[usize; 1024],
-    places: &[usize; 1024],
+    bytes: &[usize; 2048],
+    places: &[u8; 2048],
     table: &[i8; 1024],
     at: usize,
     n: usize,
     val: &mut [i8],
 )
-    requires { ⌜ ByCode (now table) (pos 0) × Inside (now file) byte place (now bytes) (now places) n × (n ≤ 1024) × (at + n ≤ length (now val)) ⌝ }
+    requires { ⌜ ByCode (now table) (pos 0) × Inside (now file) byte place (now bytes) (now places) n × (n ≤ 2048) × (at + n ≤ length (now val)) ⌝ }
     ensures { λ _. ⌜ Drawn (pos 0) 1 n (λ _ k. at + k) (λ _ k. valueAt (valueIn (now (table .entry)) (pos 0)) (now (file .entry)) (byte + getD (now (bytes .entry)) k 0) (place + getD (now (places .entry)) k 0)) (now (val .entry)) n (now (val .exit)) ⌝ }
 {
     let mut k = 0;
     while k < n {
         let t = at + k;
-        val[t] = call_value(file, byte + bytes[k], place + places[k], table);
+        val[t] = call_value(file, byte + bytes[k], place + places[k] as usize, table);
         k += 1;
     }
 }
@@ -96,20 +96,20 @@ fn read_line(
 fn read_pair(
     file: &[u8],
     start: usize,
-    bytes: &[usize; 1024],
-    places: &[usize; 1024],
+    bytes: &[usize; 2048],
+    places: &[u8; 2048],
     k: usize,
     table: &[i8; 1024],
     at: usize,
     val: &mut [i8],
 )
-    requires { ⌜ ByCode (now table) (pos 0) × Inside (now file) start 0 (now bytes) (now places) (k + 2) × (k + 2 ≤ 1024) × (at + 1 < length (now val)) ⌝ }
+    requires { ⌜ ByCode (now table) (pos 0) × Inside (now file) start 0 (now bytes) (now places) (k + 2) × (k + 2 ≤ 2048) × (at + 1 < length (now val)) ⌝ }
     ensures { λ _. ⌜ now (val .exit) ≡ setTwo (now (val .entry)) at (valueAt (valueIn (now (table .entry)) (pos 0)) (now (file .entry)) (start + getD (now (bytes .entry)) k 0) (getD (now (places .entry)) k 0)) (valueAt (valueIn (now (table .entry)) (pos 0)) (now (file .entry)) (start + getD (now (bytes .entry)) (k + 1) 0) (getD (now (places .entry)) (k + 1) 0)) ⌝ }
 {
     let next = k + 1;
     let after = at + 1;
-    let value = call_value(file, start + bytes[k], places[k], table);
-    let next_value = call_value(file, start + bytes[next], places[next], table);
+    let value = call_value(file, start + bytes[k], places[k] as usize, table);
+    let next_value = call_value(file, start + bytes[next], places[next] as usize, table);
     val[at] = value;
     val[after] = next_value;
 }
@@ -118,15 +118,15 @@ fn read_pair(
 fn read_pairs(
     file: &[u8],
     starts: &[usize; 4],
-    bytes: &[usize; 1024],
-    places: &[usize; 1024],
+    bytes: &[usize; 2048],
+    places: &[u8; 2048],
     k: usize,
     table: &[i8; 1024],
     at: usize,
     inner: usize,
     val: &mut [i8],
 )
-    requires { ⌜ ByCode (now table) (pos 0) × ((j : ℕ) → j < 4 → Inside (now file) (getD (now starts) j 0) 0 (now bytes) (now places) (k + 2)) × (k + 2 ≤ 1024) × (at + 3 * inner + k + 2 ≤ length (now val)) ⌝ }
+    requires { ⌜ ByCode (now table) (pos 0) × ((j : ℕ) → j < 4 → Inside (now file) (getD (now starts) j 0) 0 (now bytes) (now places) (k + 2)) × (k + 2 ≤ 2048) × (at + 3 * inner + k + 2 ≤ length (now val)) ⌝ }
     ensures { λ _. ⌜ now (val .exit) ≡ setPairs (now (val .entry)) at inner k (λ j i. valueAt (valueIn (now (table .entry)) (pos 0)) (now (file .entry)) (getD (now (starts .entry)) j 0 + getD (now (bytes .entry)) i 0) (getD (now (places .entry)) i 0)) ⌝ }
 {
     let t0 = at + k;
@@ -143,15 +143,15 @@ fn read_pairs(
 fn read_four(
     file: &[u8],
     starts: &[usize; 4],
-    bytes: &[usize; 1024],
-    places: &[usize; 1024],
+    bytes: &[usize; 2048],
+    places: &[u8; 2048],
     table: &[i8; 1024],
     at: usize,
     inner: usize,
     n: usize,
     val: &mut [i8],
 )
-    requires { ⌜ ByCode (now table) (pos 0) × ((j : ℕ) → j < 4 → Inside (now file) (getD (now starts) j 0) 0 (now bytes) (now places) n) × (2 ≤ n) × (n ≤ 1024) × (at + 3 * inner + n ≤ length (now val)) ⌝ }
+    requires { ⌜ ByCode (now table) (pos 0) × ((j : ℕ) → j < 4 → Inside (now file) (getD (now starts) j 0) 0 (now bytes) (now places) n) × (2 ≤ n) × (n ≤ 2048) × (at + 3 * inner + n ≤ length (now val)) ⌝ }
     ensures { λ _. ⌜ Drawn (pos 0) 4 n (λ j k. at + j * inner + k) (λ j k. valueAt (valueIn (now (table .entry)) (pos 0)) (now (file .entry)) (getD (now (starts .entry)) j 0 + getD (now (bytes .entry)) k 0) (getD (now (places .entry)) k 0)) (now (val .entry)) n (now (val .exit)) ⌝ }
 {
     let mut k = 0;
@@ -194,12 +194,12 @@ fn read_tile(
     animal_order: bool,
     from: usize,
     until: usize,
-    bytes: &[usize; 1024],
-    places: &[usize; 1024],
+    bytes: &[usize; 2048],
+    places: &[u8; 2048],
     table: &[i8; 1024],
     val: &mut [i8],
 )
-    requires { ⌜ Ready (now file) (shape .mode1) (shape .width) (shape .iids) (shape .sids) (now «iid_index») (now «sid_index») × ByCode (now table) (pos 0) × Resolved (shape .mode1) (shape .width) (shape .iids) (shape .sids) (now «iid_index») (now «sid_index») (not «animal_order») from until (now bytes) (now places) × (from < until) × (until ≤ lengthOf (not «animal_order») (now «iid_index») (now «sid_index»)) × (until - from ≤ 1024) × ReadTo «animal_order» (now table) (pos 0) (now file) (shape .iids) (shape .sids) (now «iid_index») (now «sid_index») (now val) from ⌝ }
+    requires { ⌜ Ready (now file) (shape .mode1) (shape .width) (shape .iids) (shape .sids) (now «iid_index») (now «sid_index») × ByCode (now table) (pos 0) × Resolved (shape .mode1) (shape .width) (shape .iids) (shape .sids) (now «iid_index») (now «sid_index») (not «animal_order») from until (now bytes) (now places) × (from < until) × (until ≤ lengthOf (not «animal_order») (now «iid_index») (now «sid_index»)) × (until - from ≤ 2048) × ReadTo «animal_order» (now table) (pos 0) (now file) (shape .iids) (shape .sids) (now «iid_index») (now «sid_index») (now val) from ⌝ }
     ensures { λ _. ⌜ ReadTo «animal_order» (now (table .entry)) (pos 0) (now (file .entry)) (shape .iids) (shape .sids) (now («iid_index» .entry)) (now («sid_index» .entry)) (now (val .exit)) until ⌝ }
 {
     let inner = super::length_of(!animal_order, iid_index.len(), sid_index.len());
@@ -256,8 +256,8 @@ fn read_matrix(
         return;
     }
     let inner = super::length_of(!animal_order, iid_index.len(), sid_index.len());
-    let mut bytes = [0usize; 1024];
-    let mut places = [0usize; 1024];
+    let mut bytes = [0usize; 2048];
+    let mut places = [0u8; 2048];
     let mut from = 0;
     while from < inner {
         let until = super::tile_end(shape.mode1, animal_order, from, inner);

@@ -2,7 +2,7 @@
 use Prim.Native.Nat.{_+_, _-_, _<_, _≤_}
 use native.Mathlib.Omega.{arith}
 use Rattle.bed_read.specs.Inner.{Resolved}
-use Rattle.bed_read.proofs.PartLaws.{resolved-none, resolved-more, resolved-all}
+use Rattle.bed_read.proofs.PartLaws.{place-below, resolved-none, resolved-more, resolved-all}
 use Rattle.bed_read.proofs.reading.resolve.Statement.{statement}
 use Rattle.bed_read.proofs.reading.resolve.Tie as tie
 
@@ -31,11 +31,11 @@ mul-bytes c = omega arith
 element-write-bytes : tie.Need-element-write-bytes Inv-loop μ-loop
 element-write-bytes c = omega (arith, c .before .loop-test .taken, c .before .before .before .before .pre .3)
 
-mul-places : tie.Need-mul-places Inv-loop μ-loop
-mul-places c = omega arith
+cast-places : tie.Need-cast-places Inv-loop μ-loop
+cast-places c = omega (arith, c .before .part-at .ensures .1, place-below (c .before .before .before .before .before .args .shape .mode1) (c .before .before .before .before .before .args .shape .iids) (c .before .before .before .before .before .args .shape .sids) (c .before .before .before .before .before .args .iid-index .now) (c .before .before .before .before .before .args .sid-index .now) (c .before .before .before .before .before .args .animals) (c .before .before .before .before .before .args .from + c .before .before .before .loop .k))
 
 element-write-places : tie.Need-element-write-places Inv-loop μ-loop
-element-write-places c = omega (arith, c .before .loop-test .taken, c .before .before .before .before .pre .3)
+element-write-places c = omega (arith, c .before .before .loop-test .taken, c .before .before .before .before .before .pre .3)
 
 add-k : tie.Need-add-k Inv-loop μ-loop
 add-k c = omega arith
@@ -45,11 +45,11 @@ loop-less c = omega arith
 
 loop-again : tie.Need-loop-again Inv-loop μ-loop
 loop-again c =
-    let h : c .before .before .loop .k < 1024 = omega (arith, c .before .loop-test .taken, c .before .before .before .before .pre .3) in
-    (omega (arith, c .before .loop-test .taken), resolved-more _ _ _ _ _ _ _ _ _ _ _ _ _ (c .before .before .loop .inv .1) h (c .part-at .ensures .0) (c .part-at .ensures .1))
+    let h : c .before .before .before .loop .k < 2048 = omega (arith, c .before .before .loop-test .taken, c .before .before .before .before .before .pre .3) in
+    (omega (arith, c .before .before .loop-test .taken), resolved-more _ _ _ _ _ _ _ _ _ _ _ _ _ (c .before .before .before .loop .inv .1) h (c .before .part-at .ensures .0) (c .before .part-at .ensures .1))
 
 returns : tie.Need-returns Inv-loop μ-loop
 returns c = resolved-all _ _ _ _ _ _ _ _ _ _ _ _ (c .before .loop .inv .0) (c .loop-test .left) (c .before .before .before .pre .1) (c .before .loop .inv .1)
 
 pub resolve-spec : {M : Type 1} → statement M
-resolve-spec = tie.close (tie.spec Inv-loop μ-loop loop-holds sub-loop add-part-at part-at-requires mul-bytes element-write-bytes mul-places element-write-places add-k loop-less loop-again returns)
+resolve-spec = tie.close (tie.spec Inv-loop μ-loop loop-holds sub-loop add-part-at part-at-requires mul-bytes element-write-bytes cast-places element-write-places add-k loop-less loop-again returns)

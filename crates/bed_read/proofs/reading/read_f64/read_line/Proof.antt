@@ -31,11 +31,11 @@ element-copy-out-call-value c = omega arith
 add-call-value : tie.Need-add-call-value Inv-loop μ-loop
 add-call-value c = omega (arith, c .before .before .before .before .before .pre .1 .byte-in (c .before .before .loop .k) (c .before .loop-test .taken))
 
-mul-call-value-2 : tie.Need-mul-call-value-2 Inv-loop μ-loop
-mul-call-value-2 c = omega arith
-
 element-copy-out-call-value-2 : tie.Need-element-copy-out-call-value-2 Inv-loop μ-loop
 element-copy-out-call-value-2 c = omega arith
+
+cast-call-value : tie.Need-cast-call-value Inv-loop μ-loop
+cast-call-value c = omega (arith, c .before .before .before .before .before .before .pre .1 .place-in (c .before .before .before .loop .k) (c .before .before .loop-test .taken))
 
 add-call-value-2 : tie.Need-add-call-value-2 Inv-loop μ-loop
 add-call-value-2 c = omega (arith, c .before .before .before .before .before .before .pre .1 .place-in (c .before .before .before .loop .k) (c .before .before .loop-test .taken))
@@ -68,4 +68,4 @@ returns : tie.Need-returns Inv-loop μ-loop
 returns c = drawn-end nan _ _ _ _ _ _ _ (c .before .loop .inv) (c .loop-test .left)
 
 pub read-line-spec : {M : Type 1} → statement M
-read-line-spec = tie.close (tie.spec Inv-loop μ-loop loop-holds add-t mul-call-value element-copy-out-call-value add-call-value mul-call-value-2 element-copy-out-call-value-2 add-call-value-2 call-value-requires mul-val slice-write-val add-k loop-less loop-again same-length returns)
+read-line-spec = tie.close (tie.spec Inv-loop μ-loop loop-holds add-t mul-call-value element-copy-out-call-value add-call-value element-copy-out-call-value-2 cast-call-value add-call-value-2 call-value-requires mul-val slice-write-val add-k loop-less loop-again same-length returns)

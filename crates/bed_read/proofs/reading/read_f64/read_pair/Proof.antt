@@ -30,17 +30,17 @@ element-copy-out-call-value c = omega arith
 add-call-value : tie.Need-add-call-value
 add-call-value c = omega (arith, byte-in (c .before .before .before) (c .before .before .before .args .k) (omega arith))
 
-mul-call-value-2 : tie.Need-mul-call-value-2
-mul-call-value-2 c = omega arith
-
 element-copy-out-call-value-2 : tie.Need-element-copy-out-call-value-2
 element-copy-out-call-value-2 c = omega arith
+
+cast-call-value : tie.Need-cast-call-value
+cast-call-value c = omega (arith, place-in (c .before .before .before .before) (c .before .before .before .before .args .k) (omega arith))
 
 call-value-requires : tie.Need-call-value-requires
 call-value-requires c κs = let s = c .before .before .before .before in (byte-in s (s .args .k) (omega arith), place-in s (s .args .k) (omega arith), s .pre .0)
 
-mul-call-value-3 : tie.Need-mul-call-value-3
-mul-call-value-3 c = omega arith
+mul-call-value-2 : tie.Need-mul-call-value-2
+mul-call-value-2 c = omega arith
 
 element-copy-out-call-value-3 : tie.Need-element-copy-out-call-value-3
 element-copy-out-call-value-3 c = omega arith
@@ -48,11 +48,11 @@ element-copy-out-call-value-3 c = omega arith
 add-call-value-2 : tie.Need-add-call-value-2
 add-call-value-2 c = omega (arith, byte-in (c .before .before .before .before .before .before) (c .before .before .before .before .before .before .args .k + 1) (omega arith))
 
-mul-call-value-4 : tie.Need-mul-call-value-4
-mul-call-value-4 c = omega arith
-
 element-copy-out-call-value-4 : tie.Need-element-copy-out-call-value-4
 element-copy-out-call-value-4 c = omega arith
+
+cast-call-value-2 : tie.Need-cast-call-value-2
+cast-call-value-2 c = omega (arith, place-in (c .before .before .before .before .before .before .before) (c .before .before .before .before .before .before .before .args .k + 1) (omega arith))
 
 call-value-requires-2 : tie.Need-call-value-requires-2
 call-value-requires-2 c κs = let s = c .before .before .before .before .before .before .before in (byte-in s (s .args .k + 1) (omega arith), place-in s (s .args .k + 1) (omega arith), s .pre .0)
@@ -79,4 +79,4 @@ returns c =
     (c .call-value2 .ensures)
 
 pub read-pair-spec : {M : Type 1} → statement M
-read-pair-spec = tie.close (tie.spec add-next add-after mul-call-value element-copy-out-call-value add-call-value mul-call-value-2 element-copy-out-call-value-2 call-value-requires mul-call-value-3 element-copy-out-call-value-3 add-call-value-2 mul-call-value-4 element-copy-out-call-value-4 call-value-requires-2 mul-val slice-write-val mul-val-2 slice-write-val-2 same-length returns)
+read-pair-spec = tie.close (tie.spec add-next add-after mul-call-value element-copy-out-call-value add-call-value element-copy-out-call-value-2 cast-call-value call-value-requires mul-call-value-2 element-copy-out-call-value-3 add-call-value-2 element-copy-out-call-value-4 cast-call-value-2 call-value-requires-2 mul-val slice-write-val mul-val-2 slice-write-val-2 same-length returns)

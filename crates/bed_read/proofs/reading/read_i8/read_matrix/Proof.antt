@@ -13,7 +13,7 @@ use Rattle.bed_read.proofs.reading.read_i8.read_matrix.Tie as tie
 
 abbrev Inv-loop : tie.InvT-loop
 Inv-loop file shape iid-index sid-index animal-order table val₀ inner bytes₀ places₀ from₀ val bytes places from =
-    ReadTo animal-order table (pos 0) file (shape .iids) (shape .sids) iid-index sid-index val from × (length bytes ≡ 1024) × (length places ≡ 1024)
+    ReadTo animal-order table (pos 0) file (shape .iids) (shape .sids) iid-index sid-index val from × (length bytes ≡ 2048) × (length places ≡ 2048)
 
 abbrev μ-loop : tie.MeasureT-loop
 μ-loop file shape iid-index sid-index animal-order table val₀ inner bytes₀ places₀ from₀ val bytes places from = inner - from
