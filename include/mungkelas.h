@@ -11,7 +11,7 @@
  *
  * A length is a number of values, not of bytes. No call allocates, keeps a pointer, or holds state; calls on buffers of their
  * own may run on several threads at once. No call needs more than
- * 26 KB of stack, whatever it is lent.
+ * 28 KB of stack, whatever it is lent.
  *
  * Words. An animal is an iid, a marker a sid. A matrix is a buffer of animals times markers values: in marker order (animal_order
  * 0) a marker's values stand beside each other, value (a, m) at m * animals + a; in animal order (1) an animal's do, at

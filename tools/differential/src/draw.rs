@@ -197,12 +197,12 @@ fn value(r: &mut Rng, kind: Kind, missing: u64, bad_in: u64) -> u64 {
 }
 
 /// The size of a long draw, see `long`.
-const LONG: u64 = 1100;
+const LONG: u64 = 2100;
 
 /// Two counts: small, one of them sometimes 0 and the other then anything. Of a long draw: one near a step of the loops.
 fn counts(r: &mut Rng, most: u64) -> (u64, u64) {
     if most == LONG {
-        let (many, few) = (r.pick(&[64, 128, 256, 1024]) + r.below(5) - 2, 1 + r.below(5));
+        let (many, few) = (r.pick(&[64, 128, 256, 1024, 2048]) + r.below(5) - 2, 1 + r.below(5));
         return if r.flag() == 0 { (many, few) } else { (few, many) };
     }
     match r.below(24) {
@@ -231,7 +231,7 @@ pub fn draw(name: &str, r: &mut Rng) -> Case {
     sized(name, r, most)
 }
 
-/// One side of a matrix about as long as a step of the library's loops: 64, 128, 256 or 1,024.
+/// One side of a matrix about as long as a step of the library's loops: 64, 128, 256, 1,024 or 2,048.
 pub fn long(name: &str, r: &mut Rng) -> Case {
     sized(name, r, LONG)
 }
