@@ -13,7 +13,7 @@ use lib.Ieee.{Float, nan, inf, fin, Format, ones, hid, top, isNan, nanBits, ofBi
 use lib.Ieee.Bits.{nanBits-is, nanBits-above}
 use borrow.Author.Tests.{lt-ltb, le-ltb}
 use Rattle.product.specs.Values.{leNumber, floatAt}
-use Rattle.product.specs.Steps.{Finite}
+use Rattle.product.specs.Steps.{NoNan}
 use Rattle.product.proofs.Parts.{below-or}
 
 le-append : (xs ys : List ℕ) → leNumber (xs ++ ys) ≡ leNumber xs + 256 ^ length xs * leNumber ys
@@ -53,17 +53,17 @@ pub pattern-number : (f : Format) (n : ℕ) → n % top f ≤ ones f * hid f →
 pattern-number f n h = subst (λ (b : Bool). T (not b)) (sym (nanBits-above f n ∙ le-ltb (ones f * hid f) (n % top f) h)) tt
 
 -- one more, seen from the carry of its exponent
-pub finite-more :
-    (bytes : List ℕ) (at i others bits : ℕ) → bits ≡ leNumber (take 8 (drop (at + 8 * i) bytes)) → (others ≡ 0 → Finite bytes at i)
+pub no-nan-more :
+    (bytes : List ℕ) (at i others bits : ℕ) → bits ≡ leNumber (take 8 (drop (at + 8 * i) bytes)) → (others ≡ 0 → NoNan bytes at i)
     → others + (bits % 9223372036854775808 + 4503599627370496) / 9223372036854775808 ≡ 0
-    → Finite bytes at (i + 1)
-finite-more bytes at i others bits e h z j b =
+    → NoNan bytes at (i + 1)
+no-nan-more bytes at i others bits e h z j b =
     ⊎-elim (λ d. h (omega arith) j d)
     (λ d. let q : i ≡ j = omega arith in subst (λ (x : ℕ). leNumber (take 8 (drop (at + 8 * x) bytes)) % 9223372036854775808 ≤ 9218868437227405312) q (subst (λ (x : ℕ). x % 9223372036854775808 ≤ 9218868437227405312) e (omega arith)))
     (below-or j i)
 
 pub number-of :
-    (bytes : List ℕ) (at j bits n : ℕ) → bits ≡ leNumber (take 8 (drop (at + 8 * j) bytes)) → Finite bytes at n → j < n → T (not (nanBits binary64 bits))
+    (bytes : List ℕ) (at j bits n : ℕ) → bits ≡ leNumber (take 8 (drop (at + 8 * j) bytes)) → NoNan bytes at n → j < n → T (not (nanBits binary64 bits))
 number-of bytes at j bits n e h b = pattern-number binary64 bits (subst (λ (x : ℕ). x % 9223372036854775808 ≤ 9218868437227405312) (sym e) (h j b))
 
 pub float-of : (bytes : List ℕ) (at bits : ℕ) → bits ≡ leNumber (take 8 (drop at bytes)) → ofBits binary64 bits ≡ floatAt bytes at

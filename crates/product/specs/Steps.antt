@@ -25,13 +25,13 @@ abbrev pub LinesIn : ℕ → ℕ → ℕ → ℕ → ℕ → ℕ → Type 0
 LinesIn byteCount base line step lines n = (r i : ℕ) → r < lines → i < n → base + 8 * (r * line + i * step) + 8 ≤ byteCount
 
 -- the first n values from a place on are no NaN's patterns
-abbrev pub Finite : List ℕ → ℕ → ℕ → Type 0
-Finite bytes at n = (i : ℕ) → i < n → leNumber (take 8 (drop (at + 8 * i) bytes)) % 9223372036854775808 ≤ 9218868437227405312
+abbrev pub NoNan : List ℕ → ℕ → ℕ → Type 0
+NoNan bytes at n = (i : ℕ) → i < n → leNumber (take 8 (drop (at + 8 * i) bytes)) % 9223372036854775808 ≤ 9218868437227405312
 
 -- the products of lines top to bottom - 1 can be formed straight from the bytes: they are four, neighbouring lines have
 -- neighbouring values, and none of these is a NaN's pattern
 abbrev pub Straight : List ℕ → ℕ → ℕ → ℕ → ℕ → ℕ → ℕ → Type 0
-Straight bytes base line step n top bottom = (line ≡ 1) × (n ≡ 4) × ((t : ℕ) → t < 4 → Finite bytes (base + 8 * top + 8 * (t * step)) (bottom - top))
+Straight bytes base line step n top bottom = (line ≡ 1) × (n ≡ 4) × ((t : ℕ) → t < 4 → NoNan bytes (base + 8 * top + 8 * (t * step)) (bottom - top))
 
 -- the first n values of lines r to r + m - 1, value i of line r + j at place i × g + j
 abbrev pub Tile : List Float → ℕ → (ℕ → ℕ → Float) → ℕ → ℕ → ℕ → Type 0

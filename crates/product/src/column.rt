@@ -6,12 +6,12 @@ ghost use lib.ListN.{length, getD, take, drop};
 ghost use lib.Ieee.{nan, binary64};
 ghost use Rattle.genotype.specs.Lists.{tabulate};
 ghost use Rattle.product.specs.Values.{leNumber, floatAt};
-ghost use Rattle.product.specs.Steps.{Finite, rowMore, Put};
+ghost use Rattle.product.specs.Steps.{NoNan, rowMore, Put};
 
 // Whether n neighbouring values are all finite. The others are counted, which takes no branch for each value.
 pub(crate) fn all_finite(bytes: &[u8], at: usize, n: usize) -> bool
     requires { ⌜ at + 8 * n ≤ length (now bytes) ⌝ }
-    ensures { λ r. ⌜ (r ≡ true → Finite (now (bytes .entry)) at n) ⌝ }
+    ensures { λ r. ⌜ (r ≡ true → NoNan (now (bytes .entry)) at n) ⌝ }
 {
     let mut others = 0;
     let mut i = 0;
@@ -26,7 +26,7 @@ pub(crate) fn all_finite(bytes: &[u8], at: usize, n: usize) -> bool
 // Whether they are in four runs of n values, the starts step values apart.
 pub(crate) fn four_finite(bytes: &[u8], at: usize, step: usize, n: usize) -> bool
     requires { ⌜ ((t : ℕ) → t < 4 → at + 8 * (t * step) + 8 * n ≤ length (now bytes)) ⌝ }
-    ensures { λ r. ⌜ (r ≡ true → (t : ℕ) → t < 4 → Finite (now (bytes .entry)) (at + 8 * (t * step)) n) ⌝ }
+    ensures { λ r. ⌜ (r ≡ true → (t : ℕ) → t < 4 → NoNan (now (bytes .entry)) (at + 8 * (t * step)) n) ⌝ }
 {
     let mut t = 0;
     while t < 4 {
@@ -50,7 +50,7 @@ fn bits(bytes: &[u8], at: usize, step: usize, t: usize, j: usize) -> u64
 // Adds four products to each sum, upward: of neighbouring values in four such runs, none of them a NaN, with the values
 // from a place on, step values apart.
 pub(crate) fn add_finite(bytes: &[u8], at: usize, own: usize, step: usize, sums: &mut [f64])
-    requires { ⌜ ((t : ℕ) → t < 4 → at + 8 * (t * step) + 8 * length (now sums) ≤ length (now bytes)) × ((t : ℕ) → t < 4 → Finite (now bytes) (at + 8 * (t * step)) (length (now sums))) × ((t : ℕ) → t < 4 → own + 8 * (t * step) + 8 ≤ length (now bytes)) ⌝ }
+    requires { ⌜ ((t : ℕ) → t < 4 → at + 8 * (t * step) + 8 * length (now sums) ≤ length (now bytes)) × ((t : ℕ) → t < 4 → NoNan (now bytes) (at + 8 * (t * step)) (length (now sums))) × ((t : ℕ) → t < 4 → own + 8 * (t * step) + 8 ≤ length (now bytes)) ⌝ }
     ensures { λ _. ⌜ now (sums .exit) ≡ rowMore binary64 (λ j t. floatAt (now (bytes .entry)) (at + 8 * (t * step) + 8 * j)) (λ t. floatAt (now (bytes .entry)) (own + 8 * (t * step))) 4 (now (sums .entry)) ⌝ }
 {
     let y0 = super::term(bytes, own, step, 0);

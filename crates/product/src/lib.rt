@@ -11,7 +11,7 @@ ghost use Rattle.product.specs.Values.{leNumber, floatAt};
 ghost use Rattle.product.specs.Dot.{plusZero};
 ghost use Rattle.product.specs.Piece.{pieceAnswer, goodPiece, enoughBytes, ataAnswer, ataLeaves, aatAnswer, aatLeaves};
 ghost use Rattle.product.specs.Says.{pieceSays};
-ghost use Rattle.product.specs.Steps.{lineValue, Finite, Straight, LinesIn, Tile, termMore, rowMore, blockMore, lowerPiece};
+ghost use Rattle.product.specs.Steps.{lineValue, NoNan, Straight, LinesIn, Tile, termMore, rowMore, blockMore, lowerPiece};
 
 mod column;
 
@@ -125,7 +125,7 @@ fn place(base: usize, line: usize, step: usize, r: usize, k: usize) -> usize
 
 // Fills dst with neighbouring values, none of them a NaN.
 fn load_finite(bytes: &[u8], at: usize, dst: &mut [f64])
-    requires { ⌜ (at + 8 * length (now dst) ≤ length (now bytes)) × Finite (now bytes) at (length (now dst)) ⌝ }
+    requires { ⌜ (at + 8 * length (now dst) ≤ length (now bytes)) × NoNan (now bytes) at (length (now dst)) ⌝ }
     ensures { λ _. ⌜ now (dst .exit) ≡ tabulate (length (now (dst .entry))) (λ i. floatAt (now (bytes .entry)) (at + 8 * i)) ⌝ }
 {
     let mut i = 0;

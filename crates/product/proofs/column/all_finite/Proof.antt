@@ -4,13 +4,13 @@ use Prim.Native.Nat.{_-_, _≤_}
 use native.Mathlib.Nat.{not-suc-le-zero}
 use native.Mathlib.Omega.{arith}
 use borrow.Author.Tests.{eqb-true}
-use Rattle.product.specs.Steps.{Finite}
-use Rattle.product.proofs.Bytes.{finite-more}
+use Rattle.product.specs.Steps.{NoNan}
+use Rattle.product.proofs.Bytes.{no-nan-more}
 use Rattle.product.proofs.column.all_finite.Statement.{statement}
 use Rattle.product.proofs.column.all_finite.Tie as tie
 
 abbrev Inv-loop : tie.InvT-loop
-Inv-loop bytes at n others₀ i₀ others i = (i ≤ n) × (others ≤ i) × (others ≡ 0 → Finite bytes at i)
+Inv-loop bytes at n others₀ i₀ others i = (i ≤ n) × (others ≤ i) × (others ≡ 0 → NoNan bytes at i)
 
 abbrev μ-loop : tie.MeasureT-loop
 μ-loop bytes at n others₀ i₀ others i = n - i
@@ -43,7 +43,7 @@ loop-again : tie.Need-loop-again Inv-loop μ-loop
 loop-again c =
     let a = c .before .before .before .before .args in
     let w = c .before .before .loop in
-    (omega arith, omega arith, λ e. finite-more (a .bytes .now) (a .at) (w .i) (w .others) (c .eight-at .result) (c .eight-at .ensures .0) (w .inv .2) e)
+    (omega arith, omega arith, λ e. no-nan-more (a .bytes .now) (a .at) (w .i) (w .others) (c .eight-at .result) (c .eight-at .ensures .0) (w .inv .2) e)
 
 returns : tie.Need-returns Inv-loop μ-loop
 returns c = λ e i h. c .before .loop .inv .2 (eqb-true _ _ e) i (omega arith)

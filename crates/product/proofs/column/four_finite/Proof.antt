@@ -5,13 +5,13 @@ use Prim.Native.Nat.{ℕ, _+_, _-_, _*_, _≤_, _<_}
 use native.Mathlib.Nat.{not-suc-le-zero}
 use native.Mathlib.Omega.{arith}
 use lib.Dec.{T}
-use Rattle.product.specs.Steps.{Finite}
+use Rattle.product.specs.Steps.{NoNan}
 use Rattle.product.proofs.Parts.{below-or}
 use Rattle.product.proofs.column.four_finite.Statement.{statement}
 use Rattle.product.proofs.column.four_finite.Tie as tie
 
 abbrev Inv-loop : tie.InvT-loop
-Inv-loop bytes at step n t₀ t = (t ≤ 4) × ((u : ℕ) → u < t → Finite bytes (at + 8 * (u * step)) n)
+Inv-loop bytes at step n t₀ t = (t ≤ 4) × ((u : ℕ) → u < t → NoNan bytes (at + 8 * (u * step)) n)
 
 abbrev μ-loop : tie.MeasureT-loop
 μ-loop bytes at step n t₀ t = 4 - t
@@ -40,7 +40,7 @@ loop-less c = omega arith
 loop-again : tie.Need-loop-again Inv-loop μ-loop
 loop-again c =
     let a = c .before .before .before .before .before .args in
-    (omega arith, λ u h. ⊎-elim (λ d. c .before .before .before .loop .inv .1 u d) (λ d. let q : c .before .before .before .loop .t ≡ u = omega arith in subst (λ (z : ℕ). Finite (a .bytes .now) (a .at + 8 * (z * a .step)) (a .n)) q (c .before .all-finite .ensures (c .if1 .taken))) (below-or u (c .before .before .before .loop .t)))
+    (omega arith, λ u h. ⊎-elim (λ d. c .before .before .before .loop .inv .1 u d) (λ d. let q : c .before .before .before .loop .t ≡ u = omega arith in subst (λ (z : ℕ). NoNan (a .bytes .now) (a .at + 8 * (z * a .step)) (a .n)) q (c .before .all-finite .ensures (c .if1 .taken))) (below-or u (c .before .before .before .loop .t)))
 
 returns : tie.Need-returns Inv-loop μ-loop
 returns c = λ e. absurd (subst T (sym e) tt)
