@@ -17,7 +17,7 @@ use Rattle.genotype.specs.Entry.{firstBad}
 use Rattle.genotype.proofs.AnswerLaws.{check-passes, check-refuses, count-passes, count-refuses, check-done, count-done, entry-done, heard, stays, before-later}
 use Rattle.genotype.specs.Block.{fileLength}
 use Rattle.bed_file.specs.File.{isMode1, items, blocks, checkFile, acceptAnswer}
-use Rattle.bed_read.specs.Reading.{checkLists, readAnswer}
+use Rattle.bed_read.specs.Reading.{checkLists, listsAnswer, readAnswer}
 use Rattle.bed_file.proofs.FileLaws.{accepted, accept-file, file-stage, file-long, file-length}
 
 -- ---- 5 and 6, by the first bad entries
@@ -35,14 +35,28 @@ module _ (items blocks : ℕ) (within outside : List ℤ) where
     unfolding checkLists
     lists-good b = simp (g, b)
 
--- in mode 0 the lists trade places
-module _ (mode1 : Bool) (iids sids : ℕ) (il sl : List ℤ) (later : Answer) where
-  pub lists-mode-1 : mode1 ≡ true → checkLists true iids sids il sl later ≡ checkLists mode1 iids sids il sl later
-  lists-mode-1 e = ap (λ (m : Bool). checkLists m iids sids il sl later) (sym e)
+-- 18, and in mode 0 the lists trade places
+module _ (mode1 : Bool) (iids sids : ℕ) (il sl : List ℤ) where
+  pub lists-first : countLimit < iids → refused 18 [] ≡ listsAnswer mode1 iids sids il sl
+  unfolding listsAnswer
+  lists-first h = sym (count-refuses iids _ h)
 
-  pub lists-mode-0 : mode1 ≡ false → checkLists true sids iids sl il later ≡ checkLists mode1 iids sids il sl later
-  unfolding checkLists
-  lists-mode-0 e = ap (λ (m : Bool). checkLists m iids sids il sl later) (sym e)
+  module _ (hi : iids ≤ countLimit) where
+    pub lists-second : countLimit < sids → refused 18 [] ≡ listsAnswer mode1 iids sids il sl
+    unfolding listsAnswer
+    lists-second h = sym (count-passes iids _ hi ∙ count-refuses sids _ h)
+
+    module _ (hs : sids ≤ countLimit) where
+      lists-counted : checkLists mode1 iids sids il sl (done []) ≡ listsAnswer mode1 iids sids il sl
+      unfolding listsAnswer
+      lists-counted = sym (count-passes iids _ hi ∙ count-passes sids _ hs)
+
+      pub lists-mode-1 : mode1 ≡ true → checkLists true iids sids il sl (done []) ≡ listsAnswer mode1 iids sids il sl
+      lists-mode-1 e = ap (λ (m : Bool). checkLists m iids sids il sl (done [])) (sym e) ∙ lists-counted
+
+      pub lists-mode-0 : mode1 ≡ false → checkLists true sids iids sl il (done []) ≡ listsAnswer mode1 iids sids il sl
+      unfolding checkLists
+      lists-mode-0 e = ap (λ (m : Bool). checkLists m iids sids il sl (done [])) (sym e) ∙ lists-counted
 
 -- ---- reading's checks, in order
 module _ (file : List ℕ) (iids sids : ℕ) (il sl : List ℤ) (valLength : ℕ) where
@@ -76,11 +90,11 @@ module _ (file : List ℕ) (iids sids : ℕ) (il sl : List ℤ) (valLength : ℕ
               sym (after-product ∙ stays (file-stage file iids sids) [] n [] (sym (a ∙ accept-file file iids sids hi hs)) lists)
 
           pub read-lists :
-              (a : Answer) (m : Bool) → done [] ≡ acceptAnswer file iids sids → m ≡ isMode1 file → a ≡ checkLists m iids sids il sl (done [])
+              (a : Answer) (m : Bool) → done [] ≡ acceptAnswer file iids sids → m ≡ isMode1 file → a ≡ listsAnswer m iids sids il sl
               → a ≡ readAnswer file iids sids il sl valLength
           unfolding isDone
           read-lists a m d q l =
-              l ∙ ap (λ (x : Bool). checkLists x iids sids il sl (done [])) q
+              l ∙ sym (lists-counted m iids sids il sl hi hs) ∙ ap (λ (x : Bool). checkLists x iids sids il sl (done [])) q
               ∙ sym (after-product ∙ accepted file iids sids (sym (ap isDone d)) .heard-later lists)
 
 -- ---- what is known where reading is done

@@ -19,6 +19,11 @@ unfolding checkEntry
 checkLists true iids sids iidList sidList later = checkEntry (firstBad iids iidList) 5 (checkEntry (firstBad sids sidList) 6 later)
 checkLists false iids sids iidList sidList later = checkEntry (firstBad sids sidList) 5 (checkEntry (firstBad iids iidList) 6 later)
 
+-- the lists' checks by themselves, after 18
+unfoldable pub listsAnswer : Bool → ℕ → ℕ → List ℤ → List ℤ → Answer
+unfolding checkCount checkLists
+listsAnswer mode1 iids sids iidList sidList = checkCount iids (checkCount sids (checkLists mode1 iids sids iidList sidList (done [])))
+
 -- "Reading checks 18, 15, 1 (under 3 bytes), 2 (first two bytes), 3, 4, 2 (length), 5, 6."
 -- 15: "value buffer is not the product of the two list lengths"
 unfoldable pub readAnswer : List ℕ → ℕ → ℕ → List ℤ → List ℤ → ℕ → Answer

@@ -7,7 +7,7 @@ ghost use lib.ListN.{length, getD};
 ghost use Rattle.genotype.specs.Answer.{done, isDone};
 ghost use Rattle.genotype.specs.Block.{blockWidth};
 ghost use Rattle.bed_file.specs.File.{isMode1, items};
-ghost use Rattle.bed_read.specs.Reading.{checkLists, readAnswer};
+ghost use Rattle.bed_read.specs.Reading.{checkLists, listsAnswer, readAnswer};
 ghost use Rattle.bed_read.specs.Inner.{Ready, isBlock, partByte, partPlace, lengthOf, byteAt, placeAt, InOrder, Resolved};
 ghost use Rattle.bed_read.specs.Says.{readSays};
 
@@ -31,7 +31,7 @@ pub enum ReadAnswer {
     SidIndexTooBig(i64),
 }
 
-// The lists' checks: 5 for the list within a block, then 6 for the list of blocks.
+// The lists' checks by themselves: 18, then 5 for the list within a block, then 6 for the list of blocks.
 pub fn check_lists(
     mode_1: bool,
     iid_count: usize,
@@ -39,8 +39,14 @@ pub fn check_lists(
     iid_index: &[i64],
     sid_index: &[i64],
 ) -> ReadAnswer
-    ensures { λ r. ⌜ readSays r ≡ checkLists «mode_1» «iid_count» «sid_count» (now («iid_index» .entry)) (now («sid_index» .entry)) (done []) ⌝ }
+    ensures { λ r. ⌜ readSays r ≡ listsAnswer «mode_1» «iid_count» «sid_count» (now («iid_index» .entry)) (now («sid_index» .entry)) ⌝ }
 {
+    if iid_count > 9223372036854775807 {
+        return ReadAnswer::CountTooLarge;
+    }
+    if sid_count > 9223372036854775807 {
+        return ReadAnswer::CountTooLarge;
+    }
     if mode_1 {
         check_within_then_blocks(iid_count, iid_index, sid_count, sid_index)
     } else {

@@ -35,6 +35,25 @@ pub count-refuses : (n : ℕ) (later : Answer) → countLimit < n → checkCount
 unfolding checkCount
 count-refuses n later h = check-refuses (leb n countLimit) 18 later (lt-leb n countLimit h)
 
+-- ---- what a list's check found
+unfoldable carried : Answer → Option ℤ
+carried (done vs) = none
+carried (refused n []) = none
+carried (refused n (e ∷ es)) = some e
+
+carried-entry : (o : Option ℤ) (n : ℕ) → carried (checkEntry o n (done [])) ≡ o
+unfolding carried checkEntry
+carried-entry none n = refl
+carried-entry (some e) n = refl
+
+pub entry-some : (o : Option ℤ) (n : ℕ) (e : ℤ) → refused n (e ∷ []) ≡ checkEntry o n (done []) → o ≡ some e
+unfolding carried
+entry-some o n e q = sym (carried-entry o n) ∙ ap carried (sym q)
+
+pub entry-none : (o : Option ℤ) (n : ℕ) → done [] ≡ checkEntry o n (done []) → o ≡ none
+unfolding carried
+entry-none o n q = sym (carried-entry o n) ∙ ap carried (sym q)
+
 -- ---- what is known where nothing was refused
 pub check-done : (b : Bool) (n : ℕ) (later : Answer) → isDone (check b n later) ≡ true → (b ≡ true) × (isDone later ≡ true)
 unfolding check isDone

@@ -1,7 +1,7 @@
 -- Laws of entries, over plain numbers and lists.
 use mathlib.Core.Path.{_≡_, refl, sym, ap, subst, _∙_}
 use mathlib.Core.Bool.{Bool, true, false}
-use mathlib.Core.List.{List}
+use mathlib.Core.List.{List, [], _∷_}
 use mathlib.Core.Option.{some, none}
 use Prim.Native.Nat.{ℕ, _+_, _-_, _^_, _<_, _≤_}
 use native.Mathlib.Numerals.{add-one}
@@ -15,7 +15,8 @@ use lib.Signed.{mag, ltZ}
 use mir.Syntax.{w64}
 use mir.Val.{SFits, ofZ, toZ}
 use mir.ValLaws.{toZ-ofZ}
-use Rattle.genotype.specs.Entry.{isGood, means, meaning, firstBad}
+use Rattle.genotype.specs.Answer.{done, refused, checkEntry}
+use Rattle.genotype.specs.Entry.{isGood, means, firstBad, entryAnswer}
 
 -- ---- one entry
 magnitude-good : (count : ℕ) (z : ℤ) → ltb (mag z) count ≡ isGood count z
@@ -66,14 +67,14 @@ module _ (count : ℕ) (z : ℤ) (f : SFits w64 z) where
   pub means-back : (n : ℕ) → n ≡ means count (toZ w64 (ofZ w64 z)) → n ≡ means count z
   means-back n h = h ∙ ap (means count) back
 
-  -- the meaning, from the test and the number
-  pub meaning-good : (b : Bool) (n : ℕ) → b ≡ isGood count (toZ w64 (ofZ w64 z)) → b ≡ true → n ≡ means count (toZ w64 (ofZ w64 z)) → some n ≡ meaning count z
-  unfolding meaning
-  meaning-good b n e t h = simp (sym (still-good b e) ∙ t) (ap some (h ∙ ap (means count) back))
+  -- the entry by itself, from the test and the number; n is its list's number
+  pub entry-good : (n : ℕ) (b : Bool) (m : ℕ) → b ≡ isGood count (toZ w64 (ofZ w64 z)) → b ≡ true → m ≡ means count (toZ w64 (ofZ w64 z)) → done (pos m ∷ []) ≡ entryAnswer n count z
+  unfolding entryAnswer firstBad checkEntry
+  entry-good n b m e t h = simp (sym (still-good b e) ∙ t) (ap (λ (k : ℕ). done (pos k ∷ [])) (means-back m h))
 
-  pub meaning-bad : (b : Bool) → b ≡ isGood count (toZ w64 (ofZ w64 z)) → b ≡ false → none ≡ meaning count z
-  unfolding meaning
-  meaning-bad b e t = simp (sym (still-good b e) ∙ t)
+  pub entry-bad : (n : ℕ) (b : Bool) → b ≡ isGood count (toZ w64 (ofZ w64 z)) → b ≡ false → refused n (toZ w64 (ofZ w64 z) ∷ []) ≡ entryAnswer n count z
+  unfolding entryAnswer firstBad checkEntry
+  entry-bad n b e t = simp (sym (still-good b e) ∙ t, back)
 
 -- ---- the first bad entry: what is left to look at says what the whole list says
 module _ (count : ℕ) (list : List ℤ) (i : ℕ) (h : i < length list) (f : mag (getD list i (pos 0)) < 2 ^ 63)

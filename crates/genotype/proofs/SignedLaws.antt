@@ -7,7 +7,7 @@ use borrow.Author.Tests.{le-ltb, ltb-true, eqb-true, eq-eqb}
 use lib.Dec.{T}
 use lib.IntN.{ℤ, pos, negsuc, natAbs, _-ℤ_}
 use lib.Signed.{mag, ltZ, nonNeg}
-use mir.Syntax.{Width, w64}
+use mir.Syntax.{w64}
 use mir.Val.{Fits, SFits, ofZ, toZ}
 use mir.ValLaws.{toZ-ofZ}
 use Rattle.genotype.specs.Value.{sameInt}
@@ -48,27 +48,15 @@ module _ (z : ℤ) (f : SFits w64 z) where
   pub fronted : ltZ (toZ w64 (ofZ w64 z)) (pos 0) ≡ false → z ≡ pos (mag z)
   fronted h = front z (subst (λ (y : ℤ). ltZ y (pos 0) ≡ false) back h)
 
--- ---- two integers are the same number exactly if their bits are the same
+-- ---- two integers are the same number exactly if they are equal
 pub sameInt-refl : (a : ℤ) → sameInt a a ≡ true
 unfolding sameInt
 sameInt-refl (pos n) = eq-eqb n n refl
 sameInt-refl (negsuc n) = eq-eqb n n refl
 
-sameInt-eq : (a b : ℤ) → sameInt a b ≡ true → a ≡ b
+pub sameInt-eq : (a b : ℤ) → sameInt a b ≡ true → a ≡ b
 unfolding sameInt
 sameInt-eq (pos m) (pos n) h = ap pos (eqb-true m n h)
 sameInt-eq (pos m) (negsuc n) h = absurd (let q : _≡_ {A = ℕ} 0 1 = cc in omega arith)
 sameInt-eq (negsuc m) (pos n) h = absurd (let q : _≡_ {A = ℕ} 0 1 = cc in omega arith)
 sameInt-eq (negsuc m) (negsuc n) h = ap negsuc (eqb-true m n h)
-
-not-true-false : (b : Bool) → (b ≡ true → ⊥) → b ≡ false
-not-true-false true h = absurd (h refl)
-not-true-false false h = refl
-
-module _ (w : Width) (a b : ℤ) where
-  pub same-bits : SFits w a → SFits w b → ofZ w a ≡ ofZ w b → sameInt a b ≡ true
-  same-bits f g e =
-      subst (λ (y : ℤ). sameInt a y ≡ true) (sym (toZ-ofZ w a f) ∙ ap (toZ w) e ∙ toZ-ofZ w b g) (sameInt-refl a)
-
-  pub other-bits : (ofZ w a ≡ ofZ w b → ⊥) → sameInt a b ≡ false
-  other-bits n = not-true-false (sameInt a b) (λ h. n (ap (ofZ w) (sameInt-eq a b h)))

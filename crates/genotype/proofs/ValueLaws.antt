@@ -45,18 +45,9 @@ module _ (w : Width) (flag : Bool) (missing v : w .Value) where
         unfolding codeOf sameOrNan
         missing-code d = simp (a, b, c, d)
 
-        module _ (d : w .same v missing ≡ false) where
-          pub nan-code : w .same v v ≡ false → w .same missing missing ≡ false → some 1 ≡ codeOf w flag missing v
-          unfolding codeOf sameOrNan
-          nan-code e f = simp (a, b, c, d, e, f)
-
-          pub number-bad : w .same v v ≡ true → none ≡ codeOf w flag missing v
-          unfolding codeOf sameOrNan
-          number-bad e = simp (a, b, c, d, e)
-
-          pub nan-bad : w .same v v ≡ false → w .same missing missing ≡ true → none ≡ codeOf w flag missing v
-          unfolding codeOf sameOrNan
-          nan-bad e f = simp (a, b, c, d, e, f)
+        pub number-bad : w .same v missing ≡ false → w .same v v ≡ true → none ≡ codeOf w flag missing v
+        unfolding codeOf sameOrNan
+        number-bad d e = simp (a, b, c, d, e)
 
 -- ---- there and back
 module _ (w : Width) (missing v : w .Value) where

@@ -18,14 +18,15 @@ unfoldable pub means : ℕ → ℤ → ℕ
 means count (pos i) = i
 means count (negsuc k) = count - suc k
 
--- what an entry means, if it is good
-unfoldable pub meaning : ℕ → ℤ → Option ℕ
-meaning count e = cond (isGood count e) (some (means count e)) none
-
 -- the first entry of a list that is bad for a count
 unfoldable pub firstBad : ℕ → List ℤ → Option ℤ
 firstBad count [] = none
 firstBad count (e ∷ es) = cond (isGood count e) (firstBad count es) (some e)
+
+-- an entry by itself: the number that it means, after 5 or 6, whichever is its list's number n
+unfoldable pub entryAnswer : ℕ → ℕ → ℤ → Answer
+unfolding checkEntry
+entryAnswer n count e = checkEntry (firstBad count (e ∷ [])) n (done (pos (means count e) ∷ []))
 
 -- the least and the greatest of a number and the numbers of a list
 unfoldable pub least : ℕ → List ℕ → ℕ

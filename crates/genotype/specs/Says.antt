@@ -1,8 +1,7 @@
 -- What each answer enum of the code says: document 01's number and the values for each of its cases.
 use mathlib.Core.List.{[], _∷_}
-use mathlib.Core.Option.{Option, some, none}
 use Prim.Native.Nat.{ℕ}
-use lib.IntN.{ℤ, pos}
+use lib.IntN.{pos}
 use Rattle.genotype.specs.Answer.{Answer, done, refused}
 use Rattle.genotype.specs.declared.blocks.DivAnswer.{DivAnswer}
 use Rattle.genotype.specs.declared.blocks.DivAnswer.the-variants as div
@@ -14,8 +13,6 @@ use Rattle.genotype.specs.declared.entries.IidEntry.{IidEntry}
 use Rattle.genotype.specs.declared.entries.IidEntry.the-variants as iids
 use Rattle.genotype.specs.declared.entries.SidEntry.{SidEntry}
 use Rattle.genotype.specs.declared.entries.SidEntry.the-variants as sids
-use Rattle.genotype.specs.declared.values.ValueCode.{ValueCode}
-use Rattle.genotype.specs.declared.values.ValueCode.the-variants as codes
 
 abbrev pub divSays : DivAnswer → Answer
 divSays (div.Width w) = done (pos w ∷ [])
@@ -27,21 +24,16 @@ spanSays (spans.Span lowest length) = done (pos lowest ∷ pos length ∷ [])
 spanSays spans.CountTooLarge = refused 18 []
 spanSays (spans.IidIndexTooBig e) = refused 5 (e ∷ [])
 
--- the entry that was found, if any
-abbrev pub badEntry : FirstBad → Option ℤ
-badEntry (bads.Entry e) = some e
-badEntry bads.Nothing = none
+-- the first bad entry of a list, which is refused by the list's number n, 5 or 6, and carried
+abbrev pub firstBadSays : ℕ → FirstBad → Answer
+firstBadSays n (bads.Entry e) = refused n (e ∷ [])
+firstBadSays n bads.Nothing = done []
 
--- the number that an entry means, if it is good
-abbrev pub iidMeans : IidEntry → Option ℕ
-iidMeans (iids.Iid i) = some (i .0)
-iidMeans iids.Bad = none
+-- the number that an entry means; 5 for a bad entry of animals, 6 for one of markers, which carry it
+abbrev pub iidSays : IidEntry → Answer
+iidSays (iids.Iid i) = done (pos (i .0) ∷ [])
+iidSays (iids.IidIndexTooBig e) = refused 5 (e ∷ [])
 
-abbrev pub sidMeans : SidEntry → Option ℕ
-sidMeans (sids.Sid m) = some (m .0)
-sidMeans sids.Bad = none
-
--- the code that a value has, if any
-abbrev pub codeSays : ValueCode → Option ℕ
-codeSays (codes.Code c) = some c
-codeSays codes.BadValue = none
+abbrev pub sidSays : SidEntry → Answer
+sidSays (sids.Sid m) = done (pos (m .0) ∷ [])
+sidSays (sids.SidIndexTooBig e) = refused 6 (e ∷ [])

@@ -1,12 +1,13 @@
 // Entries of a list: what they mean for a count.
 ghost use mathlib.Core.Path.{_≡_};
 ghost use mathlib.Core.List.{[], _∷_};
-ghost use Prim.Native.Nat.{_<_, min, max};
+ghost use Prim.Native.Nat.{ℕ, _<_, min, max};
 ghost use lib.ListN.{length};
 ghost use lib.IntN.{pos};
 ghost use lib.Signed.{mag};
-ghost use Rattle.genotype.specs.Entry.{isGood, means, meaning, firstBad, span, spanAnswer};
-ghost use Rattle.genotype.specs.Says.{iidMeans, sidMeans, badEntry, spanSays};
+ghost use Rattle.genotype.specs.Answer.{done, checkEntry};
+ghost use Rattle.genotype.specs.Entry.{isGood, means, firstBad, entryAnswer, span, spanAnswer};
+ghost use Rattle.genotype.specs.Says.{iidSays, sidSays, firstBadSays, spanSays};
 
 // An animal's number and a marker's number, never one for the other.
 pub struct IidIndex(pub usize);
@@ -15,33 +16,33 @@ pub struct SidIndex(pub usize);
 
 pub enum IidEntry {
     Iid(IidIndex),
-    Bad,
+    IidIndexTooBig(i64),
 }
 
 pub enum SidEntry {
     Sid(SidIndex),
-    Bad,
+    SidIndexTooBig(i64),
 }
 
 // The animal that an entry means.
 pub fn iid_index(iid_count: usize, entry: i64) -> IidEntry
-    ensures { λ r. ⌜ iidMeans r ≡ meaning «iid_count» entry ⌝ }
+    ensures { λ r. ⌜ iidSays r ≡ entryAnswer 5 «iid_count» entry ⌝ }
 {
     if is_good(iid_count, entry) {
         IidEntry::Iid(IidIndex(number(iid_count, entry)))
     } else {
-        IidEntry::Bad
+        IidEntry::IidIndexTooBig(entry)
     }
 }
 
 // The marker that an entry means.
 pub fn sid_index(sid_count: usize, entry: i64) -> SidEntry
-    ensures { λ r. ⌜ sidMeans r ≡ meaning «sid_count» entry ⌝ }
+    ensures { λ r. ⌜ sidSays r ≡ entryAnswer 6 «sid_count» entry ⌝ }
 {
     if is_good(sid_count, entry) {
         SidEntry::Sid(SidIndex(number(sid_count, entry)))
     } else {
-        SidEntry::Bad
+        SidEntry::SidIndexTooBig(entry)
     }
 }
 
@@ -95,7 +96,7 @@ pub enum FirstBad {
 
 // The first bad entry of a list.
 pub fn first_bad(count: usize, list: &[i64]) -> FirstBad
-    ensures { λ r. ⌜ badEntry r ≡ firstBad count (now (list .entry)) ⌝ }
+    ensures { λ r. ⌜ ((n : ℕ) → firstBadSays n r ≡ checkEntry (firstBad count (now (list .entry))) n (done [])) ⌝ }
 {
     let mut i = 0;
     while i < list.len() {

@@ -5,7 +5,7 @@ use Prim.Native.Nat.{ℕ, _-_, _^_}
 use Rattle.genotype.specs.Answer.{refused, check, checkCount, isDone, ifDone}
 use Rattle.genotype.specs.Block.{blockWidth, checkSize, divAnswer}
 use Rattle.genotype.specs.Code.{codeAt, itemCode, packedByte, packed}
-use Rattle.genotype.specs.Entry.{isGood, means, meaning, firstBad}
+use Rattle.genotype.specs.Entry.{isGood, means, firstBad, entryAnswer}
 use Rattle.genotype.specs.Lists.{tabulate}
 use Rattle.genotype.specs.Matrix.{matrix}
 use Rattle.genotype.specs.Value.{values, valueOf, sameInt, sameOrNan, codeOf}
@@ -28,7 +28,7 @@ last file n acc = accepted file 5 (2 ^ 63 - 1) (ap isDone acc) .heard-later (ref
 pub small-herds : SmallHerds
 unfolding canonicalBuffer canonicalAnswer canonicalFile bedFile joined readBuffer readAnswer ifDone isDone acceptAnswer isMode1 items blocks blockWidth checkLists firstBad isGood means
     valuesRead codesRead matrix tabulate readCode callCode codeIn block itemCode codeAt valueOf values fileOrder
-    meaning divAnswer indexBuffer indexAnswer checkIndex checkSlice checkEnd checkCount check listAnswer listBuffer indexList sliceList stepped backward distances numbersBelow sliceEnd fromCount
+    entryAnswer divAnswer indexBuffer indexAnswer checkIndex checkSlice checkEnd checkCount check listAnswer listBuffer indexList sliceList stepped backward distances numbersBelow sliceEnd fromCount
     encodeBuffer placeCode codeOf sameInt sameOrNan orZero packedCodes packed packedByte orElse firstOf ifBad firstBadAnimal newBefore
 small-herds = record {
   read-F = λ w missing. refl;

@@ -2,12 +2,11 @@
 use mathlib.Core.Path.{_≡_}
 use mathlib.Core.Bool.{true, false}
 use mathlib.Core.List.{List, [], _∷_}
-use mathlib.Core.Option.{some, none}
 use Prim.Native.Nat.{ℕ, _-_, _^_}
 use lib.IntN.{pos, negsuc}
 use Rattle.genotype.specs.Answer.{done, refused}
 use Rattle.genotype.specs.Block.{divAnswer}
-use Rattle.genotype.specs.Entry.{meaning}
+use Rattle.genotype.specs.Entry.{entryAnswer}
 use Rattle.genotype.specs.Value.{Width, i8}
 use Rattle.index.specs.declared.Index.the-variants as Index
 use Rattle.index.specs.declared.SliceEnd.the-variants as SliceEnd
@@ -52,11 +51,11 @@ pub record SmallHerds : Type 1 where
   -- "6C 1B 01 with 0 animals, 9 markers: accepted." "One byte more: 2."
   pub nothing-in-a-block : acceptAnswer (0x6C ∷ 0x1B ∷ 0x01 ∷ []) 0 9 ≡ done []
   pub one-byte-more : acceptAnswer (0x6C ∷ 0x1B ∷ 0x01 ∷ 0x00 ∷ []) 0 9 ≡ refused 2 []
-  -- "Count 5: −5 is 0, 4 is 4"; "−6 and 5 bad": −(k + 1) is `negsuc k`
-  pub minus-5 : meaning 5 (negsuc 4) ≡ some 0
-  pub plus-4 : meaning 5 (pos 4) ≡ some 4
-  pub minus-6 : meaning 5 (negsuc 5) ≡ none
-  pub plus-5 : meaning 5 (pos 5) ≡ none
+  -- "Count 5: −5 is 0, 4 is 4"; "−6 and 5 bad": −(k + 1) is `negsuc k`. Of animals, whose number is 5
+  pub minus-5 : entryAnswer 5 5 (negsuc 4) ≡ done (pos 0 ∷ [])
+  pub plus-4 : entryAnswer 5 5 (pos 4) ≡ done (pos 4 ∷ [])
+  pub minus-6 : entryAnswer 5 5 (negsuc 5) ≡ refused 5 (negsuc 5 ∷ [])
+  pub plus-5 : entryAnswer 5 5 (pos 5) ≡ refused 5 (pos 5 ∷ [])
   -- "2^63 − 1 animals, 8 markers: 4." "7 markers: not 4.": the width is 2^61
   pub eight-markers : divAnswer (2 ^ 63 - 1) 8 ≡ refused 4 []
   pub seven-markers : divAnswer (2 ^ 63 - 1) 7 ≡ done (pos (2 ^ 61) ∷ [])

@@ -1,7 +1,8 @@
 -- `byte_span`: 18, then 5 by `first_bad`, then the span.
 use mathlib.Core.Path.{sym, ap, _∙_}
 use native.Mathlib.Nat.{pos-of-ne-zero}
-use Rattle.genotype.specs.Says.{badEntry}
+use Rattle.genotype.specs.Says.{firstBadSays}
+use Rattle.genotype.proofs.AnswerLaws.{entry-some, entry-none}
 use Rattle.genotype.proofs.SpanLaws.{span-too-large, span-bad, span-good, span-empty}
 use borrow.Author.Needs.{needs}
 use Rattle.genotype.proofs.entries.byte_span.Statement.{statement}
@@ -21,7 +22,7 @@ returns-2 c =
     let e = c .before .bad .given .0 .0 in
     let s = c .before .before .before .before .before in
     span-bad (s .args .count) (s .args .list .now) (c .before .before .before .before .if1 .left) e
-    (sym (c .before .before .before .first-bad .ensures) ∙ ap badEntry (c .before .bad .given .1)) (c .known-told .given .0 .1)
+    (entry-some _ 5 e (sym (ap (firstBadSays 5) (c .before .bad .given .1)) ∙ c .before .before .before .first-bad .ensures 5)) (c .known-told .given .0 .1)
 
 enum-told : tie.Need-enum-told
 enum-told c = search needs
@@ -29,7 +30,7 @@ enum-told c = search needs
 returns-3 : tie.Need-returns-3
 returns-3 c =
     span-empty _ _ (c .before .before .before .before .if1 .left)
-    (sym (c .before .before .before .first-bad .ensures) ∙ ap badEntry (c .before .enum-told .given .1)) (c .if2 .taken)
+    (entry-none _ 5 (sym (ap (firstBadSays 5) (c .before .enum-told .given .1)) ∙ c .before .before .before .first-bad .ensures 5)) (c .if2 .taken)
 
 list-span-requires : tie.Need-list-span-requires
 list-span-requires c κs = pos-of-ne-zero (c .if2 .left)
@@ -37,7 +38,7 @@ list-span-requires c κs = pos-of-ne-zero (c .if2 .left)
 returns-4 : tie.Need-returns-4
 returns-4 c =
     span-good _ _ (c .before .before .before .before .before .if1 .left)
-    (sym (c .before .before .before .before .first-bad .ensures) ∙ ap badEntry (c .before .before .enum-told .given .1)) _
+    (entry-none _ 5 (sym (ap (firstBadSays 5) (c .before .before .enum-told .given .1)) ∙ c .before .before .before .before .first-bad .ensures 5)) _
     (c .list-span .ensures)
 
 pub byte-span-spec : {M : Type 1} → statement M

@@ -1,9 +1,13 @@
 -- `first_bad`: what is left of the list says what the whole list says.
-use mathlib.Core.Path.{_≡_, refl}
+use mathlib.Core.Path.{_≡_, refl, ap}
+use mathlib.Core.List.{[]}
+use mathlib.Core.Option.{Option}
 use Prim.Native.Nat.{_≤_, _-_}
 use native.Mathlib.Omega.{arith}
 use borrow.Author.Needs.{needs}
+use lib.IntN.{ℤ}
 use lib.ListN.{length, drop}
+use Rattle.genotype.specs.Answer.{done, checkEntry}
 use Rattle.genotype.specs.Entry.{firstBad}
 use Rattle.genotype.proofs.entries.first_bad.Statement.{statement}
 use Rattle.genotype.proofs.entries.first_bad.Tie as tie
@@ -41,12 +45,15 @@ loop-again c = (
 )
 
 returns : tie.Need-returns Inv-loop μ-loop
-returns c =
-    bad-here _ _ _ (c .before .before .before .loop-test .taken) (c .before .before .entry .given) _ (c .before .is-good .ensures)
-    (c .before .before .before .before .loop .inv .1) (c .if1 .left)
+unfolding checkEntry
+returns c n =
+    ap (λ (bad : Option ℤ). checkEntry bad n (done []))
+    (bad-here _ _ _ (c .before .before .before .loop-test .taken) (c .before .before .entry .given) _ (c .before .is-good .ensures)
+    (c .before .before .before .before .loop .inv .1) (c .if1 .left))
 
 returns-2 : tie.Need-returns-2 Inv-loop μ-loop
-returns-2 c = bad-none _ _ _ (c .loop-test .left) (c .before .loop .inv .1)
+unfolding checkEntry
+returns-2 c n = ap (λ (bad : Option ℤ). checkEntry bad n (done [])) (bad-none _ _ _ (c .loop-test .left) (c .before .loop .inv .1))
 
 pub first-bad-spec : {M : Type 1} → statement M
 first-bad-spec =
