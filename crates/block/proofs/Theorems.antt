@@ -13,16 +13,16 @@ use Rattle.genotype.specs.Block.{blockWidth}
 use Rattle.genotype.specs.Code.{itemCode}
 use Rattle.genotype.specs.Lists.{tabulate}
 use Rattle.genotype.specs.Value.{Width, sameOrNan, valueOf}
-use Rattle.genotype.proofs.AnswerLaws.{check-done, new-if-done}
+use Rattle.genotype.proofs.AnswerLaws.{check-done, count-done, new-if-done}
 use Rattle.genotype.proofs.CodeLaws.{Codes, packed-code}
 use Rattle.genotype.proofs.Tabulate.{length-tabulate, getD-tabulate}
 use Rattle.genotype.proofs.Tests.{by-lt}
 use Rattle.genotype.proofs.ValueLaws.{decode-encode}
-use Rattle.bed_write.specs.Packing.{placeCode, orZero, packedCodes, ifBad, firstBadAnimal, checkAnimal, encodeAnswer, newBefore, encodeBuffer}
+use Rattle.bed_write.specs.Packing.{placeCode, orZero, packedCodes, ifBad, firstBadAnimal, checkAnimal, newBefore, encodeBuffer}
 use Rattle.bed_write.proofs.EncodeLaws.{block-length}
 use Rattle.bed_write.proofs.FirstLaws.{first-all, not-bad, zero-below, place-coded}
-use Rattle.block.specs.Blocks.{checkColumn, packAnswer, packBuffer, decodeAnswer, columnOf, decodeBuffer}
-use Rattle.block.proofs.CheckLaws.{column-done, column-passes, decode-done}
+use Rattle.block.specs.Blocks.{checkBytes, checkColumn, packAnswer, packBuffer, decodeAnswer, columnOf, decodeBuffer}
+use Rattle.block.proofs.CheckLaws.{column-passes, decode-done}
 
 no-animal : (o : Option ℕ) → isDone (checkAnimal o (done [])) ≡ true → o ≡ none
 unfolding checkAnimal isDone
@@ -37,11 +37,17 @@ record Packable (iids valLength : ℕ) (code : ℕ → Option ℕ) (byteCount : 
   no-bad : firstBadAnimal iids code ≡ none
 
 packable : (iids valLength : ℕ) (code : ℕ → Option ℕ) (byteCount : ℕ) → isDone (packAnswer iids valLength code byteCount) ≡ true → Packable iids valLength code byteCount
-unfolding packAnswer encodeAnswer
+unfolding packAnswer checkBytes
 packable iids valLength code byteCount d =
-    let p = column-done iids valLength (encodeAnswer iids code byteCount) d in
-    let c = check-done (eqb byteCount (blockWidth iids)) 16 (checkAnimal (firstBadAnimal iids code) (done [])) (p .2) in
-    record { fits = p .0; values = p .1; bytes = eqb-true byteCount (blockWidth iids) (c .0); no-bad = no-animal (firstBadAnimal iids code) (c .1) }
+    let p = count-done iids _ d in
+    let b = check-done (eqb byteCount (blockWidth iids)) 16 _ (p .1) in
+    let v = check-done (eqb valLength iids) 15 (checkAnimal (firstBadAnimal iids code) (done [])) (b .1) in
+    record {
+      fits = p .0;
+      values = eqb-true valLength iids (v .0);
+      bytes = eqb-true byteCount (blockWidth iids) (b .0);
+      no-bad = no-animal (firstBadAnimal iids code) (v .1);
+    }
 
 -- the bytes that packing leaves where it is done
 module _ (iids valLength : ℕ) (code : ℕ → Option ℕ) (old : List ℕ) (p : Packable iids valLength code (length old)) where

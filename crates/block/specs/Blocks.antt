@@ -13,7 +13,7 @@ use Rattle.genotype.specs.Code.{itemCode}
 use Rattle.genotype.specs.Entry.{firstBad}
 use Rattle.genotype.specs.Lists.{tabulate}
 use Rattle.genotype.specs.Value.{Width, valueOf}
-use Rattle.bed_write.specs.Packing.{encodeAnswer, encodeBuffer}
+use Rattle.bed_write.specs.Packing.{firstBadAnimal, checkAnimal, encodeBuffer}
 
 -- 16: "packed buffer has the wrong length": a block has as many bytes as its animal count's block width
 unfoldable pub checkBytes : ℕ → ℕ → Answer → Answer
@@ -47,10 +47,11 @@ unfoldable pub decodeBuffer : (w : Width) → Bool → w .Value → List ℕ →
 decodeBuffer w flag missing bytes iids old =
     ifDone (decodeAnswer (length bytes) iids (length old)) (columnOf w flag missing bytes iids) old
 
--- packing: 18, 15, as the whole-file writer checks them, then what `encode1` checks
+-- packing: "`encode1` checks 16 first": 18 for the block's own count, 16, then 15 for the column, then 7
 unfoldable pub packAnswer : ℕ → ℕ → (ℕ → Option ℕ) → ℕ → Answer
-unfolding checkColumn encodeAnswer
-packAnswer iids valLength code byteCount = checkColumn iids valLength (encodeAnswer iids code byteCount)
+unfolding checkCount checkBytes check checkAnimal
+packAnswer iids valLength code byteCount =
+    checkCount iids (checkBytes byteCount iids (check (eqb valLength iids) 15 (checkAnimal (firstBadAnimal iids code) (done []))))
 
 -- the later bytes of packing: at 18 and 15 unchanged, else what `encode1` leaves
 unfoldable pub packBuffer : ℕ → ℕ → (ℕ → Option ℕ) → List ℕ → List ℕ

@@ -29,6 +29,9 @@ pub(crate) fn pack1_i8(
     if iid_count > 9223372036854775807 {
         return PackAnswer::CountTooLarge;
     }
+    if bytes.len() != genotype::blocks::block_width(iid_count) {
+        return PackAnswer::EncodingLength;
+    }
     if in_vector.len() != iid_count {
         return PackAnswer::IndexMismatch;
     }
@@ -50,6 +53,9 @@ pub(crate) fn pack1_f64(
 {
     if iid_count > 9223372036854775807 {
         return PackAnswer::CountTooLarge;
+    }
+    if bytes.len() != genotype::blocks::block_width(iid_count) {
+        return PackAnswer::EncodingLength;
     }
     if in_vector.len() != iid_count {
         return PackAnswer::IndexMismatch;
