@@ -1,6 +1,6 @@
 -- Document 01's decoding and packing equal the PLINK 1.9 format, of whole files: what is read, written and made canonical is PLINK's file,
 -- over the definitions that the contracts cite.
-use mathlib.Core.Path.{_≡_, refl, sym, ap, subst, _∙_}
+use mathlib.Core.Path.{_≡_, sym, ap, subst, _∙_}
 use mathlib.Core.Bool.{Bool, true, false, _&&_}
 use mathlib.Core.List.{List, [], _∷_}
 use Prim.Native.Nat.{ℕ, _+_, _-_, _*_, _/_, _^_, _<_, _≤_}
@@ -13,7 +13,7 @@ use lib.ListN.{length, getD}
 use lib.Seq.{getD-take}
 use Rattle.genotype.specs.Answer.{done, countLimit, isDone}
 use Rattle.genotype.specs.Block.{blockWidth, fileLength, checkSize}
-use Rattle.genotype.specs.Code.{copies, packedByte, packed}
+use Rattle.genotype.specs.Code.{itemCode, copies, packedByte, packed}
 use Rattle.genotype.specs.Lists.{tabulate}
 use Rattle.genotype.specs.Matrix.{matrixPlace, matrix}
 use Rattle.genotype.specs.Plink.{plinkWidth, copiesOfFirst, copiesValue}
@@ -26,7 +26,7 @@ use Rattle.genotype.proofs.SpanLaws.{all-good}
 use Rattle.genotype.proofs.PlinkLaws.{width-is-plink, pads-are-zero}
 use Rattle.genotype.proofs.Tabulate.{length-tabulate, getD-tabulate}
 use Rattle.bed_file.specs.File.{isMode1, items, blocks, checkOpen, checkMode, checkLength, checkFile, acceptAnswer}
-use Rattle.bed_file.proofs.FileLaws.{open-good, accept-file, accepted}
+use Rattle.bed_file.proofs.FileLaws.{open-good, accepted}
 use Rattle.bed_read.specs.Calls.{block, codeIn, callCode}
 use Rattle.bed_read.specs.Reading.{readAnswer, readCode, codesRead, valuesRead, readBuffer}
 use Rattle.bed_read.proofs.CallLaws.{call-below}
@@ -42,13 +42,29 @@ use Rattle.canonical.proofs.Theorems.{writing-passed, has-code, wrote}
 use Rattle.read_standardised.specs.Demand.{IsAccepted, GoodList, meant}
 use Rattle.read_standardised.proofs.ReadLaws.{read-done}
 use Rattle.demands.specs.PlinkFile.{IsPlinkFile, variantBit, genotypeIn, ExtraBitsZero, copiesBy, Apart, StandsIn}
-use Rattle.demands.proofs.PlinkFileLaws.{three-bytes, same-bit, part-copies, tabulated-codes, value-copies, same-genotype, stands-by-code}
+use Rattle.demands.proofs.PlinkFileLaws.{both-true, three-bytes, same-bit, part-copies, tabulated-codes, value-copies, same-genotype, stands-by-code}
 
--- ---- (a) an accepted file of mode 1
-two-bytes : (a b : Bool) → (a && b) ≡ true → (a ≡ true) × (b ≡ true)
-two-bytes true b e = (refl, e)
-two-bytes false b e = (e, absurd (let q : _≡_ {A = ℕ} 0 1 = cc in omega arith))
+-- ---- calls
+-- "Its blocks stand in order from byte 3.": the code of item i of block v says the copies of PLINK's genotype
+pub block-is-plink : (file : List ℕ) (n v i : ℕ) → i < n → copies (itemCode (block file n v) i) ≡ copiesOfFirst (genotypeIn file n v i)
+unfolding block genotypeIn variantBit
+block-is-plink file n v i h =
+    let r = width-room n .0 in
+    let e : v * blockWidth n ≡ v * plinkWidth n = ap (λ (x : ℕ). v * x) (width-is-plink n) in
+    part-copies file (3 + v * blockWidth n) (blockWidth n) i _ _ (omega arith) (omega arith) (omega arith)
 
+module _ (file : List ℕ) (iids sids a m : ℕ) where
+  -- in mode 1 the code of a call says the copies of the genotype at variant m of sample a
+  pub call-is-plink : isMode1 file ≡ true → a < iids → copies (callCode file iids sids a m) ≡ copiesOfFirst (genotypeIn file iids m a)
+  unfolding callCode codeIn
+  call-is-plink e h = ap (λ (b : Bool). copies (codeIn b file iids sids a m)) e ∙ block-is-plink file iids m a h
+
+  -- in mode 0 the two trade places
+  pub call-in-mode-0 : isMode1 file ≡ false → m < sids → copies (callCode file iids sids a m) ≡ copiesOfFirst (genotypeIn file sids a m)
+  unfolding callCode codeIn
+  call-in-mode-0 e h = ap (λ (b : Bool). copies (codeIn b file iids sids a m)) e ∙ block-is-plink file sids a m h
+
+-- ---- reading: a file of mode 1 that is accepted
 module _ (file : List ℕ) (iids sids : ℕ) (acc : IsAccepted file iids sids) (one : isMode1 file ≡ true) where
   first-bytes : (getD file 0 0 ≡ 0x6C) × (getD file 1 0 ≡ 0x1B)
   unfolding acceptAnswer checkFile checkOpen isDone
@@ -57,10 +73,10 @@ module _ (file : List ℕ) (iids sids : ℕ) (acc : IsAccepted file iids sids) (
       let b = count-done sids _ (a .1) in
       let c = check-done (leb 3 (length file)) 1 _ (b .1) in
       let d = check-done (eqb (getD file 0 0) 0x6C && eqb (getD file 1 0) 0x1B) 2 _ (c .1) in
-      let e = two-bytes (eqb (getD file 0 0) 0x6C) (eqb (getD file 1 0) 0x1B) (d .0) in
+      let e = both-true (eqb (getD file 0 0) 0x6C) (eqb (getD file 1 0) 0x1B) (d .0) in
       (eqb-true (getD file 0 0) 0x6C (e .0), eqb-true (getD file 1 0) 0x1B (e .1))
 
-  -- it is PLINK's file of its animals and markers
+  -- is PLINK's file, its animals the samples and its markers the variants
   pub accepted-is-plink : IsPlinkFile file iids sids
   unfolding isMode1 items blocks isDone
   accepted-is-plink =
@@ -71,17 +87,8 @@ module _ (file : List ℕ) (iids sids : ℕ) (acc : IsAccepted file iids sids) (
         the-rest = l ∙ ap (λ (n : ℕ). 3 + n) (mul-comm (blockWidth iids) sids ∙ ap (λ (n : ℕ). sids * n) (width-is-plink iids));
       }
 
-  -- the code of a call says the copies of PLINK's genotype
-  pub call-is-plink : (a m : ℕ) → a < iids → m < sids → copies (callCode file iids sids a m) ≡ copiesOfFirst (genotypeIn file iids m a)
-  unfolding callCode codeIn block genotypeIn variantBit
-  call-is-plink a m ha hm =
-      let r = width-room iids .0 in
-      let e : m * blockWidth iids ≡ m * plinkWidth iids = ap (λ (n : ℕ). m * n) (width-is-plink iids) in
-      ap (λ (b : Bool). copies (codeIn b file iids sids a m)) one
-      ∙ part-copies file (3 + m * blockWidth iids) (blockWidth iids) a _ _ (omega arith) (omega arith) (omega arith)
-
-  -- what reading leaves, at every width, under either flag and in either order: for place k of the animal list and place m of the marker
-  -- list, the copies that the genotype of that animal at that marker has
+  -- and with good lists and a buffer of the right length reading leaves, at every width, under either flag and in either order, for place k
+  -- of the animal list and place m of the marker list the copies that the genotype of that animal at that marker has
   module _ (w : Width) (flag : Bool) (missing : w .Value) (order : Bool) (iidList sidList : List ℤ) (gi : GoodList iids iidList) (gs : GoodList sids sidList)
       (val : List (w .Value)) (for-15 : length iidList * length sidList ≡ length val) where
     pub reading-is-plink :
@@ -99,10 +106,10 @@ module _ (file : List ℕ) (iids sids : ℕ) (acc : IsAccepted file iids sids) (
               let a = meant iids iidList k in
               let s = meant sids sidList m in
               value-copies w missing flag (callCode file iids sids a s) (genotypeIn file iids s a) (call-below file iids sids a s)
-              (call-is-plink a s (means-below iids _ (all-good iids iidList k gi hk)) (means-below sids _ (all-good sids sidList m gs hm)))),
+              (call-is-plink file iids sids a s one (means-below iids _ (all-good iids iidList k gi hk)))),
         )
 
--- and every file of PLINK's is accepted as one of mode 1, for counts that meet neither 18 nor 4
+-- and every file of PLINK's is accepted, in mode 1, for counts that meet neither 18 nor 4
 pub plink-is-accepted :
     (file : List ℕ) (samples variants : ℕ) → IsPlinkFile file samples variants → samples ≤ countLimit → variants ≤ countLimit → length file ≤ 2 ^ 64 - 1
     → IsAccepted file samples variants × (isMode1 file ≡ true)
@@ -141,23 +148,19 @@ module _ (iids sids : ℕ) (code : ℕ → ℕ → ℕ) (small : (a m : ℕ) →
             let l : length column ≡ iids = length-tabulate iids (λ a. code a v) in
             let e : v * plinkWidth iids ≡ v * blockWidth iids = ap (λ (n : ℕ). v * n) (sym (width-is-plink iids)) in
             let b : k / 8 < blockWidth iids = subst (λ (n : ℕ). k / 8 < n) (sym (width-is-plink iids)) (omega arith) in
-            let at : (8 * (3 + v * plinkWidth iids) + k) / 8 ≡ 3 + v * blockWidth iids + k / 8 = omega arith in
-            same-bit bed (packed column) k _ (omega arith)
-            (ap (λ (n : ℕ). getD bed n 0) at ∙ bed-byte iids sids code v (k / 8) hv b
+            same-bit bed (packed column) k _ (3 + v * blockWidth iids) (omega arith)
+            (bed-byte iids sids code v (k / 8) hv b
             ∙ sym (getD-tabulate (blockWidth (length column)) (packedByte column) (k / 8) 0 (subst (λ (n : ℕ). k / 8 < blockWidth n) (sym l) b)))
             ∙ pads-are-zero column (tabulated-codes iids (λ a. code a v) (λ a ha. small a v ha hv)) k (omega arith);
       }
 
-  module _ (hi : iids ≤ countLimit) (hs : sids ≤ countLimit) (fits : fileLength iids sids ≤ 2 ^ 64 - 1) where
-    bed-plink : IsPlinkFile bed iids sids
-    bed-plink = accepted-is-plink bed iids sids (bed-accepted iids sids code small hi hs fits) (bed-mode iids sids code small)
+  bed-plink : iids ≤ countLimit → sids ≤ countLimit → fileLength iids sids ≤ 2 ^ 64 - 1 → IsPlinkFile bed iids sids
+  bed-plink hi hs fits = accepted-is-plink bed iids sids (bed-accepted iids sids code small hi hs fits) (bed-mode iids sids code small)
 
-    bed-copies : (a m : ℕ) → a < iids → m < sids → copies (code a m) ≡ copiesOfFirst (genotypeIn bed iids m a)
-    bed-copies a m ha hm =
-        ap copies (sym (bed-call iids sids code small a m ha hm))
-        ∙ call-is-plink bed iids sids (bed-accepted iids sids code small hi hs fits) (bed-mode iids sids code small) a m ha hm
+  bed-copies : (a m : ℕ) → a < iids → m < sids → copies (code a m) ≡ copiesOfFirst (genotypeIn bed iids m a)
+  bed-copies a m ha hm = ap copies (sym (bed-call iids sids code small a m ha hm)) ∙ call-is-plink bed iids sids a m (bed-mode iids sids code small) ha
 
--- ---- (b) an accepted writing
+-- ---- writing: one that is done
 module _ (w : Width) (apart : Apart w) (flag : Bool) (missing : w .Value) (order : Bool) (iids sids : ℕ) (val : List (w .Value)) (old : List ℕ)
     (accept : writeAnswer iids sids (valueCode w flag missing order iids sids val) (length val) (length old) ≡ done []) where
   code : ℕ → ℕ → ℕ
@@ -190,13 +193,12 @@ module _ (w : Width) (apart : Apart w) (flag : Bool) (missing : w .Value) (order
       → StandsIn w flag (getD val (matrixPlace order iids sids a m) missing) (genotypeIn (writeBuffer iids sids (valueCode w flag missing order iids sids val) (length val) old) iids m a)
   unfolding valueCode placeCode code
   written-stands a m ha hm =
-      let p = writing-passed iids sids (valueCode w flag missing order iids sids val) (length val) old is-done in
       subst (λ (x : List ℕ). StandsIn w flag (getD val (matrixPlace order iids sids a m) missing) (genotypeIn x iids m a)) (sym left)
-      (stands-by-code w apart flag missing (getD val (matrixPlace order iids sids a m) missing) (code a m) (genotypeIn (bedFile iids sids code) iids m a)
+      (stands-by-code w missing flag apart (getD val (matrixPlace order iids sids a m) missing) (code a m) (genotypeIn (bedFile iids sids code) iids m a)
       (has-code iids sids (valueCode w flag missing order iids sids val) (length val) old is-done a m ha hm)
-      (bed-copies iids sids code small (p .iids-fit) (p .sids-fit) (p .file-fits) a m ha hm))
+      (bed-copies iids sids code small a m ha hm))
 
--- ---- (c) a canonical file, of a file of either mode
+-- ---- the canonical file, of a file of either mode
 module _ (file : List ℕ) (iids sids : ℕ) (old : List ℕ) (accept : canonicalAnswer file iids sids (length old) ≡ done []) where
   canonical-done : isDone (canonicalAnswer file iids sids (length old)) ≡ true
   unfolding isDone
@@ -223,14 +225,12 @@ module _ (file : List ℕ) (iids sids : ℕ) (old : List ℕ) (accept : canonica
   pub canonical-keeps-copies :
       (a m : ℕ) → a < iids → m < sids → copiesOfFirst (genotypeIn (canonicalBuffer file iids sids old) iids m a) ≡ copies (callCode file iids sids a m)
   canonical-keeps-copies a m ha hm =
-      let p = writable file iids sids (length old) canonical-done in
-      ap (λ (x : List ℕ). copiesOfFirst (genotypeIn x iids m a)) canonical-left
-      ∙ sym (bed-copies iids sids (callCode file iids sids) below (p .accepts .iids-fit) (p .accepts .sids-fit) (p .fits) a m ha hm)
+      ap (λ (x : List ℕ). copiesOfFirst (genotypeIn x iids m a)) canonical-left ∙ sym (bed-copies iids sids (callCode file iids sids) below a m ha hm)
 
-  -- those of a file of PLINK's are kept
-  pub canonical-keeps-genotypes :
-      isMode1 file ≡ true → (a m : ℕ) → a < iids → m < sids → genotypeIn (canonicalBuffer file iids sids old) iids m a ≡ genotypeIn file iids m a
-  canonical-keeps-genotypes one a m ha hm =
-      let p = writable file iids sids (length old) canonical-done .accepts in
-      let acc = accept-file file iids sids (p .iids-fit) (p .sids-fit) ∙ p .heard-later (done []) in
-      same-genotype _ _ (canonical-keeps-copies a m ha hm ∙ call-is-plink file iids sids acc one a m ha hm)
+  -- from mode 1 every genotype is kept, and from mode 0 samples and variants trade places
+  module _ (a m : ℕ) (ha : a < iids) (hm : m < sids) where
+    pub canonical-keeps : isMode1 file ≡ true → genotypeIn (canonicalBuffer file iids sids old) iids m a ≡ genotypeIn file iids m a
+    canonical-keeps e = same-genotype _ _ (canonical-keeps-copies a m ha hm ∙ call-is-plink file iids sids a m e ha)
+
+    pub canonical-trades : isMode1 file ≡ false → genotypeIn (canonicalBuffer file iids sids old) iids m a ≡ genotypeIn file sids a m
+    canonical-trades e = same-genotype _ _ (canonical-keeps-copies a m ha hm ∙ call-in-mode-0 file iids sids a m e hm)

@@ -8,9 +8,9 @@ use lib.Dec.{lit≤}
 use lib.IntN.{ℤ, pos, negsuc}
 use lib.ListN.{length}
 use lib.Ieee.{Float, fin, eq}
-use Rattle.genotype.specs.Answer.{done}
+use Rattle.genotype.specs.Answer.{done, isDone, ifDone}
 use Rattle.genotype.specs.Block.{blockWidth, checkSize}
-use Rattle.genotype.specs.Code.{codeAt, itemCode, copies}
+use Rattle.genotype.specs.Code.{codeAt, itemCode, copies, packedByte, packed}
 use Rattle.genotype.specs.Entry.{isGood, means, firstBad}
 use Rattle.genotype.specs.Lists.{tabulate}
 use Rattle.genotype.specs.Matrix.{matrixPlace, matrix}
@@ -19,14 +19,14 @@ use Rattle.genotype.specs.Value.{Width, i8, float, sameInt, sameOrNan, codeOf}
 use Rattle.bed_file.specs.File.{isMode1, items, blocks, checkFile, acceptAnswer}
 use Rattle.bed_read.specs.Calls.{block, codeIn, callCode}
 use Rattle.bed_read.specs.Reading.{readBuffer}
-use Rattle.bed_write.specs.Packing.{placeCode, firstOf, ifBad}
-use Rattle.bed_write.specs.Writing.{valueCode, firstBadCall, checkCall, checkBuffers, writeAnswer, writeBuffer}
+use Rattle.bed_write.specs.Packing.{placeCode, orZero, firstOf, ifBad}
+use Rattle.bed_write.specs.Writing.{valueCode, firstBadCall, checkCall, checkBuffers, writeAnswer, joined, bedFile, writeBuffer}
 use Rattle.canonical.specs.Canonical.{canonicalAnswer, canonicalBuffer, fileOrder}
 use Rattle.read_standardised.specs.Demand.{IsAccepted, GoodList, meant}
 use Rattle.read_standardised.specs.SmallHerds.{inMode0}
 use Rattle.demands.specs.PlinkFile.{IsPlinkFile, variantBit, genotypeIn, ExtraBitsZero, copiesBy}
 use Rattle.demands.proofs.PlinkFileLaws.{i8-apart, float-apart}
-use Rattle.demands.proofs.PlinkFile.{accepted-is-plink, call-is-plink, reading-is-plink, plink-is-accepted, written-is-plink, written-extra-zero, written-stands, canonical-is-plink, canonical-extra-zero, canonical-keeps-copies, canonical-keeps-genotypes}
+use Rattle.demands.proofs.PlinkFile.{block-is-plink, call-is-plink, call-in-mode-0, accepted-is-plink, reading-is-plink, plink-is-accepted, written-is-plink, written-extra-zero, written-stands, canonical-is-plink, canonical-extra-zero, canonical-keeps-copies, canonical-keeps, canonical-trades}
 
 -- the reference's example, of 6 samples and 3 variants
 abbrev pub published : List ℕ
@@ -42,7 +42,7 @@ pub published-genotypes :
 unfolding tabulate genotypeIn variantBit blockBit plinkWidth genotypeOf
 published-genotypes = refl
 
--- ---- (a)
+-- ---- reading
 published-accepted : IsAccepted published 6 3
 unfolding acceptAnswer isMode1 items blocks blockWidth
 published-accepted = refl
@@ -58,9 +58,13 @@ pub published-back : IsAccepted published 6 3 × (isMode1 published ≡ true)
 published-back = plink-is-accepted published 6 3 published-is-plink (lit≤ tt) (lit≤ tt) (lit≤ tt)
 
 -- sample 2 at variant 1 is heterozygous
+pub published-block : copies (itemCode (block published 6 1) 2) ≡ some 1
+unfolding genotypeIn variantBit blockBit plinkWidth genotypeOf copiesOfFirst
+published-block = block-is-plink published 6 1 2 (lit≤ tt)
+
 pub published-call : copies (callCode published 6 3 2 1) ≡ some 1
 unfolding genotypeIn variantBit blockBit plinkWidth genotypeOf copiesOfFirst
-published-call = call-is-plink published 6 3 published-accepted published-mode 2 1 (lit≤ tt) (lit≤ tt)
+published-call = call-is-plink published 6 3 2 1 published-mode (lit≤ tt)
 
 order-good : GoodList 6 (fileOrder 6) × GoodList 3 (fileOrder 3)
 unfolding fileOrder tabulate firstBad isGood
@@ -95,7 +99,7 @@ unfolding tabulate matrix meant means genotypeIn variantBit blockBit plinkWidth 
 published-picked w absent val l =
     reading-is-plink published 6 3 published-accepted published-mode w false absent true some-samples some-variants (some-good .0) (some-good .1) val l .1
 
--- ---- (b)
+-- ---- writing
 -- its dosages as i8, −127 where there is none
 abbrev pub dosages : List ℤ
 dosages =
@@ -113,6 +117,12 @@ written = writeBuffer 6 3 (valueCode i8 true (negsuc 126) false 6 3 dosages) (le
 dosages-written : writeAnswer 6 3 (valueCode i8 true (negsuc 126) false 6 3 dosages) (length dosages) (length nine) ≡ done []
 unfolding writeAnswer checkBuffers checkSize checkCall firstBadCall firstOf ifBad valueCode placeCode matrixPlace codeOf sameInt sameOrNan blockWidth
 dosages-written = refl
+
+-- the example's bytes
+pub written-bytes : written ≡ published
+unfolding writeBuffer writeAnswer checkBuffers checkSize checkCall firstBadCall firstOf ifBad valueCode placeCode matrixPlace codeOf sameInt sameOrNan
+    bedFile joined packed packedByte tabulate orZero blockWidth ifDone isDone
+written-bytes = refl
 
 pub written-plink : IsPlinkFile written 6 3
 written-plink = written-is-plink i8 i8-apart true (negsuc 126) false 6 3 dosages nine dosages-written
@@ -142,7 +152,7 @@ unfolding matrixPlace eq
 zero-first =
     written-stands float float-apart true (fin false 0 (pos 0)) true 1 1 (minusZero ∷ []) (9 ∷ 9 ∷ 9 ∷ 9 ∷ []) zero-written 0 0 (lit≤ tt) (lit≤ tt) .zero-copies refl
 
--- ---- (c)
+-- ---- the canonical file
 -- document 01's file of mode 0, 5 animals and 2 markers, and the example with pads that are not zero
 abbrev pub padded : List ℕ
 padded = 0x6C ∷ 0x1B ∷ 0x01 ∷ 0xDC ∷ 0xFF ∷ 0xE7 ∷ 0x5F ∷ 0x6B ∷ 0xA1 ∷ []
@@ -169,10 +179,23 @@ pub mode-0-copies : copiesOfFirst (genotypeIn (canonicalBuffer inMode0 5 2 seven
 unfolding callCode codeIn isMode1 block blockWidth itemCode codeAt copies
 mode-0-copies = canonical-keeps-copies inMode0 5 2 seven mode-0-done 3 1 (lit≤ tt) (lit≤ tt)
 
+mode-0 : isMode1 inMode0 ≡ false
+unfolding isMode1
+mode-0 = refl
+
+-- 0C is 00, 11, of the animal 0: at marker 1 it has no copy
+pub mode-0-call : copies (callCode inMode0 5 2 0 1) ≡ some 0
+unfolding genotypeIn variantBit blockBit plinkWidth genotypeOf copiesOfFirst
+mode-0-call = call-in-mode-0 inMode0 5 2 0 1 mode-0 (lit≤ tt)
+
+pub mode-0-traded : genotypeIn (canonicalBuffer inMode0 5 2 seven) 5 1 0 ≡ homozygousSecond
+unfolding genotypeIn variantBit blockBit plinkWidth genotypeOf
+mode-0-traded = canonical-trades inMode0 5 2 seven mode-0-done 0 1 (lit≤ tt) (lit≤ tt) mode-0
+
 padded-mode : isMode1 padded ≡ true
 unfolding isMode1
 padded-mode = refl
 
 pub padded-kept : genotypeIn (canonicalBuffer padded 6 3 nine) 6 2 5 ≡ homozygousFirst
 unfolding genotypeIn variantBit blockBit plinkWidth genotypeOf
-padded-kept = canonical-keeps-genotypes padded 6 3 nine padded-done padded-mode 5 2 (lit≤ tt) (lit≤ tt)
+padded-kept = canonical-keeps padded 6 3 nine padded-done 5 2 (lit≤ tt) (lit≤ tt) padded-mode
