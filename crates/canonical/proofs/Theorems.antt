@@ -39,15 +39,15 @@ module _ (iids sids : ℕ) (code : ℕ → ℕ → Option ℕ) (valLength : ℕ)
   unfolding writeAnswer
   buffers-done = before-later (buffers-stage iids sids valLength (length old)) _ d
 
-  ok : Passed iids sids valLength (length old) (checkBuffers iids sids valLength (length old) (done []))
-  ok = passed iids sids valLength (length old) (checkBuffers iids sids valLength (length old) (done [])) refl buffers-done
+  pub writing-passed : Passed iids sids valLength (length old) (checkBuffers iids sids valLength (length old) (done []))
+  writing-passed = passed iids sids valLength (length old) (checkBuffers iids sids valLength (length old) (done [])) refl buffers-done
 
   no-bad : firstBadCall iids sids code ≡ none
   unfolding writeAnswer
   no-bad = call-none (firstBadCall iids sids code) (subst (λ (x : Answer). isDone x ≡ true) (heard (buffers-stage iids sids valLength (length old)) [] buffers-done (checkCall (firstBadCall iids sids code) (done []))) d)
 
   -- every value has a code
-  has-code : (a m : ℕ) → a < iids → m < sids → code a m ≡ some (orZero (code a m))
+  pub has-code : (a m : ℕ) → a < iids → m < sids → code a m ≡ some (orZero (code a m))
   unfolding firstBadCall
   has-code a m ha hm =
       not-bad (code a m) (pair a m)
@@ -56,7 +56,7 @@ module _ (iids sids : ℕ) (code : ℕ → ℕ → Option ℕ) (valLength : ℕ)
       pair : ℕ → ℕ → ℕ × ℕ
       pair a m = (a, m)
 
-  wrote : writeBuffer iids sids code valLength old ≡ bedFile iids sids (λ a m. orZero (code a m))
+  pub wrote : writeBuffer iids sids code valLength old ≡ bedFile iids sids (λ a m. orZero (code a m))
   unfolding writeBuffer
   wrote = new-if-done _ _ old d
 
@@ -100,7 +100,7 @@ written-read-back w flag missing iids sids order val old d later buffer l = (
 
     acc : isDone (acceptAnswer file iids sids) ≡ true
     acc =
-        let p = ok iids sids code (length val) old d in
+        let p = writing-passed iids sids code (length val) old d in
         ap (λ x. isDone (acceptAnswer x iids sids)) is-file ∙ ap isDone (bed-accepted iids sids codes small (p .iids-fit) (p .sids-fit) (p .file-fits))
 
     code-back : (a m : ℕ) → a < iids → m < sids → callCode file iids sids a m ≡ codes a m

@@ -1,1 +1,4 @@
 -- The theorems.
+pub mod PlinkFileLaws
+pub mod PlinkFile
+pub mod PlinkFileExamples
