@@ -3,15 +3,15 @@
  * What the caller keeps, since the proofs rest on it:
  *   - a buffer that a call writes overlaps no other buffer of the same call;
  *   - each buffer is aligned for its type, and is shorter than 2^63 bytes;
- *   - a buffer of length 0 may be null; every other holds as many values as its length says, all of them set, and nobody
- *     else writes to it during the call;
+ *   - every buffer holds as many values as its length says, all of them set, and nobody else writes to it during the call;
  *   - a bool is 0 or 1;
  *   - any NaN may come back with another payload.
  * Nothing else is asked: no count, list, file or float can stop a call or make it read or write outside its buffers.
+ * A buffer of length 0 may be null: that no call reads or writes past a length is proved, so none uses that pointer; that the
+ * compiled calls take a null one is run by tests/every_call.c, and not proved.
  *
  * A length is a number of values, not of bytes. No call allocates, keeps a pointer, or holds state; calls on buffers of their
- * own may run on several threads at once. No call needs more than
- * 28 KB of stack, whatever it is lent.
+ * own may run on several threads at once. No call needed more than 28 KB of stack when measured (tools/stack); that is not proved.
  *
  * Words. An animal is an iid, a marker a sid. A matrix is a buffer of animals times markers values: in marker order (animal_order
  * 0) a marker's values stand beside each other, value (a, m) at m * animals + a; in animal order (1) an animal's do, at
@@ -117,7 +117,8 @@ bed_answer bed_write_f64(const double *val, size_t val_len, size_t iid_count, si
  * and written to stats; with it stats is read, and nothing is found or refused for 13 or 14. With apply_in_place each value
  * becomes (value - mean) * (1 / deviation), or +0 where it is NaN or the deviation is infinite; without it no value changes.
  * Refusals: 18 (either count), 15 (val_len is not iid_count * sid_count), 17, then the lowest marker refused for 13 or 14. At 13 and
- * 14 the markers that are not refused have new statistics and, in marker order, values standardised; in animal order no value changes. */
+ * 14 the markers that are not refused have new statistics and, in marker order with apply_in_place, values standardised; in animal
+ * order no value changes. A refused marker's statistics and values are as they were. */
 bed_answer bed_impute_and_zero_mean_snps_f64(double *val, size_t val_len, size_t iid_count, size_t sid_count, bool animal_order,
                                              bool apply_in_place, bool use_stats, double *stats, size_t stats_len);
 
@@ -154,7 +155,8 @@ bed_answer bed_index_slice(size_t count, int64_t start, bool has_end, int64_t en
  * Writes piece, entry (r, c) at r * width + c. A'A: entry (r, c) is column col_start + r times column col_start + c, and the copy of
  * (c, r) above the diagonal. AA': the same over rows, and +0 above the diagonal. Each sum runs upward from +0.
  * Refusals: 18 (a count, start, height or width), 20 (start at or past the columns or rows, start + height not their number,
- * start + width past it, or in A'A width 0), 15 (piece_len is not height * width), 1 (too few bytes). */
+ * start + width past it, or in A'A width 0), 15 (piece_len is not height * width), 1 (row_count and col_count are both above 0 and
+ * bytes_len is below offset + 8 * row_count * col_count, in exact arithmetic). */
 bed_answer bed_file_ata_piece(const uint8_t *bytes, size_t bytes_len, uint64_t offset, size_t row_count, size_t col_count,
                               size_t col_start, size_t height, size_t width, double *piece, size_t piece_len);
 bed_answer bed_file_aat_piece(const uint8_t *bytes, size_t bytes_len, uint64_t offset, size_t row_count, size_t col_count,

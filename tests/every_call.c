@@ -600,6 +600,40 @@ static void bounded(void) {
     end();
 }
 
+/* Every buffer of every call, null where its length is 0. */
+static void nulls(void) {
+    const uint8_t header[3] = {0x6C, 0x1B, 1};
+    uint8_t out[3];
+    begin("null buffers of length 0");
+    same(bed_open_and_check(NULL, 0), answer(1, 0, 0));
+    same(bed_byte_span(5, NULL, 0), answer(0, 0, 0));
+    same(bed_read_i8(NULL, 0, 0, 0, true, NULL, 0, NULL, 0, 0, true, NULL, 0), answer(1, 0, 0));
+    same(bed_read_f64(NULL, 0, 0, 0, true, NULL, 0, NULL, 0, NAN, true, NULL, 0), answer(1, 0, 0));
+    same(bed_read_i8(header, 3, 0, 0, true, NULL, 0, NULL, 0, 0, false, NULL, 0), answer(0, 0, 0));
+    same(bed_read_f64(header, 3, 0, 0, true, NULL, 0, NULL, 0, NAN, false, NULL, 0), answer(0, 0, 0));
+    same(bed_read_standardised_f64(NULL, 0, 0, 0, true, NULL, 0, NULL, 0, true, NULL, 0, NULL, 0), answer(1, 0, 0));
+    same(bed_read_standardised_f64(header, 3, 0, 0, true, NULL, 0, NULL, 0, false, NULL, 0, NULL, 0), answer(0, 0, 0));
+    same(bed_canonical(NULL, 0, 0, 0, NULL, 0), answer(1, 0, 0));
+    same(bed_canonical(header, 3, 0, 0, NULL, 0), answer(16, 0, 0));
+    same(bed_encode1_i8(NULL, 0, NULL, 0, true, 0), answer(0, 0, 0));
+    same(bed_encode1_f64(NULL, 0, NULL, 0, true, NAN), answer(0, 0, 0));
+    same(bed_write_i8(NULL, 0, 0, 0, true, true, 0, out, 3), answer(0, 0, 0));
+    same(bed_write_f64(NULL, 0, 0, 0, true, true, NAN, out, 3), answer(0, 0, 0));
+    same(bed_write_i8(NULL, 0, 0, 0, false, true, 0, NULL, 0), answer(16, 0, 0));
+    same(bed_write_f64(NULL, 0, 0, 0, false, true, NAN, NULL, 0), answer(16, 0, 0));
+    same(bed_impute_and_zero_mean_snps_f64(NULL, 0, 0, 0, true, true, false, NULL, 0), answer(0, 0, 0));
+    same(bed_impute_and_zero_mean_snps_f64(NULL, 0, 0, 0, false, true, true, NULL, 0), answer(0, 0, 0));
+    same(bed_index_all(0, NULL, 0), answer(0, 0, 0));
+    same(bed_index_one(1, 0, NULL, 0), answer(19, 0, 0));
+    same(bed_index_vec(1, NULL, 0, NULL, 0), answer(0, 0, 0));
+    same(bed_index_bool(0, NULL, 0, NULL, 0), answer(0, 0, 0));
+    same(bed_index_range(1, false, 0, true, 0, NULL, 0), answer(0, 0, 0));
+    same(bed_index_slice(1, 1, false, 0, 1, NULL, 0), answer(0, 0, 0));
+    same(bed_file_ata_piece(NULL, 0, 0, 0, 1, 0, 1, 1, NULL, 0), answer(15, 0, 0));
+    same(bed_file_aat_piece(NULL, 0, 0, 1, 0, 0, 1, 0, NULL, 0), answer(0, 0, 0));
+    end();
+}
+
 int main(void) {
     files_and_widths();
     reading_calls();
@@ -610,6 +644,7 @@ int main(void) {
     products(true);
     products(false);
     bounded();
+    nulls();
     printf("every call of the header was used; %lu calls, none differs\n", all_calls);
     return 0;
 }

@@ -218,7 +218,7 @@ zero-fails f v F p t =
 is-root-at : (f : Format) (v : Float) (K : ℕ) → suc K < ones f * hid f → mid f K * mid f K < scaled f v → scaled f v < mid f (suc K) * mid f (suc K) → IsRoot f v (ofBits f (suc K))
 is-root-at f v K u a b = record {
   positive-finite = positive-at f (suc K) (zero-lt-suc K) u;
-  above-lower = subst (λ (z : ℕ). z * z < scaled f v) (sym (lower-at f K u)) a;
+  above-lower = let h = subst (λ (z : ℕ). z * z < scaled f v) (sym (lower-at f K u)) a in omega (arith, h);
   below-upper = subst (λ (z : ℕ). scaled f v < z * z) (sym (upper-at f (suc K) u)) b;
 }
 
