@@ -25,6 +25,7 @@ use Rattle.genotype.proofs.EntryLaws.{means-below}
 use Rattle.genotype.proofs.SpanLaws.{all-good}
 use Rattle.genotype.proofs.PlinkLaws.{width-is-plink, pads-are-zero}
 use Rattle.genotype.proofs.Tabulate.{length-tabulate, getD-tabulate}
+use Rattle.genotype.proofs.Tests.{both-true}
 use Rattle.bed_file.specs.File.{isMode1, items, blocks, checkOpen, checkMode, checkLength, checkFile, acceptAnswer}
 use Rattle.bed_file.proofs.FileLaws.{open-good, accepted}
 use Rattle.bed_read.specs.Calls.{block, codeIn, callCode}
@@ -42,7 +43,7 @@ use Rattle.canonical.proofs.Theorems.{writing-passed, has-code, wrote}
 use Rattle.read_standardised.specs.Demand.{IsAccepted, GoodList, meant}
 use Rattle.read_standardised.proofs.ReadLaws.{read-done}
 use Rattle.demands.specs.PlinkFile.{IsPlinkFile, variantBit, genotypeIn, ExtraBitsZero, copiesBy, Apart, StandsIn}
-use Rattle.demands.proofs.PlinkFileLaws.{both-true, three-bytes, same-bit, part-copies, tabulated-codes, value-copies, same-genotype, stands-by-code}
+use Rattle.demands.proofs.PlinkFileLaws.{three-bytes, same-bit, part-copies, tabulated-codes, value-copies, same-genotype, stands-by-code}
 
 -- ---- calls
 -- "Its blocks stand in order from byte 3.": the code of item i of block v says the copies of PLINK's genotype

@@ -1,6 +1,6 @@
 -- Laws for PLINK's file, over plain lists, numbers and values.
 use mathlib.Core.Path.{_≡_, refl, sym, ap, subst, _∙_}
-use mathlib.Core.Bool.{Bool, true, false, _&&_, cond}
+use mathlib.Core.Bool.{Bool, true, false, cond}
 use mathlib.Core.List.{List, [], _∷_}
 use mathlib.Core.Option.{Option, some, none}
 use Prim.Native.Nat.{ℕ, zero, suc, _+_, _*_, _/_, _%_, _^_, _<_, _≤_}
@@ -22,10 +22,6 @@ use Rattle.genotype.proofs.Tabulate.{length-tabulate, getD-tabulate}
 use Rattle.genotype.proofs.Tests.{by-lt}
 use Rattle.genotype.proofs.ValueLaws.{zero-code, one-code, two-code}
 use Rattle.demands.specs.PlinkFile.{copiesBy, Apart, StandsIn}
-
-pub both-true : (a b : Bool) → a && b ≡ true → (a ≡ true) × (b ≡ true)
-both-true true b e = (refl, e)
-both-true false b e = (e, absurd (let q : _≡_ {A = ℕ} 0 1 = cc in omega arith))
 
 -- ---- a part of a list of bytes
 pub three-bytes :

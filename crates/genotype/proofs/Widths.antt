@@ -21,6 +21,11 @@ pub width-some : (n : ℕ) → (n ≡ 0 → ⊥) → blockWidth n ≡ (n - 1) / 
 unfolding blockWidth
 width-some n h = simp (ne-eqb n 0 h)
 
+-- "With nothing in a block the length is 3 for any block count."
+pub nothing-in-a-block : (blocks : ℕ) → fileLength 0 blocks ≡ 3
+unfolding blockWidth
+nothing-in-a-block blocks = ap (λ (n : ℕ). 3 + n) (zero-mul blocks)
+
 -- the answer of `try_div_4`, by its tests
 module _ (i s : ℕ) where
   pub first-too-large : countLimit < i → divAnswer i s ≡ refused 18 []

@@ -13,6 +13,7 @@ use borrow.Author.Tests.{ltb-true, leb-true, eqb-true, lt-ltb, le-ltb, le-leb, l
 use denote.Enum.Declared.{tagOf}
 use types.Run.{OneOf}
 use Rattle.genotype.specs.Answer.{Answer, done, check, isDone, ifDone}
+use Rattle.genotype.proofs.Tests.{both-true}
 use Rattle.product.specs.Piece.{goodPiece, enoughBytes, pieceAnswer, ataAnswer, aatAnswer}
 use Rattle.product.specs.Says.{pieceSays}
 use Rattle.product.specs.Steps.{LinesIn}
@@ -28,11 +29,6 @@ check-done : (b : Bool) (n : ℕ) (later : Answer) → check b n later ≡ done 
 unfolding check
 check-done true n later e = (refl, e)
 check-done false n later e = absurd (let z : _≡_ {A = ℕ} 0 1 = cc in let z' : ⊥ = omega arith in z')
-
-both : (a b : Bool) → a && b ≡ true → (a ≡ true) × (b ≡ true)
-both true true e = (refl, refl)
-both true false e = absurd (let z : _≡_ {A = ℕ} 0 1 = cc in let z' : ⊥ = omega arith in z')
-both false b e = absurd (let z : _≡_ {A = ℕ} 0 1 = cc in let z' : ⊥ = omega arith in z')
 
 -- what an accepted call's numbers keep
 pub record Accepted (least total bytes offset rows columns start height width piece : ℕ) : Type 0 where
@@ -50,9 +46,9 @@ accepted least total bytes offset rows columns start height width piece x says t
     let e6 = check-done (goodPiece total start height width && leb least width) 20 _ e5 in
     let e7 = check-done (eqb (height * width) piece) 15 _ (e6 .1) in
     let e8 = check-done (enoughBytes bytes offset rows columns) 1 _ (e7 .1) in
-    let g = both (goodPiece total start height width) (leb least width) (e6 .0) in
-    let g1 = both (ltb start total) (eqb (start + height) total && leb (start + width) total) (g .0) in
-    let g2 = both (eqb (start + height) total) (leb (start + width) total) (g1 .1) in
+    let g = both-true (goodPiece total start height width) (leb least width) (e6 .0) in
+    let g1 = both-true (ltb start total) (eqb (start + height) total && leb (start + width) total) (g .0) in
+    let g2 = both-true (eqb (start + height) total) (leb (start + width) total) (g1 .1) in
     let a : start < total = ltb-true start total (g1 .0) in
     let b : start + height ≡ total = eqb-true (start + height) total (g2 .0) in
     let c : start + width ≤ total = leb-true (start + width) total (g2 .1) in

@@ -8,17 +8,13 @@ use borrow.Author.Tests.{eqb-true, eqb-false, eq-eqb, ltb-true}
 use lib.Dec.{eqb, ltb}
 use lib.IntN.{ℤ}
 use lib.ListN.{length, getD}
-use Rattle.genotype.proofs.Tests.{by-test}
+use Rattle.genotype.proofs.Tests.{both-true, by-test}
 use Rattle.read_standardised.specs.Demand.{GoodList, meant, MeantOnce, NamesEachOnce}
 
 -- whether a test holds of every number below n
 unfoldable pub allBelow : ℕ → (ℕ → Bool) → Bool
 allBelow zero test = true
 allBelow (suc n) test = allBelow n test && test n
-
-both-true : (a b : Bool) → a && b ≡ true → (a ≡ true) × (b ≡ true)
-both-true true b e = (refl, e)
-both-true false b e = absurd (let q : _≡_ {A = ℕ} 0 1 = cc in omega arith)
 
 pub all-below : (n : ℕ) (test : ℕ → Bool) → allBelow n test ≡ true → (k : ℕ) → k < n → test k ≡ true
 unfolding allBelow
