@@ -54,7 +54,7 @@ unfolding sameInt
 sameInt-refl (pos n) = eq-eqb n n refl
 sameInt-refl (negsuc n) = eq-eqb n n refl
 
-sameInt-eq : (a b : ℤ) → sameInt a b ≡ true → a ≡ b
+pub sameInt-eq : (a b : ℤ) → sameInt a b ≡ true → a ≡ b
 unfolding sameInt
 sameInt-eq (pos m) (pos n) h = ap pos (eqb-true m n h)
 sameInt-eq (pos m) (negsuc n) h = absurd (let q : _≡_ {A = ℕ} 0 1 = cc in omega arith)
