@@ -1,1 +1,3 @@
 -- The theorems.
+pub mod Orders
+pub mod Examples

@@ -1,0 +1,135 @@
+-- Document 01's columns, and small matrices and files, computed. A root is known by `root-only`.
+use mathlib.Core.Path.{_≡_, refl, sym, ap}
+use mathlib.Core.Bool.{Bool, true, false, _||_, cond}
+use mathlib.Core.List.{List, [], _∷_}
+use Prim.Native.Nat.{ℕ}
+use lib.IntN.{pos, negsuc}
+use lib.Dec.{lit<}
+use lib.Ieee.{Float, nan, inf, fin, binary64, add, sub, mul, div, neg, le, lt, eq, isNan, fits, ofBits, toBits}
+use Rattle.genotype.specs.Answer.{done, isDone, ifDone}
+use Rattle.genotype.specs.Lists.{tabulate}
+use Rattle.genotype.specs.Matrix.{matrixPlace, matrix}
+use Rattle.product.specs.Values.{leNumber, floatAt, floatsOf, valueAt, column, row}
+use Rattle.product.specs.Dot.{dot, dotFrom}
+use Rattle.product.specs.Piece.{pieceOf, ataEntry, aatEntry, ataAnswer, ataLeaves, aatAnswer, aatLeaves}
+use Rattle.root.specs.Root.{count, IsRoot, root}
+use Rattle.root.proofs.Roots.{root-only}
+use Rattle.statistics.specs.declared.MarkerStats.{MarkerStats}
+use Rattle.statistics.specs.declared.MarkerStats.the-variants.{Found}
+use Rattle.statistics.specs.Statistics.{plusZero, one, counted, accumulated, mean, variance, deviation, statsOf, noValue, markerStats, foundFor, isInfinite, standardised}
+use Rattle.statistics.specs.Calls.{two}
+use Rattle.standardise.specs.Standardised.{markerAnswer, markersAnswer, keptOrNew, applied, value, found, lowestRefused, standardiseAnswer, newStats, mayChange, newValues, laterStats, laterValues}
+
+-- ---- columns, in either order: a matrix of one marker
+abbrev pub oldStats : List Float
+oldStats = nan ∷ two ∷ []
+
+abbrev pub minusOne : Float
+minusOne = fin true 1 (pos 0)
+
+root-one : root binary64 one ≡ one
+unfolding fits count ofBits toBits
+root-one = sym (root-only binary64 one one tt tt is-root)
+  where
+    is-root : IsRoot binary64 one one
+    is-root = record { positive-finite = tt; above-lower = lit< tt; below-upper = lit< tt }
+
+-- a mean with the deviation that a root gives
+abbrev byRoot : Float → Float → MarkerStats
+byRoot m s = Found (record { mean = m; deviation = cond (isNan s || le s plusZero) (inf false) s })
+
+-- "Column 0, 2, NaN: mean 1, deviation 1, values −1, 1, +0."
+abbrev pub zeroTwoNan : List Float
+zeroTwoNan = plusZero ∷ two ∷ nan ∷ []
+
+zero-two-found : (order : Bool) → found binary64 order 3 1 zeroTwoNan false oldStats 0 ≡ Found (record { mean = one; deviation = one })
+unfolding found foundFor markerStats noValue accumulated counted statsOf mean deviation variance value matrixPlace isNan add sub mul div neg le lt eq
+zero-two-found true = ap (byRoot one) root-one
+zero-two-found false = ap (byRoot one) root-one
+
+pub zero-two-answer : (order : Bool) → standardiseAnswer binary64 order 3 1 zeroTwoNan false oldStats ≡ done []
+unfolding standardiseAnswer lowestRefused markersAnswer markerAnswer isDone
+zero-two-answer order = rw (zero-two-found order)
+
+pub zero-two-stats : (order : Bool) → laterStats binary64 order 3 1 zeroTwoNan false oldStats ≡ one ∷ one ∷ []
+unfolding laterStats newStats keptOrNew matrix tabulate isDone
+zero-two-stats order = rw (zero-two-found order)
+
+pub zero-two-values : (order : Bool) → laterValues binary64 order 3 1 zeroTwoNan false oldStats true ≡ minusOne ∷ one ∷ plusZero ∷ []
+unfolding laterValues newValues mayChange lowestRefused markersAnswer markerAnswer applied standardised isInfinite value matrixPlace matrix tabulate isDone isNan add sub mul div neg
+zero-two-values true = rw (zero-two-found true)
+zero-two-values false = rw (zero-two-found false)
+
+-- "Column 1, 1: deviation infinite, values +0."
+abbrev pub oneOne : List Float
+oneOne = one ∷ one ∷ []
+
+one-one-found : (order : Bool) → found binary64 order 2 1 oneOne false oldStats 0 ≡ Found (record { mean = one; deviation = inf false })
+unfolding found foundFor markerStats noValue accumulated counted statsOf mean deviation variance root value matrixPlace isNan add sub mul div neg le lt eq
+one-one-found true = refl
+one-one-found false = refl
+
+pub one-one-answer : (order : Bool) → standardiseAnswer binary64 order 2 1 oneOne false oldStats ≡ done []
+unfolding standardiseAnswer lowestRefused markersAnswer markerAnswer isDone
+one-one-answer order = rw (one-one-found order)
+
+pub one-one-stats : (order : Bool) → laterStats binary64 order 2 1 oneOne false oldStats ≡ one ∷ inf false ∷ []
+unfolding laterStats newStats keptOrNew matrix tabulate isDone
+one-one-stats order = rw (one-one-found order)
+
+pub one-one-values : (order : Bool) → laterValues binary64 order 2 1 oneOne false oldStats true ≡ plusZero ∷ plusZero ∷ []
+unfolding laterValues newValues mayChange lowestRefused markersAnswer markerAnswer applied standardised isInfinite value matrixPlace matrix tabulate isDone isNan
+one-one-values true = rw (one-one-found true)
+one-one-values false = rw (one-one-found false)
+
+-- "NaN or at most 0 becomes +infinity": a deviation just above 0 stays. The column 2^−537, −2^−537 has the least positive f64, 2^−1074, as its variance
+abbrev pub small : Float
+small = fin false 1 (negsuc 536)
+
+abbrev pub leastVariance : List Float
+leastVariance = small ∷ fin true 1 (negsuc 536) ∷ []
+
+root-least : root binary64 (fin false 1 (negsuc 1073)) ≡ small
+unfolding fits count ofBits toBits
+root-least = sym (root-only binary64 (fin false 1 (negsuc 1073)) small tt tt is-root)
+  where
+    is-root : IsRoot binary64 (fin false 1 (negsuc 1073)) small
+    is-root = record { positive-finite = tt; above-lower = lit< tt; below-upper = lit< tt }
+
+least-found : (order : Bool) → found binary64 order 2 1 leastVariance false oldStats 0 ≡ Found (record { mean = plusZero; deviation = small })
+unfolding found foundFor markerStats noValue accumulated counted statsOf mean deviation variance value matrixPlace isNan add sub mul div neg le lt eq
+least-found true = ap (byRoot plusZero) root-least
+least-found false = ap (byRoot plusZero) root-least
+
+pub least-stats : (order : Bool) → laterStats binary64 order 2 1 leastVariance false oldStats ≡ plusZero ∷ small ∷ []
+unfolding laterStats newStats keptOrNew matrix tabulate isDone
+least-stats order = rw (least-found order)
+
+pub least-values : (order : Bool) → laterValues binary64 order 2 1 leastVariance false oldStats true ≡ one ∷ minusOne ∷ []
+unfolding laterValues newValues mayChange lowestRefused markersAnswer markerAnswer applied standardised isInfinite value matrixPlace matrix tabulate isDone isNan add sub mul div neg
+least-values true = rw (least-found true)
+least-values false = rw (least-found false)
+
+-- ---- products of the 2 × 2 matrix whose columns are −0, −0 and 1, 2: from +0 no sum is −0, A'A has a copy above the diagonal, AA' has +0 there
+abbrev pub minusZeroBytes : List ℕ
+minusZeroBytes =
+    0 ∷ 0 ∷ 0 ∷ 0 ∷ 0 ∷ 0 ∷ 0 ∷ 0x80
+    ∷ 0 ∷ 0 ∷ 0 ∷ 0 ∷ 0 ∷ 0 ∷ 0 ∷ 0x80
+    ∷ 0 ∷ 0 ∷ 0 ∷ 0 ∷ 0 ∷ 0 ∷ 0xF0 ∷ 0x3F
+    ∷ 0 ∷ 0 ∷ 0 ∷ 0 ∷ 0 ∷ 0 ∷ 0 ∷ 0x40 ∷ []
+
+abbrev oldPiece : List Float
+oldPiece = nan ∷ nan ∷ nan ∷ nan ∷ []
+
+pub ata-of-minus-zero : ataLeaves minusZeroBytes 0 2 2 0 2 2 oldPiece ≡ plusZero ∷ plusZero ∷ plusZero ∷ fin false 5 (pos 0) ∷ []
+unfolding ataLeaves ataAnswer pieceOf ataEntry dot dotFrom floatsOf floatAt leNumber column valueAt tabulate ifDone isDone ofBits add mul
+ata-of-minus-zero = refl
+
+pub aat-of-minus-zero : aatLeaves minusZeroBytes 0 2 2 0 2 2 oldPiece ≡ one ∷ plusZero ∷ two ∷ fin false 1 (pos 2) ∷ []
+unfolding aatLeaves aatAnswer pieceOf aatEntry dot dotFrom floatsOf floatAt leNumber row valueAt tabulate ifDone isDone ofBits add mul
+aat-of-minus-zero = refl
+
+-- a 1 × 1 product of −0 and 1 alone is +0 too, since the sum runs from +0
+pub minus-zero-times-one : dot binary64 (fin true 0 (pos 0) ∷ []) (one ∷ []) ≡ plusZero
+unfolding dot dotFrom add mul
+minus-zero-times-one = refl
