@@ -3,12 +3,19 @@ use mathlib.Core.Path.{_≡_, refl, sym, ap}
 use mathlib.Core.Bool.{Bool, true, false, _||_, cond}
 use mathlib.Core.List.{List, [], _∷_}
 use Prim.Native.Nat.{ℕ}
-use lib.IntN.{pos, negsuc}
+use lib.IntN.{ℤ, pos, negsuc}
 use lib.Dec.{lit<}
 use lib.Ieee.{Float, nan, inf, fin, binary64, add, sub, mul, div, neg, le, lt, eq, isNan, fits, ofBits, toBits}
 use Rattle.genotype.specs.Answer.{done, isDone, ifDone}
+use Rattle.genotype.specs.Block.{blockWidth}
+use Rattle.genotype.specs.Code.{codeAt, itemCode}
+use Rattle.genotype.specs.Entry.{firstBad, isGood, means}
 use Rattle.genotype.specs.Lists.{tabulate}
 use Rattle.genotype.specs.Matrix.{matrixPlace, matrix}
+use Rattle.genotype.specs.Value.{Width, values, valueOf}
+use Rattle.bed_file.specs.File.{isMode1, items, blocks}
+use Rattle.bed_read.specs.Calls.{block, codeIn, callCode}
+use Rattle.bed_read.specs.Reading.{readAnswer, readCode, codesRead, valuesRead, readBuffer}
 use Rattle.product.specs.Values.{leNumber, floatAt, floatsOf, valueAt, column, row}
 use Rattle.product.specs.Dot.{dot, dotFrom}
 use Rattle.product.specs.Piece.{pieceOf, ataEntry, aatEntry, ataAnswer, ataLeaves, aatAnswer, aatLeaves}
@@ -27,7 +34,7 @@ oldStats = nan ∷ two ∷ []
 abbrev pub minusOne : Float
 minusOne = fin true 1 (pos 0)
 
-root-one : root binary64 one ≡ one
+pub root-one : root binary64 one ≡ one
 unfolding fits count ofBits toBits
 root-one = sym (root-only binary64 one one tt tt is-root)
   where
@@ -35,7 +42,7 @@ root-one = sym (root-only binary64 one one tt tt is-root)
     is-root = record { positive-finite = tt; above-lower = lit< tt; below-upper = lit< tt }
 
 -- a mean with the deviation that a root gives
-abbrev byRoot : Float → Float → MarkerStats
+abbrev pub byRoot : Float → Float → MarkerStats
 byRoot m s = Found (record { mean = m; deviation = cond (isNan s || le s plusZero) (inf false) s })
 
 -- "Column 0, 2, NaN: mean 1, deviation 1, values −1, 1, +0."
@@ -133,3 +140,27 @@ aat-of-minus-zero = refl
 pub minus-zero-times-one : dot binary64 (fin true 0 (pos 0) ∷ []) (one ∷ []) ≡ plusZero
 unfolding dot dotFrom add mul
 minus-zero-times-one = refl
+
+-- ---- reading two animals at two markers: 2, 1 at marker 0 and 0, missing at marker 1, under the flag; the second animal first
+abbrev pub twoByTwo : Bool → List ℕ
+twoByTwo true = 0x6C ∷ 0x1B ∷ 1 ∷ 0x08 ∷ 0x07 ∷ []
+twoByTwo false = 0x6C ∷ 0x1B ∷ 0 ∷ 0x0C ∷ 0x06 ∷ []
+
+abbrev secondFirst : List ℤ
+secondFirst = pos 1 ∷ negsuc 1 ∷ []
+
+abbrev inOrder : List ℤ
+inOrder = pos 0 ∷ pos 1 ∷ []
+
+-- "in marker order (a marker's values adjacent) or animal order", from either mode
+pub read-in-animal-order : (mode1 : Bool) (w : Width) (missing : w .Value)
+    → readBuffer w (twoByTwo mode1) 2 2 true secondFirst inOrder missing true (missing ∷ missing ∷ missing ∷ missing ∷ []) ≡ w .one ∷ missing ∷ w .two ∷ w .zero ∷ []
+unfolding readBuffer readAnswer isMode1 items blocks blockWidth firstBad isGood means valuesRead codesRead matrix tabulate readCode callCode codeIn block itemCode codeAt valueOf values ifDone isDone
+read-in-animal-order true w missing = refl
+read-in-animal-order false w missing = refl
+
+pub read-in-marker-order : (mode1 : Bool) (w : Width) (missing : w .Value)
+    → readBuffer w (twoByTwo mode1) 2 2 true secondFirst inOrder missing false (missing ∷ missing ∷ missing ∷ missing ∷ []) ≡ w .one ∷ w .two ∷ missing ∷ w .zero ∷ []
+unfolding readBuffer readAnswer isMode1 items blocks blockWidth firstBad isGood means valuesRead codesRead matrix tabulate readCode callCode codeIn block itemCode codeAt valueOf values ifDone isDone
+read-in-marker-order true w missing = refl
+read-in-marker-order false w missing = refl

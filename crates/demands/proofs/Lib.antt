@@ -1,3 +1,4 @@
 -- The theorems.
 pub mod Orders
 pub mod Examples
+pub mod Sides
