@@ -2,7 +2,7 @@
 use mathlib.Core.Path.{_≡_, refl, ap}
 use mathlib.Core.Bool.{Bool, true, false}
 use mathlib.Core.List.{List, [], _∷_}
-use mathlib.Core.Logic.{inl, inr}
+use mathlib.Core.Logic.{_⊎_, inl, inr}
 use Prim.Native.Nat.{ℕ, zero, suc, _-_, _<_}
 use native.Mathlib.Nat.{le-of-suc-le-suc, not-suc-le-zero}
 use native.Mathlib.Omega.{arith}
@@ -10,15 +10,16 @@ use lib.Dec.{lit≤}
 use lib.IntN.{pos}
 use lib.ListN.{getD}
 use lib.Ieee.{Float, nan, inf, binary64, add, mul, div, isNan}
+use Rattle.statistics.specs.declared.MarkerStats.{MarkerStats}
 use Rattle.statistics.specs.declared.MarkerStats.the-variants.{NoIndividuals, IllegalSnpMean}
 use Rattle.statistics.specs.Statistics.{plusZero, one, counted, accumulated, mean, noValue, markerStats, foundFor}
-use Rattle.genotype.specs.Answer.{done, refused, isDone}
+use Rattle.genotype.specs.Answer.{done, refused, isDone, ifDone}
 use Rattle.genotype.specs.Matrix.{matrixPlace}
 use Rattle.statistics.specs.Calls.{two, IsCall, isZero, isTwo, total, SumsAgree}
-use Rattle.standardise.specs.Standardised.{markerAnswer, value, found, lowestRefused, standardiseAnswer, laterStats, laterValues}
+use Rattle.standardise.specs.Standardised.{markerAnswer, markersAnswer, value, found, lowestRefused, standardiseAnswer, laterStats, laterValues}
 use Rattle.standardise.proofs.Theorems.{orders-same-answer, orders-same-stats, one-marker-same-cells, one-marker-same-answer, one-marker-same-stats, one-marker-same-values, reordered-same-answer, reordered-same-stats, reordered-moved-values}
 use Rattle.standardise.specs.Refused.{IsFound, IsLowestRefused}
-use Rattle.standardise.proofs.Refused.{lowest-refused, is-lowest-refused, none-is-refused, done-all-found, refused-keeps-values, refused-keeps-stats}
+use Rattle.standardise.proofs.Refused.{lowest-refused, is-lowest-refused, none-is-refused, done-all-found, number-told, is-13, is-14, lent-not-refused, refused-keeps-values, refused-keeps-stats}
 
 abbrev pub herd : List Float
 herd = plusZero ∷ two ∷ []
@@ -142,6 +143,49 @@ mixed-answer order =
 
 pub mixed-lowest : (order : Bool) → (m : ℕ) × (pos 1 ∷ [] ≡ pos m ∷ []) × IsLowestRefused (found binary64 order 3 3 (mixed order) false six) 3 13 m
 mixed-lowest order = lowest-refused binary64 order 3 3 (mixed order) false six 13 (pos 1 ∷ []) (mixed-answer order)
+
+-- marker 1 has no value, and so is refused by 13
+pub mixed-no-value : (order : Bool) (i : ℕ) → i < 3 → isNan (value order 3 3 (mixed order) i 1) ≡ true
+mixed-no-value order = is-13 binary64 order 3 3 (mixed order) six 1 .0 (mixed-13 order)
+
+pub mixed-13-again : (order : Bool) → found binary64 order 3 3 (mixed order) false six 1 ≡ NoIndividuals
+mixed-13-again order = is-13 binary64 order 3 3 (mixed order) six 1 .1 (mixed-no-value order)
+
+-- marker 2 has a value and a NaN mean, and so is refused by 14
+mixed-value-0 : (order : Bool) → isNan (value order 3 3 (mixed order) 0 2) ≡ false
+unfolding value matrixPlace isNan
+mixed-value-0 true = refl
+mixed-value-0 false = refl
+
+pub mixed-14-again : (order : Bool) → found binary64 order 3 3 (mixed order) false six 2 ≡ IllegalSnpMean
+mixed-14-again order =
+    let t = is-14 binary64 order 3 3 (mixed order) six 2 in
+    t .1 0 (lit≤ tt) (mixed-value-0 order) (t .0 (mixed-14 order) .1)
+
+-- by itself it is the lowest
+abbrev pub infinite : List Float
+infinite = inf false ∷ inf true ∷ nan ∷ []
+
+pub infinite-answer : (order : Bool) → lowestRefused binary64 order 3 1 infinite false six ≡ refused 14 (pos 0 ∷ [])
+unfolding lowestRefused markersAnswer markerAnswer ifDone isDone found foundFor markerStats noValue accumulated counted mean value matrixPlace isNan add mul div
+infinite-answer true = refl
+infinite-answer false = refl
+
+only-answer : (order : Bool) → markerAnswer 0 (found binary64 order 3 1 infinite false six 0) ≡ refused 14 (pos 0 ∷ [])
+unfolding markerAnswer found foundFor markerStats noValue accumulated counted mean value matrixPlace isNan add mul div
+only-answer true = refl
+only-answer false = refl
+
+pub infinite-is-14 : (order : Bool) → found binary64 order 3 1 infinite false six 0 ≡ IllegalSnpMean
+infinite-is-14 order = by-number (number-told 0 (found binary64 order 3 1 infinite false six 0) 14 (pos 0 ∷ []) (only-answer order))
+  where
+    by-number : {x : MarkerStats} → ((_≡_ {A = ℕ} 14 13) × (x ≡ NoIndividuals)) ⊎ ((_≡_ {A = ℕ} 14 14) × (x ≡ IllegalSnpMean)) → x ≡ IllegalSnpMean
+    by-number (inl (n, e)) = absurd (omega arith)
+    by-number (inr (n, e)) = e
+
+-- with lent statistics neither is refused
+pub mixed-lent : (order : Bool) → lowestRefused binary64 order 3 3 (mixed order) true six ≡ done []
+mixed-lent order = lent-not-refused binary64 order 3 3 (mixed order) six
 
 -- the NaN of the marker that 14 refuses stays, and so do its statistics
 pub mixed-value : (order apply : Bool) → value order 3 3 (laterValues binary64 order 3 3 (mixed order) false six apply) 2 2 ≡ nan

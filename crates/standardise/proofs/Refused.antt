@@ -1,22 +1,23 @@
 -- Refused markers: the answer is the lowest one's, and every one keeps its values and its statistics.
 use mathlib.Core.Path.{_≡_, refl, sym, ap, subst, _∙_}
-use mathlib.Core.Bool.{Bool, true, false, cond, true≢false}
+use mathlib.Core.Bool.{Bool, true, false, _&&_, cond, true≢false}
 use mathlib.Core.List.{List, [], _∷_}
-use mathlib.Core.Logic.{inl, inr}
+use mathlib.Core.Logic.{_⊎_, inl, inr}
 use Prim.Native.Nat.{ℕ, zero, suc, _+_, _*_, _<_}
 use native.Mathlib.Omega.{arith}
 use borrow.Author.Tests.{eqb-true, eqb-false}
 use lib.Dec.{eqb}
 use lib.IntN.{ℤ, pos}
 use lib.ListN.{getD}
-use lib.Ieee.{Float, nan, Format}
+use lib.Ieee.{Float, nan, Format, isNan}
 use Rattle.genotype.specs.Answer.{Answer, done, refused, isDone, ifDone}
 use Rattle.genotype.specs.Matrix.{matrixPlace, matrix}
 use Rattle.genotype.proofs.MatrixLaws.{getD-matrix}
 use Rattle.genotype.proofs.Tests.{by-test}
+use Rattle.statistics.specs.declared.Stats.{Stats}
 use Rattle.statistics.specs.declared.MarkerStats.{MarkerStats}
 use Rattle.statistics.specs.declared.MarkerStats.the-variants.{Found, NoIndividuals, IllegalSnpMean}
-use Rattle.statistics.specs.Statistics.{statsPerMarker}
+use Rattle.statistics.specs.Statistics.{accumulated, mean, statsOf, noValue, markerStats, foundFor, statsPerMarker, statsAt}
 use Rattle.standardise.specs.Standardised.{markerAnswer, markersAnswer, bufferChecks, keptOrNew, applied, value, found, lowestRefused, newStats, laterStats, laterValues}
 use Rattle.standardise.specs.Refused.{IsRefused, IsFound, IsLowestRefused}
 use Rattle.standardise.specs.Steps.{laterValue}
@@ -40,6 +41,13 @@ unfolding markerAnswer
 carries m (Found s) k vs e = absurd (let q : _≡_ {A = ℕ} 0 1 = cc in omega arith)
 carries m NoIndividuals k vs e = cc
 carries m IllegalSnpMean k vs e = cc
+
+-- 13 for "no non-NaN value", 14 for "a NaN mean", and no other number
+pub number-told : (m : ℕ) (x : MarkerStats) (k : ℕ) (vs : List ℤ) → markerAnswer m x ≡ refused k vs → ((k ≡ 13) × (x ≡ NoIndividuals)) ⊎ ((k ≡ 14) × (x ≡ IllegalSnpMean))
+unfolding markerAnswer
+number-told m (Found s) k vs e = absurd (let q : _≡_ {A = ℕ} 0 1 = cc in omega arith)
+number-told m NoIndividuals k vs e = inl (cc, refl)
+number-told m IllegalSnpMean k vs e = inr (cc, refl)
 
 -- two answers of which the second counts if the first is done
 both-done : (a b : Answer) → isDone (ifDone a b a) ≡ true → (isDone a ≡ true) × (isDone b ≡ true)
@@ -113,6 +121,75 @@ module _ (f : Format) (order : Bool) (iids sids : ℕ) (val : List Float) (useSt
   pub done-all-found : isDone (lowestRefused f order iids sids val useStats stats) ≡ true → (m : ℕ) → m < sids → IsFound (found f order iids sids val useStats stats m)
   unfolding lowestRefused
   done-all-found e = all-found (found f order iids sids val useStats stats) sids e
+
+-- ---- which markers are refused. 13: "has no non-NaN value"; 14: "has a NaN mean"
+all-nan : (column : ℕ → Float) (n : ℕ) → noValue column n ≡ true → (i : ℕ) → i < n → isNan (column i) ≡ true
+unfolding noValue
+all-nan column zero e i h = absurd (omega arith)
+all-nan column (suc n) e i h =
+    let d = both (noValue column n) (isNan (column n)) e in
+    by-test (eqb i n) (λ t. ap (λ (k : ℕ). isNan (column k)) (eqb-true i n t) ∙ d .1)
+    (λ t. let q : i ≡ n → ⊥ = eqb-false i n t in all-nan column n (d .0) i (omega arith))
+  where
+    both : (a b : Bool) → (a && b) ≡ true → (a ≡ true) × (b ≡ true)
+    both true b e = (refl, e)
+    both false b e = absurd (true≢false (sym e))
+
+no-value : (column : ℕ → Float) (n : ℕ) → ((i : ℕ) → i < n → isNan (column i) ≡ true) → noValue column n ≡ true
+unfolding noValue
+no-value column zero h = refl
+no-value column (suc n) h = ap (λ (b : Bool). b && isNan (column n)) (no-value column n (λ i l. h i (omega arith))) ∙ h n (omega arith)
+
+some-value : (column : ℕ → Float) (n : ℕ) → noValue column n ≡ false → (i : ℕ) × (i < n) × (isNan (column i) ≡ false)
+unfolding noValue
+some-value column zero e = absurd (true≢false e)
+some-value column (suc n) e = go (noValue column n) refl e (some-value column n)
+  where
+    go : (b : Bool) → noValue column n ≡ b → (b && isNan (column n)) ≡ false → (noValue column n ≡ false → (i : ℕ) × (i < n) × (isNan (column i) ≡ false))
+        → (i : ℕ) × (i < suc n) × (isNan (column i) ≡ false)
+    go true p e earlier = (n, omega arith, e)
+    go false p e earlier = let (i, h, q) = earlier p in (i, omega arith, q)
+
+-- what is found, by the two tests
+told-13 : (p q : Bool) (s : Stats) → cond p NoIndividuals (cond q IllegalSnpMean (Found s)) ≡ NoIndividuals → p ≡ true
+told-13 true q s e = refl
+told-13 false true s e = absurd (let z : _≡_ {A = ℕ} 0 1 = cc in omega arith)
+told-13 false false s e = absurd (let z : _≡_ {A = ℕ} 0 1 = cc in omega arith)
+
+told-14 : (p q : Bool) (s : Stats) → cond p NoIndividuals (cond q IllegalSnpMean (Found s)) ≡ IllegalSnpMean → (p ≡ false) × (q ≡ true)
+told-14 true q s e = absurd (let z : _≡_ {A = ℕ} 0 1 = cc in omega arith)
+told-14 false true s e = (refl, refl)
+told-14 false false s e = absurd (let z : _≡_ {A = ℕ} 0 1 = cc in omega arith)
+
+-- of marker m, if no statistics are lent
+module _ (f : Format) (order : Bool) (iids sids : ℕ) (val stats : List Float) (m : ℕ) where
+  abbrev column : ℕ → Float
+  column i = value order iids sids val i m
+
+  pub is-13 : (found f order iids sids val false stats m ≡ NoIndividuals → (i : ℕ) → i < iids → isNan (value order iids sids val i m) ≡ true)
+      × (((i : ℕ) → i < iids → isNan (value order iids sids val i m) ≡ true) → found f order iids sids val false stats m ≡ NoIndividuals)
+  unfolding found foundFor markerStats
+  is-13 = (
+    λ e. all-nan column iids (told-13 (noValue column iids) (isNan (mean f (accumulated f column iids))) (statsOf f (accumulated f column iids)) e),
+    λ h. ap (λ (b : Bool). cond b NoIndividuals (cond (isNan (mean f (accumulated f column iids))) IllegalSnpMean (Found (statsOf f (accumulated f column iids))))) (no-value column iids h),
+  )
+
+  pub is-14 : (found f order iids sids val false stats m ≡ IllegalSnpMean
+      → ((i : ℕ) × (i < iids) × (isNan (value order iids sids val i m) ≡ false)) × (isNan (mean f (accumulated f (λ i. value order iids sids val i m) iids)) ≡ true))
+      × ((i : ℕ) → i < iids → isNan (value order iids sids val i m) ≡ false → isNan (mean f (accumulated f (λ i. value order iids sids val i m) iids)) ≡ true
+      → found f order iids sids val false stats m ≡ IllegalSnpMean)
+  unfolding found foundFor markerStats
+  is-14 = (
+    λ e. let t = told-14 (noValue column iids) (isNan (mean f (accumulated f column iids))) (statsOf f (accumulated f column iids)) e in (some-value column iids (t .0), t .1),
+    λ i h v n.
+        by-test (noValue column iids) (λ t. absurd (true≢false (sym (all-nan column iids t i h) ∙ v)))
+        (λ t. λ j. cond (t j) NoIndividuals (cond (n j) IllegalSnpMean (Found (statsOf f (accumulated f column iids))))),
+  )
+
+-- "With lent statistics nothing is recomputed or refused for 13, 14."
+pub lent-not-refused : (f : Format) (order : Bool) (iids sids : ℕ) (val stats : List Float) → lowestRefused f order iids sids val true stats ≡ done []
+unfolding found foundFor
+lent-not-refused f order iids sids val stats = none-is-refused f order iids sids val true stats (λ m h. (statsAt stats m, refl))
 
 -- ---- 2. "At 13 or 14 refused markers keep old statistics"; "still applies to every marker not refused"
 kept-value : (f : Format) (b : Bool) (x : MarkerStats) (v : Float) → IsRefused x → laterValue f b x v ≡ v
