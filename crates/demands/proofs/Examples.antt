@@ -108,6 +108,10 @@ unfolding found foundFor markerStats noValue accumulated counted statsOf mean de
 least-found true = ap (byRoot plusZero) root-least
 least-found false = ap (byRoot plusZero) root-least
 
+pub least-answer : (order : Bool) → standardiseAnswer binary64 order 2 1 leastVariance false oldStats ≡ done []
+unfolding standardiseAnswer lowestRefused markersAnswer markerAnswer isDone
+least-answer order = rw (least-found order)
+
 pub least-stats : (order : Bool) → laterStats binary64 order 2 1 leastVariance false oldStats ≡ plusZero ∷ small ∷ []
 unfolding laterStats newStats keptOrNew matrix tabulate isDone
 least-stats order = rw (least-found order)
@@ -117,16 +121,33 @@ unfolding laterValues newValues mayChange lowestRefused markersAnswer markerAnsw
 least-values true = rw (least-found true)
 least-values false = rw (least-found false)
 
--- ---- products of the 2 × 2 matrix whose columns are −0, −0 and 1, 2: from +0 no sum is −0, A'A has a copy above the diagonal, AA' has +0 there
+-- ---- products of two 2 × 2 matrices
+abbrev oldPiece : List Float
+oldPiece = nan ∷ nan ∷ nan ∷ nan ∷ []
+
+-- "A'A .. a copy of entry (c, r) for c > r", "AA' .. nothing above the diagonal but +0": of the columns −0, 1 and 1, 2
+abbrev pub firstBytes : List ℕ
+firstBytes =
+    0 ∷ 0 ∷ 0 ∷ 0 ∷ 0 ∷ 0 ∷ 0 ∷ 0x80
+    ∷ 0 ∷ 0 ∷ 0 ∷ 0 ∷ 0 ∷ 0 ∷ 0xF0 ∷ 0x3F
+    ∷ 0 ∷ 0 ∷ 0 ∷ 0 ∷ 0 ∷ 0 ∷ 0xF0 ∷ 0x3F
+    ∷ 0 ∷ 0 ∷ 0 ∷ 0 ∷ 0 ∷ 0 ∷ 0 ∷ 0x40 ∷ []
+
+pub ata-two-by-two : ataLeaves firstBytes 0 2 2 0 2 2 oldPiece ≡ one ∷ two ∷ two ∷ fin false 5 (pos 0) ∷ []
+unfolding ataLeaves ataAnswer pieceOf ataEntry dot dotFrom floatsOf floatAt leNumber column valueAt tabulate ifDone isDone ofBits add mul
+ata-two-by-two = refl
+
+pub aat-two-by-two : aatLeaves firstBytes 0 2 2 0 2 2 oldPiece ≡ one ∷ plusZero ∷ two ∷ fin false 5 (pos 0) ∷ []
+unfolding aatLeaves aatAnswer pieceOf aatEntry dot dotFrom floatsOf floatAt leNumber row valueAt tabulate ifDone isDone ofBits add mul
+aat-two-by-two = refl
+
+-- "each sum runs upward from +0": of the columns −0, −0 and 1, 2 no sum is −0
 abbrev pub minusZeroBytes : List ℕ
 minusZeroBytes =
     0 ∷ 0 ∷ 0 ∷ 0 ∷ 0 ∷ 0 ∷ 0 ∷ 0x80
     ∷ 0 ∷ 0 ∷ 0 ∷ 0 ∷ 0 ∷ 0 ∷ 0 ∷ 0x80
     ∷ 0 ∷ 0 ∷ 0 ∷ 0 ∷ 0 ∷ 0 ∷ 0xF0 ∷ 0x3F
     ∷ 0 ∷ 0 ∷ 0 ∷ 0 ∷ 0 ∷ 0 ∷ 0 ∷ 0x40 ∷ []
-
-abbrev oldPiece : List Float
-oldPiece = nan ∷ nan ∷ nan ∷ nan ∷ []
 
 pub ata-of-minus-zero : ataLeaves minusZeroBytes 0 2 2 0 2 2 oldPiece ≡ plusZero ∷ plusZero ∷ plusZero ∷ fin false 5 (pos 0) ∷ []
 unfolding ataLeaves ataAnswer pieceOf ataEntry dot dotFrom floatsOf floatAt leNumber column valueAt tabulate ifDone isDone ofBits add mul
