@@ -125,19 +125,19 @@ least-values false = rw (least-found false)
 abbrev oldPiece : List Float
 oldPiece = nan ∷ nan ∷ nan ∷ nan ∷ []
 
--- "A'A .. a copy of entry (c, r) for c > r", "AA' .. nothing above the diagonal but +0": of the columns −0, 1 and 1, 2
+-- "A'A .. a copy of entry (c, r) for c > r", "AA' .. nothing above the diagonal but +0": of the columns −0, 1 and 2, 3
 abbrev pub firstBytes : List ℕ
 firstBytes =
     0 ∷ 0 ∷ 0 ∷ 0 ∷ 0 ∷ 0 ∷ 0 ∷ 0x80
     ∷ 0 ∷ 0 ∷ 0 ∷ 0 ∷ 0 ∷ 0 ∷ 0xF0 ∷ 0x3F
-    ∷ 0 ∷ 0 ∷ 0 ∷ 0 ∷ 0 ∷ 0 ∷ 0xF0 ∷ 0x3F
-    ∷ 0 ∷ 0 ∷ 0 ∷ 0 ∷ 0 ∷ 0 ∷ 0 ∷ 0x40 ∷ []
+    ∷ 0 ∷ 0 ∷ 0 ∷ 0 ∷ 0 ∷ 0 ∷ 0 ∷ 0x40
+    ∷ 0 ∷ 0 ∷ 0 ∷ 0 ∷ 0 ∷ 0 ∷ 0x08 ∷ 0x40 ∷ []
 
-pub ata-two-by-two : ataLeaves firstBytes 0 2 2 0 2 2 oldPiece ≡ one ∷ two ∷ two ∷ fin false 5 (pos 0) ∷ []
+pub ata-two-by-two : ataLeaves firstBytes 0 2 2 0 2 2 oldPiece ≡ one ∷ fin false 3 (pos 0) ∷ fin false 3 (pos 0) ∷ fin false 13 (pos 0) ∷ []
 unfolding ataLeaves ataAnswer pieceOf ataEntry dot dotFrom floatsOf floatAt leNumber column valueAt tabulate ifDone isDone ofBits add mul
 ata-two-by-two = refl
 
-pub aat-two-by-two : aatLeaves firstBytes 0 2 2 0 2 2 oldPiece ≡ one ∷ plusZero ∷ two ∷ fin false 5 (pos 0) ∷ []
+pub aat-two-by-two : aatLeaves firstBytes 0 2 2 0 2 2 oldPiece ≡ fin false 1 (pos 2) ∷ plusZero ∷ fin false 3 (pos 1) ∷ fin false 5 (pos 1) ∷ []
 unfolding aatLeaves aatAnswer pieceOf aatEntry dot dotFrom floatsOf floatAt leNumber row valueAt tabulate ifDone isDone ofBits add mul
 aat-two-by-two = refl
 
