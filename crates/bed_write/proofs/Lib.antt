@@ -6,3 +6,5 @@ pub mod EncodeLaws
 pub mod BedLaws
 pub mod RowLaws
 pub mod WriteLaws
+pub mod Theorems
+pub mod Examples

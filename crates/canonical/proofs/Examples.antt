@@ -2,18 +2,19 @@
 use mathlib.Core.Path.{_≡_, refl, _∙_, ap}
 use mathlib.Core.Bool.{Bool, true, false}
 use mathlib.Core.List.{List, [], _∷_}
-use Prim.Native.Nat.{ℕ, _-_, _^_, _≤_}
+use Prim.Native.Nat.{ℕ, _-_, _^_, _≤_, _<_}
 use native.Mathlib.Omega.{arith}
 use borrow.Author.Tests.{eq-eqb, le-leb}
 use lib.Dec.{leb, eqb, lit≤}
 use lib.IntN.{ℤ, pos, negsuc}
+use lib.Ieee.{Float, nan, fin, eq}
 use lib.ListN.{length, getD}
 use Rattle.genotype.specs.Answer.{Answer, done, refused, check, isDone}
 use Rattle.genotype.specs.Block.{blockWidth, fileLength, checkSize}
 use Rattle.genotype.specs.Code.{codeAt, itemCode, packedByte, packed}
 use Rattle.genotype.specs.Lists.{tabulate}
 use Rattle.genotype.specs.Matrix.{matrixPlace}
-use Rattle.genotype.specs.Value.{i8, codeOf, sameInt, sameOrNan}
+use Rattle.genotype.specs.Value.{i8, float, codeOf, sameInt, sameOrNan}
 use Rattle.genotype.proofs.AnswerLaws.{count-passes, check-passes, check-refuses}
 use Rattle.genotype.proofs.ValueLaws.{i8-numbers, NoNumber}
 use Rattle.bed_file.specs.File.{isMode1, items, blocks, checkFile, checkMode, checkLength, acceptAnswer}
@@ -23,7 +24,8 @@ use Rattle.bed_file.proofs.FileLaws.{open-good}
 use Rattle.bed_write.specs.Packing.{placeCode, orZero, packedCodes, firstOf, ifBad}
 use Rattle.bed_write.specs.Writing.{joined, bedFile, valueCode, firstBadCall, checkCall, checkBuffers, writeAnswer, writeBuffer}
 use Rattle.canonical.specs.Canonical.{canonicalAnswer, canonicalFile, fileOrder}
-use Rattle.canonical.proofs.Theorems.{written-read-back, read-written}
+use Rattle.canonical.specs.Back.{EqualOrBothNan}
+use Rattle.canonical.proofs.Theorems.{written-read-back, written-read-back-i8, written-read-back-f64, read-written}
 
 -- "6C 1B 00 0C 0D 0A 03 08 has canonical file F"
 pub canonical-of-mode-0 :
@@ -93,6 +95,35 @@ pub column-read-back :
     ≡ true
 unfolding matrixPlace
 column-read-back later = written-read-back i8 true (negsuc 126) 5 1 true column five column-writable later column refl .1 1 0 (lit≤ tt) (lit≤ tt)
+
+-- the integer itself
+pub column-read-back-i8 :
+    (later : Bool)
+    → getD
+    (readBuffer i8 (writeBuffer 5 1 (valueCode i8 true (negsuc 126) true 5 1 column) 5 five) 5 1 true (fileOrder 5) (fileOrder 1) (negsuc 126) later column)
+    (matrixPlace later 5 1 1 0) (negsuc 126)
+    ≡ negsuc 126
+unfolding matrixPlace
+column-read-back-i8 later = written-read-back-i8 true (negsuc 126) 5 1 true column five column-writable later column refl 1 0 (lit≤ tt) (lit≤ tt)
+
+-- −0.0 and NaN, with missing NaN: what is read back is equal by number, and NaN
+abbrev zeroAndNan : List Float
+zeroAndNan = fin true 0 (pos 0) ∷ nan ∷ []
+
+abbrev four : List ℕ
+four = 9 ∷ 9 ∷ 9 ∷ 9 ∷ []
+
+zero-writable : isDone (writeAnswer 2 1 (valueCode float true nan true 2 1 zeroAndNan) (length zeroAndNan) (length four)) ≡ true
+unfolding writeAnswer checkBuffers checkSize checkCall firstBadCall firstOf ifBad valueCode placeCode matrixPlace codeOf eq sameOrNan blockWidth isDone
+zero-writable = refl
+
+pub zero-read-back :
+    (later : Bool) (a : ℕ) → a < 2
+    → EqualOrBothNan (getD zeroAndNan (matrixPlace true 2 1 a 0) nan)
+    (getD
+    (readBuffer float (writeBuffer 2 1 (valueCode float true nan true 2 1 zeroAndNan) 2 four) 2 1 true (fileOrder 2) (fileOrder 1) nan later zeroAndNan)
+    (matrixPlace later 2 1 a 0) nan)
+zero-read-back later a h = written-read-back-f64 true nan 2 1 true zeroAndNan four zero-writable later zeroAndNan refl a 0 h (lit≤ tt)
 
 abbrev inMode0 : List ℕ
 inMode0 = 0x6C ∷ 0x1B ∷ 0 ∷ 0x0C ∷ 0x0D ∷ 0x0A ∷ 0x03 ∷ 0x08 ∷ []

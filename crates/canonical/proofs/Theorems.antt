@@ -1,19 +1,23 @@
 -- What document 01 promises of writing, reading back and the canonical file, over the definitions that the contracts cite.
 use mathlib.Core.Path.{_≡_, refl, sym, ap, subst, _∙_}
-use mathlib.Core.Bool.{Bool, true}
+use mathlib.Core.Bool.{Bool, true, false, not, _&&_, _||_, true≢false}
 use mathlib.Core.List.{List, []}
+use mathlib.Core.Logic.{inl, inr}
 use mathlib.Core.Option.{Option, some, none}
 use Prim.Native.Nat.{ℕ, _-_, _*_, _^_, _<_, _≤_}
 use native.Mathlib.Omega.{arith}
 use borrow.Author.Tests.{eq-eqb, le-leb}
-use lib.Dec.{eqb, leb}
-use lib.Ieee.{Float, nan, eq}
+use lib.Dec.{T, eqb, leb}
+use lib.IntN.{ℤ}
+use lib.Ieee.{Float, nan, eq, ne, isNan}
+use lib.Ieee.Compare.{differs-from-itself}
 use lib.ListN.{length, getD}
 use Rattle.genotype.specs.Answer.{Answer, done, isDone}
 use Rattle.genotype.specs.Block.{fileLength, checkSize}
 use Rattle.genotype.specs.Matrix.{matrixPlace}
-use Rattle.genotype.specs.Value.{Width, float, valueOf, codeOf, sameOrNan}
+use Rattle.genotype.specs.Value.{Width, i8, float, sameInt, valueOf, codeOf, sameOrNan}
 use Rattle.genotype.proofs.AnswerLaws.{check-passes, count-passes, new-if-done, heard, before-later}
+use Rattle.genotype.proofs.SignedLaws.{sameInt-refl, sameInt-eq}
 use Rattle.genotype.proofs.ValueLaws.{decode-encode, encode-decode, Numbers, float-numbers, NoNumber}
 use Rattle.bed_file.specs.File.{acceptAnswer}
 use Rattle.bed_read.specs.Calls.{callCode}
@@ -23,6 +27,7 @@ use Rattle.bed_file.proofs.FileLaws.{accepted}
 use Rattle.bed_write.specs.Packing.{placeCode, orZero, firstOf, ifBad}
 use Rattle.bed_write.specs.Writing.{valueCode, firstBadCall, checkCall, checkBuffers, writeAnswer, bedFile, writeBuffer}
 use Rattle.canonical.specs.Canonical.{canonicalAnswer, canonicalFile, canonicalBuffer, fileOrder}
+use Rattle.canonical.specs.Back.{EqualOrBothNan}
 use Rattle.bed_write.proofs.FirstLaws.{first-none, first-all, not-bad, zero-below}
 use Rattle.bed_write.proofs.BedLaws.{bed-ext}
 use Rattle.bed_write.proofs.WriteLaws.{buffers-stage, passed, Passed, value-coded}
@@ -105,6 +110,52 @@ written-read-back w flag missing iids sids order val old d later buffer l = (
 
     code-back : (a m : ℕ) → a < iids → m < sids → callCode file iids sids a m ≡ codes a m
     code-back a m ha hm = ap (λ x. callCode x iids sids a m) is-file ∙ bed-call iids sids codes small a m ha hm
+
+-- and said of each width without the test that the definition of a value's code uses: i8 has no NaN, and an integer is its number
+same-i8 : (u v : ℤ) → sameOrNan i8 u v ≡ true → u ≡ v
+unfolding sameOrNan
+same-i8 u v e = sameInt-eq u v (sym (no-nan (sameInt u v) (sameInt u u) (sameInt v v) (sameInt-refl u)) ∙ e)
+  where
+    no-nan : (a b c : Bool) → b ≡ true → (a || (not b && not c)) ≡ a
+    no-nan true b c e = refl
+    no-nan false true c e = refl
+    no-nan false false c e = absurd (true≢false (sym e))
+
+unequal-nan : (x : Float) → eq x x ≡ false → isNan x ≡ true
+unfolding ne isNan
+unequal-nan x e = ap isNan (differs-from-itself x (subst T (sym (ap not e)) tt))
+
+same-f64 : (u v : Float) → sameOrNan float u v ≡ true → EqualOrBothNan u v
+unfolding sameOrNan
+same-f64 u v e = go (eq u v) (eq u u) (eq v v) refl refl refl e
+  where
+    go : (a b c : Bool) → eq u v ≡ a → eq u u ≡ b → eq v v ≡ c → (a || (not b && not c)) ≡ true → EqualOrBothNan u v
+    go true b c ea eb ec e = inl ea
+    go false true c ea eb ec e = absurd (true≢false (sym e))
+    go false false true ea eb ec e = absurd (true≢false (sym e))
+    go false false false ea eb ec e = inr (unequal-nan u eb, unequal-nan v ec)
+
+pub written-read-back-i8 :
+    (flag : Bool) (missing : ℤ) (iids sids : ℕ) (order : Bool) (val : List ℤ) (old : List ℕ)
+    → isDone (writeAnswer iids sids (valueCode i8 flag missing order iids sids val) (length val) (length old)) ≡ true
+    → (later : Bool) (buffer : List ℤ) → length buffer ≡ iids * sids → (a m : ℕ) → a < iids → m < sids
+    → getD
+    (readBuffer i8 (writeBuffer iids sids (valueCode i8 flag missing order iids sids val) (length val) old) iids sids flag (fileOrder iids) (fileOrder sids) missing later buffer)
+    (matrixPlace later iids sids a m) missing
+    ≡ getD val (matrixPlace order iids sids a m) missing
+written-read-back-i8 flag missing iids sids order val old d later buffer l a m ha hm =
+    sym (same-i8 _ _ (written-read-back i8 flag missing iids sids order val old d later buffer l .1 a m ha hm))
+
+pub written-read-back-f64 :
+    (flag : Bool) (missing : Float) (iids sids : ℕ) (order : Bool) (val : List Float) (old : List ℕ)
+    → isDone (writeAnswer iids sids (valueCode float flag missing order iids sids val) (length val) (length old)) ≡ true
+    → (later : Bool) (buffer : List Float) → length buffer ≡ iids * sids → (a m : ℕ) → a < iids → m < sids
+    → EqualOrBothNan (getD val (matrixPlace order iids sids a m) missing)
+    (getD
+    (readBuffer float (writeBuffer iids sids (valueCode float flag missing order iids sids val) (length val) old) iids sids flag (fileOrder iids) (fileOrder sids) missing later buffer)
+    (matrixPlace later iids sids a m) missing)
+written-read-back-f64 flag missing iids sids order val old d later buffer l a m ha hm =
+    same-f64 _ _ (written-read-back float flag missing iids sids order val old d later buffer l .1 a m ha hm)
 
 -- ---- a file of calls
 module _ (file : List ℕ) (iids sids : ℕ) (d : isDone (acceptAnswer file iids sids) ≡ true) (fits : fileLength iids sids ≤ 2 ^ 64 - 1) where

@@ -1,5 +1,5 @@
--- Demand 3. The comments quote document 01, "Words of demand 3". f64 is binary64; "alike" is ≡, since the logic's `Float` has one NaN and
--- keeps the sign of zero. One `val` and one `stats` for both sides: "They start from lent buffers alike place by place".
+-- Demand 3. The comments quote document 01, "Words of demand 3". f64 is binary64. For values of a format "alike" is ≡, by `alike-is-same` and
+-- `alike-buffers-same` of Alike: 2 and 3 say it so, with one `val` and one `stats` for both sides, and 4 says it in 01's word.
 use mathlib.Core.Path.{_≡_, sym, ap, subst, _∙_}
 use mathlib.Core.Bool.{Bool, true}
 use mathlib.Core.List.{List, []}
@@ -16,7 +16,9 @@ use Rattle.canonical.specs.Canonical.{fileOrder, canonicalAnswer, canonicalBuff
 use Rattle.statistics.specs.Calls.{FewEnough}
 use Rattle.standardise.specs.Standardised.{value}
 use Rattle.read_standardised.specs.Demand.{IsAccepted, CallsAgree, GoodList, meant, NamesEachOnce, RightLengths, Way, answersOf, valuesOf, statsOf}
+use Rattle.read_standardised.specs.Alike.{Alike, AlikeBuffers, OfFormat}
 use Rattle.canonical.proofs.Theorems.{canonical-left, canonical-again, canonical-equal}
+use Rattle.read_standardised.proofs.Alike.{same-is-alike, same-buffers-alike, alike-buffers-same}
 use Rattle.read_standardised.proofs.SumLaws.{names-length, meant-below}
 use Rattle.read_standardised.proofs.ReadLaws.{length-order, order-good}
 use Rattle.read_standardised.proofs.LengthLaws.{values-length}
@@ -137,3 +139,64 @@ module _ (file : List ℕ) (iids sids : ℕ)
         for-15 = ap (λ (n : ℕ). n * length sidList) (length-order iids ∙ sym (names-length iids iidList names)) ∙ len .for-15;
         for-17 = len .for-17;
       }
+
+-- ---- 4. alike. "They start from lent buffers alike place by place": each side has its own
+module _ (val val′ stats stats′ : List Float)
+    (fv : OfFormat binary64 val) (fv′ : OfFormat binary64 val′) (fs : OfFormat binary64 stats) (fs′ : OfFormat binary64 stats′)
+    (av : AlikeBuffers binary64 val val′) (as′ : AlikeBuffers binary64 stats stats′) where
+  val-same : val ≡ val′
+  val-same = alike-buffers-same binary64 val val′ fv fv′ .0 av
+
+  stats-same : stats ≡ stats′
+  stats-same = alike-buffers-same binary64 stats stats′ fs fs′ .0 as′
+
+  -- "two sides that differ only in the file"
+  module _ (file other : List ℕ) (iids sids : ℕ) (acc : IsAccepted file iids sids) (acc′ : IsAccepted other iids sids)
+      (fits : fileLength iids sids ≤ 2 ^ 64 - 1) (out out′ : List ℕ) (l : length out ≡ fileLength iids sids) (l′ : length out′ ≡ fileLength iids sids)
+      (same : canonicalBuffer file iids sids out ≡ canonicalBuffer other iids sids out′)
+      (flag : Bool) (iidList sidList : List ℤ) (gi : GoodList iids iidList) (gs : GoodList sids sidList) (order : Bool)
+      (len : RightLengths iidList sidList val stats) (way : Way) where
+    -- "Afterwards every place of the statistics buffer is alike"
+    pub files-alike-stats : AlikeBuffers binary64 (statsOf binary64 file iids sids flag iidList sidList order val stats way) (statsOf binary64 other iids sids flag iidList sidList order val′ stats′ way)
+    files-alike-stats =
+        same-buffers-alike binary64 _ _
+        (files-same-stats file other iids sids acc acc′ fits out out′ l l′ same flag iidList sidList gi gs order val stats len way
+        ∙ (λ i. statsOf binary64 other iids sids flag iidList sidList order (val-same i) (stats-same i) way))
+
+    -- "and the refusals are equal, with what they carry, or neither side refuses"
+    pub files-equal-answers : answersOf binary64 file iids sids flag iidList sidList order val stats way ≡ answersOf binary64 other iids sids flag iidList sidList order val′ stats′ way
+    files-equal-answers =
+        files-same-answers file other iids sids acc acc′ fits out out′ l l′ same flag iidList sidList gi gs order val stats len way
+        ∙ (λ i. answersOf binary64 other iids sids flag iidList sidList order (val-same i) (stats-same i) way)
+
+    -- "Where the files differ every value is alike."
+    pub files-alike-values : AlikeBuffers binary64 (valuesOf binary64 file iids sids flag iidList sidList order val stats way) (valuesOf binary64 other iids sids flag iidList sidList order val′ stats′ way)
+    files-alike-values =
+        same-buffers-alike binary64 _ _
+        (files-same-values file other iids sids acc acc′ fits out out′ l l′ same flag iidList sidList gi gs order val stats len way
+        ∙ (λ i. valuesOf binary64 other iids sids flag iidList sidList order (val-same i) (stats-same i) way))
+
+  -- "or only in the animal list, one of them then reading in file order"
+  module _ (file : List ℕ) (iids sids : ℕ) (acc : IsAccepted file iids sids) (few : iids ≤ 1000000000)
+      (flag : Bool) (iidList sidList : List ℤ) (names : NamesEachOnce iids iidList) (gs : GoodList sids sidList) (order : Bool)
+      (len : RightLengths iidList sidList val stats) (way : Way) where
+    pub lists-alike-stats : AlikeBuffers binary64 (statsOf binary64 file iids sids flag iidList sidList order val stats way) (statsOf binary64 file iids sids flag (fileOrder iids) sidList order val′ stats′ way)
+    lists-alike-stats =
+        same-buffers-alike binary64 _ _
+        (lists-same-stats file iids sids acc few flag iidList sidList names gs order val stats len way
+        ∙ (λ i. statsOf binary64 file iids sids flag (fileOrder iids) sidList order (val-same i) (stats-same i) way))
+
+    pub lists-equal-answers : answersOf binary64 file iids sids flag iidList sidList order val stats way ≡ answersOf binary64 file iids sids flag (fileOrder iids) sidList order val′ stats′ way
+    lists-equal-answers =
+        lists-same-answers file iids sids acc few flag iidList sidList names gs order val stats len way
+        ∙ (λ i. answersOf binary64 file iids sids flag (fileOrder iids) sidList order (val-same i) (stats-same i) way)
+
+    -- "the value at place k of the animal list and place m of the marker list is alike to the one that file order gives, at the same m, for the
+    -- animal that entry k means"
+    pub lists-alike-values : (k m : ℕ) → k < length iidList → m < length sidList
+        → Alike binary64 (value order (length iidList) (length sidList) (valuesOf binary64 file iids sids flag iidList sidList order val stats way) k m)
+        (value order (length (fileOrder iids)) (length sidList) (valuesOf binary64 file iids sids flag (fileOrder iids) sidList order val′ stats′ way) (meant iids iidList k) m)
+    lists-alike-values k m hk hm =
+        same-is-alike binary64 _ _
+        (lists-moved-values file iids sids acc few flag iidList sidList names gs order val stats len way k m hk hm
+        ∙ (λ i. value order (length (fileOrder iids)) (length sidList) (valuesOf binary64 file iids sids flag (fileOrder iids) sidList order (val-same i) (stats-same i) way) (meant iids iidList k) m))

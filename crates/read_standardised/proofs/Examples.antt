@@ -1,12 +1,13 @@
 -- Demand 3 at small files: each theorem once, its hypotheses closed by computation.
-use mathlib.Core.Path.{_≡_, refl}
+use mathlib.Core.Path.{_≡_, refl, sym, subst}
 use mathlib.Core.Bool.{Bool, true, false}
 use mathlib.Core.List.{List, [], _∷_}
 use Prim.Native.Nat.{ℕ, _-_, _^_, _≤_}
-use lib.Dec.{lit≤}
+use native.Mathlib.Omega.{arith}
+use lib.Dec.{T, lit≤}
 use lib.IntN.{ℤ, pos, negsuc}
-use lib.ListN.{length}
-use lib.Ieee.{Float, nan, binary64, isNan}
+use lib.ListN.{length, getD}
+use lib.Ieee.{Float, nan, fin, binary64, fits, isNan}
 use Rattle.genotype.specs.Answer.{refused, isDone, ifDone}
 use Rattle.genotype.specs.Block.{blockWidth, fileLength}
 use Rattle.genotype.specs.Entry.{isGood, means, firstBad}
@@ -20,12 +21,14 @@ use Rattle.bed_read.specs.Calls.{block, codeIn, callCode}
 use Rattle.bed_read.specs.Reading.{checkLists, readCode, codesRead, valuesRead}
 use Rattle.bed_file.specs.File.{isMode1, items, blocks, checkFile, acceptAnswer}
 use Rattle.read_standardised.specs.Demand.{IsAccepted, CallsAgree, GoodList, meant, NamesEachOnce, RightLengths, Way, answersOf, valuesOf, statsOf}
+use Rattle.read_standardised.specs.Alike.{Alike, AlikeBuffers, OfFormat}
 use Rattle.read_standardised.specs.Joined.{joinedChecks, readNan, joinedAnswer}
 use Rattle.read_standardised.specs.SmallHerds.{F, lastByteF2, inMode0}
 use Rattle.canonical.specs.Canonical.{fileOrder, canonicalFile, canonicalAnswer, canonicalBuffer}
 use Rattle.bed_write.specs.Writing.{joined, bedFile}
-use Rattle.read_standardised.proofs.Computed.{namesTest, names-by-test}
-use Rattle.read_standardised.proofs.Demand3.{canonical-is-accepted, canonical-is-itself, calls-to-canonical, canonical-to-calls, files-same-stats, files-same-answers, files-same-values, lists-same-stats, lists-same-answers, lists-moved-values}
+use Rattle.read_standardised.proofs.Alike.{alike-is-same, same-buffers-alike}
+use Rattle.read_standardised.proofs.Computed.{allBelow, all-below, namesTest, names-by-test}
+use Rattle.read_standardised.proofs.Demand3.{canonical-is-accepted, canonical-is-itself, calls-to-canonical, canonical-to-calls, files-same-stats, files-same-answers, files-same-values, lists-same-stats, lists-same-answers, lists-moved-values, files-alike-stats, files-equal-answers, files-alike-values, lists-alike-stats, lists-equal-answers, lists-alike-values}
 
 -- marker 1 all missing, and the same with other pads
 abbrev pub M : List ℕ
@@ -123,7 +126,37 @@ again = canonical-is-itself inMode0 5 2 F0-accepted short out out-long out out-l
 pub again-accepted : IsAccepted (canonicalBuffer inMode0 5 2 out) 5 2
 again-accepted = canonical-is-accepted inMode0 5 2 F0-accepted short out out-long out out-long
 
--- ---- 2 and 3, in both orders, under both flags and in every way
+-- ---- alike: +0 and −0 are not, though they are equal by number; two NaN are
+pub zeros-not-alike : Alike binary64 (fin false 0 (pos 0)) (fin true 0 (pos 0)) → ⊥
+unfolding fits
+zeros-not-alike a = signs (alike-is-same binary64 (fin false 0 (pos 0)) (fin true 0 (pos 0)) tt tt .0 a)
+  where
+    signs : fin false 0 (pos 0) ≡ fin true 0 (pos 0) → ⊥
+    signs e = let q : _≡_ {A = ℕ} 0 1 = cc in omega arith
+
+pub nans-alike : Alike binary64 nan nan
+unfolding fits
+nans-alike = alike-is-same binary64 nan nan tt tt .1 refl
+
+-- the buffers hold values of the format
+of-format : (xs : List Float) → allBelow (length xs) (λ k. fits binary64 (getD xs k nan)) ≡ true → OfFormat binary64 xs
+of-format xs e k h = subst T (sym (all-below (length xs) (λ k. fits binary64 (getD xs k nan)) e k h)) tt
+
+val-fits : OfFormat binary64 val
+unfolding allBelow fits
+val-fits = of-format val refl
+
+stats-fits : OfFormat binary64 stats
+unfolding allBelow fits
+stats-fits = of-format stats refl
+
+val-alike : AlikeBuffers binary64 val val
+val-alike = same-buffers-alike binary64 val val refl
+
+stats-alike : AlikeBuffers binary64 stats stats
+stats-alike = same-buffers-alike binary64 stats stats refl
+
+-- ---- 2, 3 and 4, in both orders, under both flags and in every way
 module _ (flag order : Bool) (way : Way) where
   pub pads-stats : statsOf binary64 F 5 2 flag moved markers order val stats way ≡ statsOf binary64 lastByteF2 5 2 flag moved markers order val stats way
   pads-stats = files-same-stats F lastByteF2 5 2 F-accepted F2-accepted short out out out-long out-long pads-same flag moved markers (moved-names .good-list) markers-good order val stats lengths way
@@ -155,3 +188,23 @@ module _ (flag order : Bool) (way : Way) where
   pub moved-value-13 : value order 5 2 (valuesOf binary64 M 5 2 flag moved markers order val stats way) 0 1
       ≡ value order (length (fileOrder 5)) 2 (valuesOf binary64 M 5 2 flag (fileOrder 5) markers order val stats way) (meant 5 moved 0) 1
   moved-value-13 = lists-moved-values M 5 2 M-accepted (lit≤ tt) flag moved markers moved-names markers-good order val stats lengths way 0 1 (lit≤ tt) (lit≤ tt)
+
+  -- alike
+  pub modes-alike-values : AlikeBuffers binary64 (valuesOf binary64 F 5 2 flag moved markers order val stats way) (valuesOf binary64 inMode0 5 2 flag moved markers order val stats way)
+  modes-alike-values = files-alike-values val val stats stats val-fits val-fits stats-fits stats-fits val-alike stats-alike F inMode0 5 2 F-accepted F0-accepted short out out out-long out-long modes-same flag moved markers (moved-names .good-list) markers-good order lengths way
+
+  pub modes-alike-stats : AlikeBuffers binary64 (statsOf binary64 F 5 2 flag moved markers order val stats way) (statsOf binary64 inMode0 5 2 flag moved markers order val stats way)
+  modes-alike-stats = files-alike-stats val val stats stats val-fits val-fits stats-fits stats-fits val-alike stats-alike F inMode0 5 2 F-accepted F0-accepted short out out out-long out-long modes-same flag moved markers (moved-names .good-list) markers-good order lengths way
+
+  pub modes-equal-answers : answersOf binary64 F 5 2 flag moved markers order val stats way ≡ answersOf binary64 inMode0 5 2 flag moved markers order val stats way
+  modes-equal-answers = files-equal-answers val val stats stats val-fits val-fits stats-fits stats-fits val-alike stats-alike F inMode0 5 2 F-accepted F0-accepted short out out out-long out-long modes-same flag moved markers (moved-names .good-list) markers-good order lengths way
+
+  pub moved-alike-stats : AlikeBuffers binary64 (statsOf binary64 M 5 2 flag moved markers order val stats way) (statsOf binary64 M 5 2 flag (fileOrder 5) markers order val stats way)
+  moved-alike-stats = lists-alike-stats val val stats stats val-fits val-fits stats-fits stats-fits val-alike stats-alike M 5 2 M-accepted (lit≤ tt) flag moved markers moved-names markers-good order lengths way
+
+  pub moved-equal-answers : answersOf binary64 M 5 2 flag moved markers order val stats way ≡ answersOf binary64 M 5 2 flag (fileOrder 5) markers order val stats way
+  moved-equal-answers = lists-equal-answers val val stats stats val-fits val-fits stats-fits stats-fits val-alike stats-alike M 5 2 M-accepted (lit≤ tt) flag moved markers moved-names markers-good order lengths way
+
+  pub moved-alike-value : Alike binary64 (value order 5 2 (valuesOf binary64 M 5 2 flag moved markers order val stats way) 0 1)
+      (value order (length (fileOrder 5)) 2 (valuesOf binary64 M 5 2 flag (fileOrder 5) markers order val stats way) (meant 5 moved 0) 1)
+  moved-alike-value = lists-alike-values val val stats stats val-fits val-fits stats-fits stats-fits val-alike stats-alike M 5 2 M-accepted (lit≤ tt) flag moved markers moved-names markers-good order lengths way 0 1 (lit≤ tt) (lit≤ tt)

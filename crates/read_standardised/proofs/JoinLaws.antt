@@ -22,7 +22,7 @@ use Rattle.statistics.specs.Statistics.{statsPerMarker}
 use Rattle.standardise.specs.Standardised.{bufferChecks, lowestRefused, newStats, newValues, standardiseAnswer, laterStats, laterValues}
 use Rattle.standardise.proofs.CallLaws.{checks-pass}
 use Rattle.read_standardised.specs.Joined.{joinedChecks, readNan, joinedAnswer, joinedStats, joinedValues}
-use Rattle.read_standardised.specs.Demand.{asRead}
+use Rattle.read_standardised.specs.Demand.{inTurn, asRead, answersOf, valuesOf, statsOf}
 
 -- where a row of checks refuses, it does whatever comes later
 pub unheard : {F : Answer → Answer} → Stage F → isDone (F (done [])) ≡ false → (later : Answer) → F later ≡ F (done [])
@@ -122,6 +122,29 @@ module _ (f : Format) (file : List ℕ) (iids sids : ℕ) (flag : Bool) (il sl :
     unfolding asRead readNan readBuffer
     as-read-is = new-if-done (readAnswer file iids sids il sl (length val)) (valuesRead float flag nan order file iids sids il sl) val d
 
+  -- what a reading leaves whose missing value is NaN
+  left-as-read : (v1 : List Float) (missing : Float) → missing ≡ nan → v1 ≡ readBuffer float file iids sids flag il sl missing order val → v1 ≡ asRead f file iids sids flag il sl order val stats
+  unfolding asRead
+  left-as-read v1 missing n rv = rv ∙ ap (λ (x : Float). readBuffer float file iids sids flag il sl x order val) n
+
+  -- ---- the two calls in turn, as the code makes them
+  pub in-turn-left :
+      (useStats apply : Bool) (rd : Answer) (v1 : List Float) (missing : Float) → missing ≡ nan
+      → (rd ≡ readAnswer file iids sids il sl (length val)) × (v1 ≡ readBuffer float file iids sids flag il sl missing order val)
+      → (a : Answer) (v s : List Float)
+      → (a ≡ standardiseAnswer f order (length il) (length sl) v1 useStats stats) × (v ≡ laterValues f order (length il) (length sl) v1 useStats stats apply)
+      × (s ≡ laterStats f order (length il) (length sl) v1 useStats stats)
+      → (rd ∷ a ∷ [] ≡ answersOf f file iids sids flag il sl order val stats (inTurn useStats apply))
+      × (v ≡ valuesOf f file iids sids flag il sl order val stats (inTurn useStats apply))
+      × (s ≡ statsOf f file iids sids flag il sl order val stats (inTurn useStats apply))
+  unfolding answersOf valuesOf statsOf
+  in-turn-left useStats apply rd v1 missing n (ra, rv) a v s (ea, ev, es) =
+      let l = left-as-read v1 missing n rv in (
+        λ i. ra i ∷ (ea ∙ ap (λ (x : List Float). standardiseAnswer f order (length il) (length sl) x useStats stats) l) i ∷ [],
+        ev ∙ ap (λ (x : List Float). laterValues f order (length il) (length sl) x useStats stats apply) l,
+        es ∙ ap (λ (x : List Float). laterStats f order (length il) (length sl) x useStats stats) l,
+      )
+
   -- the standardiser's checks of what was read
   module _ (hi : length il ≤ countLimit) (hs : length sl ≤ countLimit) (e : eqb (statsPerMarker * length sl) (length stats) ≡ true) where
     module _ (d : isDone (readAnswer file iids sids il sl (length val)) ≡ true) where
@@ -180,8 +203,7 @@ module _ (f : Format) (file : List ℕ) (iids sids : ℕ) (flag : Bool) (il sl :
     module _ (rd : Answer) (v1 : List Float) (missing : Float) (n : missing ≡ nan) (ra : rd ≡ readAnswer file iids sids il sl (length val))
         (rv : v1 ≡ readBuffer float file iids sids flag il sl missing order val) where
       left-is : v1 ≡ asRead f file iids sids flag il sl order val stats
-      unfolding asRead
-      left-is = rv ∙ ap (λ (x : Float). readBuffer float file iids sids flag il sl x order val) n
+      left-is = left-as-read v1 missing n rv
 
       pub standardised-after :
           (t : Bool) → t ≡ isDone rd → t ≡ true → (a b : Answer) (v s : List Float) → a ≡ b

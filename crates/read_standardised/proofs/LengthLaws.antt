@@ -1,15 +1,15 @@
 -- The value buffer keeps its length, so every place that demand 3 names is inside it.
 use mathlib.Core.Path.{_≡_, refl, sym, ap, _∙_}
 use mathlib.Core.Bool.{Bool, true, false, _&&_, cond}
-use mathlib.Core.List.{List, []}
+use mathlib.Core.List.{List}
 use Prim.Native.Nat.{ℕ, _*_}
 use lib.IntN.{ℤ}
 use lib.ListN.{length}
 use lib.Ieee.{Float, Format}
-use Rattle.genotype.specs.Answer.{done, isDone, ifDone}
 use Rattle.genotype.specs.Matrix.{matrix}
 use Rattle.genotype.proofs.MatrixLaws.{length-matrix}
-use Rattle.standardise.specs.Standardised.{bufferChecks, applied, value, found, mayChange, newValues, laterValues}
+use Rattle.standardise.specs.Standardised.{applied, value, found, mayChange, newValues}
+use Rattle.standardise.proofs.Theorems.{same-length}
 use Rattle.read_standardised.specs.Joined.{readNan}
 use Rattle.read_standardised.specs.Demand.{IsAccepted, GoodList, RightLengths, Way, inTurn, joinedCall, asRead, valuesOf}
 use Rattle.read_standardised.proofs.JoinLaws.{values-are}
@@ -28,14 +28,6 @@ module _ (f : Format) (order : Bool) (n s : ℕ) (xs : List Float) (useStats : B
       go true = length-matrix order n s new ∙ sym l
       go false = refl
 
-  later-length : length (laterValues f order n s xs useStats stats apply) ≡ length xs
-  unfolding laterValues ifDone
-  later-length = go (isDone (bufferChecks n s xs stats (done [])))
-    where
-      go : (b : Bool) → length (cond b (newValues f order n s xs useStats stats apply) xs) ≡ length xs
-      go true = new-length
-      go false = refl
-
 module _ (f : Format) (file : List ℕ) (iids sids : ℕ) (flag : Bool) (il sl : List ℤ) (order : Bool) (val stats : List Float)
     (acc : IsAccepted file iids sids) (gi : GoodList iids il) (gs : GoodList sids sl) (len : RightLengths il sl val stats) where
   pub values-length : (way : Way) → length (valuesOf f file iids sids flag il sl order val stats way) ≡ length il * length sl
@@ -43,7 +35,7 @@ module _ (f : Format) (file : List ℕ) (iids sids : ℕ) (flag : Bool) (il sl :
   values-length (inTurn useStats apply) =
       let l : length (asRead f file iids sids flag il sl order val stats) ≡ length il * length sl =
       ap length (left-by-reading f file iids sids flag il sl order val stats acc gi gs len) ∙ length-read flag order file iids sids il sl in
-      later-length f order (length il) (length sl) (asRead f file iids sids flag il sl order val stats) useStats stats apply l ∙ l
+      same-length f order (length il) (length sl) (asRead f file iids sids flag il sl order val stats) useStats stats apply ∙ l
   values-length joinedCall =
       let l : length (readNan f file iids sids flag il sl order val stats) ≡ length il * length sl = length-read flag order file iids sids il sl in
       ap length (values-are f file iids sids flag il sl order val stats (right-17 f file iids sids flag il sl order val stats acc gi gs len) (is-read f file iids sids flag il sl order val stats acc gi gs len))

@@ -3,6 +3,7 @@ pub mod SumLaws
 pub mod ReadLaws
 pub mod SideLaws
 pub mod LengthLaws
+pub mod Alike
 pub mod Demand3
 pub mod Computed
 pub mod Examples

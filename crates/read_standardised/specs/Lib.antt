@@ -2,4 +2,5 @@
 pub mod Says
 pub mod Joined
 pub mod Demand
+pub mod Alike
 pub mod SmallHerds

@@ -1,7 +1,10 @@
 -- What the joined call's answer enum says: document 01's number and the values for each of its cases.
-use mathlib.Core.List.{[], _∷_}
+use mathlib.Core.List.{List, [], _∷_}
 use lib.IntN.{pos}
 use Rattle.genotype.specs.Answer.{Answer, done, refused}
+use Rattle.bed_read.specs.Says.{readSays}
+use Rattle.standardise.specs.Standardised.{standardiseSays}
+use Rattle.read_standardised.specs.declared.AnswersInTurn.{AnswersInTurn}
 use Rattle.read_standardised.specs.declared.JoinedAnswer.{JoinedAnswer}
 use Rattle.read_standardised.specs.declared.JoinedAnswer.the-variants as answers
 
@@ -18,3 +21,7 @@ joinedSays (answers.IidIndexTooBig e) = refused 5 (e ∷ [])
 joinedSays (answers.SidIndexTooBig e) = refused 6 (e ∷ [])
 joinedSays (answers.NoIndividuals m) = refused 13 (pos m ∷ [])
 joinedSays (answers.IllegalSnpMean m) = refused 14 (pos m ∷ [])
+
+-- and what the answers of the two calls in turn say
+abbrev pub inTurnSays : AnswersInTurn → List Answer
+inTurnSays r = readSays (r .reading) ∷ standardiseSays (r .standardising) ∷ []

@@ -1,11 +1,12 @@
-// Document 01's joined call: reads with missing NaN, computes statistics and applies.
+// Document 01's joined call: reads with missing NaN, computes statistics and applies. And the two calls in turn, as demand 3 makes them.
 ghost use mathlib.Core.Path.{_≡_};
 ghost use lib.Ieee.{binary64};
 ghost use Rattle.genotype.specs.Answer.{isDone};
 ghost use Rattle.bed_read.specs.Says.{readSays};
 ghost use Rattle.standardise.specs.Standardised.{standardiseSays};
-ghost use Rattle.read_standardised.specs.Says.{joinedSays};
+ghost use Rattle.read_standardised.specs.Says.{joinedSays, inTurnSays};
 ghost use Rattle.read_standardised.specs.Joined.{joinedAnswer, joinedStats, joinedValues};
+ghost use Rattle.read_standardised.specs.Demand.{inTurn, answersOf, valuesOf, statsOf};
 use bed_read::reading::ReadAnswer;
 use standardise::StandardiseAnswer;
 
@@ -127,4 +128,58 @@ pub fn read_standardised_f64(
         ));
     }
     read
+}
+
+// What the two calls answer.
+pub struct AnswersInTurn {
+    pub reading: ReadAnswer,
+    pub standardising: StandardiseAnswer,
+}
+
+// Demand 3's other way: reads with missing NaN, then standardises the values as the reading left them, whatever it answered, in the order they were
+// read in and with the lengths of the two lists as its counts.
+pub fn read_then_standardise_f64(
+    file: &[u8],
+    iid_count: usize,
+    sid_count: usize,
+    is_a1_counted: bool,
+    iid_index: &[i64],
+    sid_index: &[i64],
+    animal_order: bool,
+    val: &mut [f64],
+    use_stats: bool,
+    apply_in_place: bool,
+    stats: &mut [f64],
+) -> AnswersInTurn
+    ensures { λ r. ⌜ (inTurnSays r ≡ answersOf binary64 (now (file .entry)) «iid_count» «sid_count» «is_a1_counted» (now («iid_index» .entry)) (now («sid_index» .entry)) «animal_order» (now (val .entry)) (now (stats .entry)) (inTurn «use_stats» «apply_in_place»))
+        × (now (val .exit) ≡ valuesOf binary64 (now (file .entry)) «iid_count» «sid_count» «is_a1_counted» (now («iid_index» .entry)) (now («sid_index» .entry)) «animal_order» (now (val .entry)) (now (stats .entry)) (inTurn «use_stats» «apply_in_place»))
+        × (now (stats .exit) ≡ statsOf binary64 (now (file .entry)) «iid_count» «sid_count» «is_a1_counted» (now («iid_index» .entry)) (now («sid_index» .entry)) «animal_order» (now (val .entry)) (now (stats .entry)) (inTurn «use_stats» «apply_in_place»)) ⌝ }
+{
+    let missing: f64 = 0.0 / 0.0;
+    let reading = bed_read::reading::read_f64::read_no_alloc_f64(
+        file,
+        iid_count,
+        sid_count,
+        is_a1_counted,
+        iid_index,
+        sid_index,
+        missing,
+        animal_order,
+        val,
+    );
+    let iids = iid_index.len();
+    let sids = sid_index.len();
+    let standardising = standardise::impute_and_zero_mean_snps_f64(
+        val,
+        iids,
+        sids,
+        animal_order,
+        apply_in_place,
+        use_stats,
+        stats,
+    );
+    AnswersInTurn {
+        reading: reading,
+        standardising: standardising,
+    }
 }

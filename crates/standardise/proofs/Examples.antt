@@ -1,17 +1,25 @@
--- The theorems' hypotheses can be met: two animals, whose calls at one marker are 0 and 2.
-use mathlib.Core.Path.{_≡_, refl}
-use mathlib.Core.Bool.{true, false}
+-- The theorems' hypotheses can be met: two animals, whose calls at one marker are 0 and 2; three animals at three markers, of which two are refused.
+use mathlib.Core.Path.{_≡_, refl, ap}
+use mathlib.Core.Bool.{Bool, true, false}
 use mathlib.Core.List.{List, [], _∷_}
-use mathlib.Core.Logic.{inr}
+use mathlib.Core.Logic.{_⊎_, inl, inr}
 use Prim.Native.Nat.{ℕ, zero, suc, _-_, _<_}
 use native.Mathlib.Nat.{le-of-suc-le-suc, not-suc-le-zero}
 use native.Mathlib.Omega.{arith}
 use lib.Dec.{lit≤}
-use lib.Ieee.{Float, nan, binary64}
-use Rattle.statistics.specs.Statistics.{plusZero}
+use lib.IntN.{pos}
+use lib.ListN.{getD}
+use lib.Ieee.{Float, nan, inf, binary64, add, mul, div, isNan}
+use Rattle.statistics.specs.declared.MarkerStats.{MarkerStats}
+use Rattle.statistics.specs.declared.MarkerStats.the-variants.{NoIndividuals, IllegalSnpMean}
+use Rattle.statistics.specs.Statistics.{plusZero, one, counted, accumulated, mean, noValue, markerStats, foundFor}
+use Rattle.genotype.specs.Answer.{done, refused, isDone, ifDone}
+use Rattle.genotype.specs.Matrix.{matrixPlace}
 use Rattle.statistics.specs.Calls.{two, IsCall, isZero, isTwo, total, SumsAgree}
-use Rattle.standardise.specs.Standardised.{value, standardiseAnswer, laterStats, laterValues}
-use Rattle.standardise.proofs.Theorems.{orders-same-answer, orders-same-stats, reordered-same-answer, reordered-same-stats, reordered-moved-values}
+use Rattle.standardise.specs.Standardised.{markerAnswer, markersAnswer, value, found, lowestRefused, standardiseAnswer, laterStats, laterValues}
+use Rattle.standardise.proofs.Theorems.{orders-same-answer, orders-same-stats, one-marker-same-cells, one-marker-same-answer, one-marker-same-stats, one-marker-same-values, reordered-same-answer, reordered-same-stats, reordered-moved-values}
+use Rattle.standardise.specs.Refused.{IsFound, IsLowestRefused}
+use Rattle.standardise.proofs.Refused.{lowest-refused, is-lowest-refused, none-is-refused, done-all-found, number-told, is-13, is-14, lent-not-refused, refused-keeps-values, refused-keeps-stats}
 
 abbrev pub herd : List Float
 herd = plusZero ∷ two ∷ []
@@ -49,6 +57,19 @@ calls : (i m : ℕ) → i < 2 → m < 1 → IsCall (value true 2 1 herd i m)
 unfolding value
 calls = both (λ i m. IsCall (value true 2 1 herd i m)) isZero isTwo
 
+-- one marker, in either order
+pub one-marker-values : laterValues binary64 true 2 1 herd false stats true ≡ laterValues binary64 false 2 1 herd false stats true
+one-marker-values = one-marker-same-values binary64 2 1 herd false stats (lit≤ tt) true
+
+pub one-marker-cell : value true 2 1 (laterValues binary64 true 2 1 herd false stats true) 1 0 ≡ value false 2 1 (laterValues binary64 false 2 1 herd false stats true) 1 0
+one-marker-cell = one-marker-same-cells binary64 2 1 herd herd false stats refl cells (lit≤ tt) true 1 0 (lit≤ tt) (lit≤ tt)
+
+pub one-marker-answer : standardiseAnswer binary64 true 2 1 herd false stats ≡ standardiseAnswer binary64 false 2 1 herd false stats
+one-marker-answer = one-marker-same-answer binary64 2 1 herd false stats (lit≤ tt)
+
+pub one-marker-stats : laterStats binary64 true 2 1 herd false stats ≡ laterStats binary64 false 2 1 herd false stats
+one-marker-stats = one-marker-same-stats binary64 2 1 herd false stats (lit≤ tt)
+
 pub orders-answer : standardiseAnswer binary64 true 2 1 herd false stats ≡ standardiseAnswer binary64 false 2 1 herd false stats
 orders-answer = orders-same-answer binary64 2 1 herd herd false stats refl cells
 
@@ -63,3 +84,118 @@ swapped-stats = reordered-same-stats binary64 true 2 1 herd swapped false stats 
 
 pub swapped-values : value true 2 1 (laterValues binary64 true 2 1 swapped false stats true) 0 0 ≡ value true 2 1 (laterValues binary64 true 2 1 herd false stats true) 1 0
 swapped-values = reordered-moved-values binary64 true 2 1 herd swapped false stats other others refl moved (inr (lit≤ tt, calls)) true 0 0 (omega arith) (omega arith)
+
+-- ---- three markers, of which the last two are refused: 1, 1, NaN; no value; +infinity, −infinity, NaN, whose mean is NaN
+abbrev pub mixed : Bool → List Float
+mixed true = one ∷ nan ∷ inf false ∷ one ∷ nan ∷ inf true ∷ nan ∷ nan ∷ nan ∷ []
+mixed false = one ∷ one ∷ nan ∷ nan ∷ nan ∷ nan ∷ inf false ∷ inf true ∷ nan ∷ []
+
+abbrev pub six : List Float
+six = one ∷ two ∷ nan ∷ plusZero ∷ two ∷ one ∷ []
+
+mixed-found : (order : Bool) → IsFound (found binary64 order 3 3 (mixed order) false six 0)
+unfolding found foundFor markerStats noValue accumulated counted mean value matrixPlace isNan add mul div
+mixed-found true = (_, refl)
+mixed-found false = (_, refl)
+
+mixed-13 : (order : Bool) → found binary64 order 3 3 (mixed order) false six 1 ≡ NoIndividuals
+unfolding found foundFor markerStats noValue value matrixPlace isNan
+mixed-13 true = refl
+mixed-13 false = refl
+
+mixed-14 : (order : Bool) → found binary64 order 3 3 (mixed order) false six 2 ≡ IllegalSnpMean
+unfolding found foundFor markerStats noValue accumulated counted mean value matrixPlace isNan add mul div
+mixed-14 true = refl
+mixed-14 false = refl
+
+-- the first marker by itself is not refused
+abbrev pub firstColumn : List Float
+firstColumn = one ∷ one ∷ nan ∷ []
+
+first-found : (m : ℕ) → m < 1 → IsFound (found binary64 true 3 1 firstColumn false six m)
+unfolding found foundFor markerStats noValue accumulated counted mean value matrixPlace isNan add mul div
+first-found zero h = (_, refl)
+first-found (suc m) h = absurd (omega arith)
+
+pub first-answer : lowestRefused binary64 true 3 1 firstColumn false six ≡ done []
+first-answer = none-is-refused binary64 true 3 1 firstColumn false six first-found
+
+pub first-is-found : IsFound (found binary64 true 3 1 firstColumn false six 0)
+unfolding isDone
+first-is-found = done-all-found binary64 true 3 1 firstColumn false six (ap isDone first-answer) 0 (lit≤ tt)
+
+-- marker 1 is the lowest of the two that are refused
+pub mixed-answer : (order : Bool) → lowestRefused binary64 order 3 3 (mixed order) false six ≡ refused 13 (pos 1 ∷ [])
+unfolding markerAnswer
+mixed-answer order =
+    is-lowest-refused binary64 order 3 3 (mixed order) false six 13 1 (record {
+      in-matrix = lit≤ tt;
+      is-refused = at-13 (mixed-13 order);
+      lower-found = only-0 (mixed-found order);
+    })
+  where
+    only-0 : IsFound (found binary64 order 3 3 (mixed order) false six 0) → (j : ℕ) → j < 1 → IsFound (found binary64 order 3 3 (mixed order) false six j)
+    only-0 a zero h = a
+    only-0 a (suc j) h = absurd (omega arith)
+
+    at-13 : found binary64 order 3 3 (mixed order) false six 1 ≡ NoIndividuals → markerAnswer 1 (found binary64 order 3 3 (mixed order) false six 1) ≡ refused 13 (pos 1 ∷ [])
+    at-13 e = ap (markerAnswer 1) e
+
+pub mixed-lowest : (order : Bool) → (m : ℕ) × (pos 1 ∷ [] ≡ pos m ∷ []) × IsLowestRefused (found binary64 order 3 3 (mixed order) false six) 3 13 m
+mixed-lowest order = lowest-refused binary64 order 3 3 (mixed order) false six 13 (pos 1 ∷ []) (mixed-answer order)
+
+-- marker 1 has no value, and so is refused by 13
+pub mixed-no-value : (order : Bool) (i : ℕ) → i < 3 → isNan (value order 3 3 (mixed order) i 1) ≡ true
+mixed-no-value order = is-13 binary64 order 3 3 (mixed order) six 1 .0 (mixed-13 order)
+
+pub mixed-13-again : (order : Bool) → found binary64 order 3 3 (mixed order) false six 1 ≡ NoIndividuals
+mixed-13-again order = is-13 binary64 order 3 3 (mixed order) six 1 .1 (mixed-no-value order)
+
+-- marker 2 has a value and a NaN mean, and so is refused by 14
+mixed-value-0 : (order : Bool) → isNan (value order 3 3 (mixed order) 0 2) ≡ false
+unfolding value matrixPlace isNan
+mixed-value-0 true = refl
+mixed-value-0 false = refl
+
+pub mixed-14-again : (order : Bool) → found binary64 order 3 3 (mixed order) false six 2 ≡ IllegalSnpMean
+mixed-14-again order =
+    let t = is-14 binary64 order 3 3 (mixed order) six 2 in
+    t .1 0 (lit≤ tt) (mixed-value-0 order) (t .0 (mixed-14 order) .1)
+
+-- by itself it is the lowest
+abbrev pub infinite : List Float
+infinite = inf false ∷ inf true ∷ nan ∷ []
+
+pub infinite-answer : (order : Bool) → lowestRefused binary64 order 3 1 infinite false six ≡ refused 14 (pos 0 ∷ [])
+unfolding lowestRefused markersAnswer markerAnswer ifDone isDone found foundFor markerStats noValue accumulated counted mean value matrixPlace isNan add mul div
+infinite-answer true = refl
+infinite-answer false = refl
+
+only-answer : (order : Bool) → markerAnswer 0 (found binary64 order 3 1 infinite false six 0) ≡ refused 14 (pos 0 ∷ [])
+unfolding markerAnswer found foundFor markerStats noValue accumulated counted mean value matrixPlace isNan add mul div
+only-answer true = refl
+only-answer false = refl
+
+pub infinite-is-14 : (order : Bool) → found binary64 order 3 1 infinite false six 0 ≡ IllegalSnpMean
+infinite-is-14 order = by-number (number-told 0 (found binary64 order 3 1 infinite false six 0) 14 (pos 0 ∷ []) (only-answer order))
+  where
+    by-number : {x : MarkerStats} → ((_≡_ {A = ℕ} 14 13) × (x ≡ NoIndividuals)) ⊎ ((_≡_ {A = ℕ} 14 14) × (x ≡ IllegalSnpMean)) → x ≡ IllegalSnpMean
+    by-number (inl (n, e)) = absurd (omega arith)
+    by-number (inr (n, e)) = e
+
+-- with lent statistics neither is refused
+pub mixed-lent : (order : Bool) → lowestRefused binary64 order 3 3 (mixed order) true six ≡ done []
+mixed-lent order = lent-not-refused binary64 order 3 3 (mixed order) six
+
+-- the NaN of the marker that 14 refuses stays, and so do its statistics
+pub mixed-value : (order apply : Bool) → value order 3 3 (laterValues binary64 order 3 3 (mixed order) false six apply) 2 2 ≡ nan
+unfolding value matrixPlace
+mixed-value true apply = refused-keeps-values binary64 true 3 3 (mixed true) false six 2 (lit≤ tt) (inr (mixed-14 true)) apply 2 (lit≤ tt)
+mixed-value false apply = refused-keeps-values binary64 false 3 3 (mixed false) false six 2 (lit≤ tt) (inr (mixed-14 false)) apply 2 (lit≤ tt)
+
+pub mixed-deviation : (order : Bool) → getD (laterStats binary64 order 3 3 (mixed order) false six) 5 nan ≡ one
+mixed-deviation order = refused-keeps-stats binary64 order 3 3 (mixed order) false six 2 (lit≤ tt) (inr (mixed-14 order)) 1 (lit≤ tt)
+
+-- and the statistics of the one that 13 refuses
+pub mixed-mean : (order : Bool) → getD (laterStats binary64 order 3 3 (mixed order) false six) 2 nan ≡ nan
+mixed-mean order = refused-keeps-stats binary64 order 3 3 (mixed order) false six 1 (lit≤ tt) (inl (mixed-13 order)) 0 (lit≤ tt)

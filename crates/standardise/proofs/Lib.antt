@@ -7,4 +7,5 @@ pub mod TileLaws
 pub mod ApplyLaws
 pub mod CallLaws
 pub mod Theorems
+pub mod Refused
 pub mod Examples

@@ -3,18 +3,22 @@ use mathlib.Core.Path.{_≡_, refl, sym, ap, _∙_}
 use mathlib.Core.Bool.{Bool, true, false, _&&_, cond, true≢false}
 use mathlib.Core.List.{List, [], _∷_}
 use mathlib.Core.Logic.{_⊎_, inl, inr}
-use Prim.Native.Nat.{ℕ, zero, suc, _+_, _*_, _<_}
+use Prim.Native.Nat.{ℕ, zero, suc, _+_, _*_, _<_, _≤_}
 use native.Mathlib.Omega.{arith}
+use borrow.Author.Tests.{eqb-true}
 use lib.Dec.{leb, eqb}
 use lib.IntN.{pos}
 use lib.ListN.{length, getD}
+use lib.Seq.{ext-getD}
 use lib.Ieee.{Float, nan, Format}
 use Rattle.genotype.specs.Answer.{Answer, done, refused, check, checkCount, countLimit, isDone, ifDone}
 use Rattle.genotype.specs.Value.{float, values, valueOf}
 use Rattle.genotype.specs.Matrix.{matrixPlace, matrix}
-use Rattle.genotype.proofs.MatrixLaws.{getD-matrix, matrix-ext}
+use Rattle.genotype.proofs.AnswerLaws.{check-done, count-done, old-if-not}
+use Rattle.genotype.proofs.MatrixLaws.{length-matrix, getD-matrix, matrix-ext}
+use Rattle.genotype.proofs.Tests.{by-test}
 use Rattle.statistics.specs.declared.MarkerStats.{MarkerStats}
-use Rattle.statistics.specs.declared.MarkerStats.the-variants.{NoIndividuals}
+use Rattle.statistics.specs.declared.MarkerStats.the-variants.{Found, NoIndividuals, IllegalSnpMean}
 use Rattle.statistics.specs.Statistics.{statsPerMarker, statsAt, foundFor, markerStats}
 use Rattle.statistics.specs.Calls.{IsCall, isZero, isOne, isTwo, isMissing, FewEnough, SumsAgree}
 use Rattle.statistics.proofs.CountLaws.{foundFor-ext}
@@ -61,7 +65,7 @@ module _ (f : Format) (iids sids : ℕ) (order order′ : Bool) (val val′ : Li
         ∙ ap (λ (x : List Float). ifDone (bufferChecks iids sids val′ stats (done [])) x stats) new-stats-same
 
 -- whether a call changes values
-abbrev changes : Format → Bool → ℕ → ℕ → List Float → Bool → List Float → Bool → Bool
+abbrev pub changes : Format → Bool → ℕ → ℕ → List Float → Bool → List Float → Bool → Bool
 changes f order iids sids val useStats stats apply = isDone (bufferChecks iids sids val stats (done [])) && (apply && mayChange f order iids sids val useStats stats)
 
 -- a value once the buffers are checked, and afterwards
@@ -78,7 +82,7 @@ module _ (f : Format) (order : Bool) (iids sids : ℕ) (val : List Float) (useSt
       go true = getD-matrix iids sids i m hi hm order new nan
       go false = refl
 
-  later-value : value order iids sids (laterValues f order iids sids val useStats stats apply) i m
+  pub later-value : value order iids sids (laterValues f order iids sids val useStats stats apply) i m
       ≡ laterValue f (changes f order iids sids val useStats stats apply) (found f order iids sids val useStats stats m) (value order iids sids val i m)
   unfolding laterValues laterValue
   later-value = go (isDone (bufferChecks iids sids val stats (done [])))
@@ -161,6 +165,109 @@ unfolding standardiseAnswer laterValues newValues mayChange bufferChecks checkCo
 rows-unchanged f iids sids val useStats stats apply e =
     refused-kept (leb iids countLimit) (leb sids countLimit) (eqb (iids * sids) (length val)) (eqb (statsPerMarker * sids) (length stats))
     (lowestRefused f true iids sids val useStats stats) apply (matrix true iids sids (λ i m. applied f (found f true iids sids val useStats stats m) (value true iids sids val i m))) val e
+
+-- ---- 2. at most one marker. "The Rust picks one by strides; picking by order gives the same answers.": such a matrix is one list in both orders, and the
+-- two standardisers leave the same at a refusal too
+pub either-same : (b : Bool) (v : Float) → cond b v v ≡ v
+either-same true v = refl
+either-same false v = refl
+
+only-marker : (g : ℕ → MarkerStats) (sids m : ℕ) → sids ≤ 1 → m < sids → isDone (markersAnswer g sids) ≡ isDone (markerAnswer m (g m))
+unfolding markersAnswer ifDone isDone
+only-marker g zero m o h = absurd (omega arith)
+only-marker g (suc zero) zero o h = refl
+only-marker g (suc zero) (suc m) o h = absurd (omega arith)
+only-marker g (suc (suc n)) m o h = absurd (omega arith)
+
+-- a marker that is refused keeps its value, whether or not values may change
+only-cell : (f : Format) (m : ℕ) (b apply : Bool) (x : MarkerStats) (v : Float) → laterValue f (b && (apply && isDone (markerAnswer m x))) x v ≡ laterValue f (b && (apply && true)) x v
+unfolding laterValue applied markerAnswer isDone
+only-cell f m b apply (Found s) v = refl
+only-cell f m b apply NoIndividuals v = either-same (b && (apply && false)) v ∙ sym (either-same (b && (apply && true)) v)
+only-cell f m b apply IllegalSnpMean v = either-same (b && (apply && false)) v ∙ sym (either-same (b && (apply && true)) v)
+
+-- the same place in both orders
+only-place : (iids sids i m : ℕ) → sids ≤ 1 → m < sids → matrixPlace true iids sids i m ≡ matrixPlace false iids sids i m
+unfolding matrixPlace
+only-place iids zero i m o h = absurd (omega arith)
+only-place iids (suc zero) i zero o h = omega arith
+only-place iids (suc zero) i (suc m) o h = absurd (omega arith)
+only-place iids (suc (suc n)) i m o h = absurd (omega arith)
+
+-- every place is that of an animal at the only marker
+place-of : (iids sids p : ℕ) → sids ≤ 1 → p < iids * sids → (p ≡ matrixPlace true iids sids p 0) × (p ≡ matrixPlace false iids sids p 0) × (p < iids) × (0 < sids)
+unfolding matrixPlace
+place-of iids zero p o h = absurd (omega arith)
+place-of iids (suc zero) p o h = (omega arith, omega arith, omega arith, omega arith)
+place-of iids (suc (suc n)) p o h = absurd (omega arith)
+
+-- the value buffer keeps its length
+long-enough : (iids sids : ℕ) (val stats : List Float) → isDone (bufferChecks iids sids val stats (done [])) ≡ true → iids * sids ≡ length val
+unfolding bufferChecks
+long-enough iids sids val stats e = eqb-true (iids * sids) (length val) (check-done (eqb (iids * sids) (length val)) 15 _ (count-done sids _ (count-done iids _ e .1) .1) .0)
+
+module _ (f : Format) (order : Bool) (iids sids : ℕ) (val : List Float) (useStats : Bool) (stats : List Float) (apply : Bool) where
+  pub same-length : length (laterValues f order iids sids val useStats stats apply) ≡ length val
+  unfolding laterValues newValues ifDone
+  same-length = checked (isDone (bufferChecks iids sids val stats (done []))) refl
+    where
+      new : ℕ → ℕ → Float
+      new i m = applied f (found f order iids sids val useStats stats m) (value order iids sids val i m)
+
+      chosen : (t : Bool) → iids * sids ≡ length val → length (cond t (matrix order iids sids new) val) ≡ length val
+      chosen true l = length-matrix order iids sids new ∙ l
+      chosen false l = refl
+
+      checked : (b : Bool) → isDone (bufferChecks iids sids val stats (done [])) ≡ b
+          → length (cond b (cond (apply && mayChange f order iids sids val useStats stats) (matrix order iids sids new) val) val) ≡ length val
+      checked true e = chosen (apply && mayChange f order iids sids val useStats stats) (long-enough iids sids val stats e)
+      checked false e = refl
+
+-- one matrix of at most one marker in animal order and in marker order
+module _ (f : Format) (iids sids : ℕ) (rows cols : List Float) (useStats : Bool) (stats : List Float) (l : length rows ≡ length cols)
+    (cells : (i m : ℕ) → i < iids → m < sids → value true iids sids rows i m ≡ value false iids sids cols i m) (one : sids ≤ 1) where
+  may-one : (m : ℕ) → m < sids → mayChange f true iids sids rows useStats stats ≡ isDone (markerAnswer m (found f true iids sids rows useStats stats m))
+  unfolding mayChange lowestRefused
+  may-one m hm = only-marker (found f true iids sids rows useStats stats) sids m one hm
+
+  -- `orders-same-values`, and nothing is asked of the answer
+  pub one-marker-same-cells : (apply : Bool) (i m : ℕ) → i < iids → m < sids
+      → value true iids sids (laterValues f true iids sids rows useStats stats apply) i m ≡ value false iids sids (laterValues f false iids sids cols useStats stats apply) i m
+  one-marker-same-cells apply i m hi hm =
+      let b = isDone (bufferChecks iids sids rows stats (done [])) in
+      later-value f true iids sids rows useStats stats apply i m hi hm
+      ∙ same-cell f (λ j. b && (apply && may-one m hm j)) refl refl
+      ∙ only-cell f m b apply (found f true iids sids rows useStats stats m) (value true iids sids rows i m)
+      ∙ same-cell f (λ j. isDone (checks-same iids sids rows cols stats (done []) l j) && (apply && sym (may-columns f iids sids cols useStats stats) j))
+      (orders-found f iids sids rows cols useStats stats l cells m hm) (cells i m hi hm)
+      ∙ sym (later-value f false iids sids cols useStats stats apply i m hi hm)
+
+-- it is one list
+module _ (f : Format) (iids sids : ℕ) (val : List Float) (useStats : Bool) (stats : List Float) (one : sids ≤ 1) where
+  same-cells : (i m : ℕ) → i < iids → m < sids → value true iids sids val i m ≡ value false iids sids val i m
+  unfolding value
+  same-cells i m hi hm = ap (λ (p : ℕ). getD val p nan) (only-place iids sids i m one hm)
+
+  pub one-marker-same-answer : standardiseAnswer f true iids sids val useStats stats ≡ standardiseAnswer f false iids sids val useStats stats
+  one-marker-same-answer = orders-same-answer f iids sids val val useStats stats refl same-cells
+
+  pub one-marker-same-stats : laterStats f true iids sids val useStats stats ≡ laterStats f false iids sids val useStats stats
+  one-marker-same-stats = orders-same-stats f iids sids val val useStats stats refl same-cells
+
+  pub one-marker-same-values : (apply : Bool) → laterValues f true iids sids val useStats stats apply ≡ laterValues f false iids sids val useStats stats apply
+  unfolding laterValues value
+  one-marker-same-values apply =
+      by-test (isDone (bufferChecks iids sids val stats (done [])))
+      (λ d. ext-getD nan (laterValues f true iids sids val useStats stats apply) (laterValues f false iids sids val useStats stats apply)
+      (same-length f true iids sids val useStats stats apply ∙ sym (same-length f false iids sids val useStats stats apply))
+      (λ p h. let l = long-enough iids sids val stats d in
+      let k = same-length f true iids sids val useStats stats apply in
+      let (t, u, hi, hm) = place-of iids sids p one (omega arith) in
+      ap (λ (q : ℕ). getD (laterValues f true iids sids val useStats stats apply) q nan) t
+      ∙ one-marker-same-cells f iids sids val val useStats stats refl same-cells one apply p 0 hi hm
+      ∙ sym (ap (λ (q : ℕ). getD (laterValues f false iids sids val useStats stats apply) q nan) u)))
+      (λ d. old-if-not (bufferChecks iids sids val stats (done [])) (newValues f true iids sids val useStats stats apply) val d
+      ∙ sym (old-if-not (bufferChecks iids sids val stats (done [])) (newValues f false iids sids val useStats stats apply) val d))
 
 -- ---- 3. animals reordered
 -- row k of the one matrix is row π k of the other, and π names each animal once

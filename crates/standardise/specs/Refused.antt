@@ -1,0 +1,24 @@
+-- Words of the theorems on refused markers. Definitions only.
+use mathlib.Core.Path.{_≡_}
+use mathlib.Core.List.{[], _∷_}
+use mathlib.Core.Logic.{_⊎_}
+use Prim.Native.Nat.{ℕ, _<_}
+use lib.IntN.{pos}
+use Rattle.genotype.specs.Answer.{refused}
+use Rattle.statistics.specs.declared.Stats.{Stats}
+use Rattle.statistics.specs.declared.MarkerStats.{MarkerStats}
+use Rattle.statistics.specs.declared.MarkerStats.the-variants.{Found, NoIndividuals, IllegalSnpMean}
+use Rattle.standardise.specs.Standardised.{markerAnswer}
+
+-- a marker that is refused, for 13 or for 14, and one that is not
+abbrev pub IsRefused : MarkerStats → Type 0
+IsRefused x = (x ≡ NoIndividuals) ⊎ (x ≡ IllegalSnpMean)
+
+abbrev pub IsFound : MarkerStats → Type 0
+IsFound x = (s : Stats) × (x ≡ Found s)
+
+-- "lowest refused marker": of the markers below sids, m is refused with number k, and every lower one is not refused
+pub record IsLowestRefused (found : ℕ → MarkerStats) (sids k m : ℕ) : Type 0 where
+  pub in-matrix : m < sids
+  pub is-refused : markerAnswer m (found m) ≡ refused k (pos m ∷ [])
+  pub lower-found : (j : ℕ) → j < m → IsFound (found j)
