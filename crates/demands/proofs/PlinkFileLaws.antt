@@ -19,7 +19,7 @@ use Rattle.genotype.specs.Value.{Width, i8, float, sameInt, valueOf, codeOf, sa
 use Rattle.genotype.proofs.CodeLaws.{Codes}
 use Rattle.genotype.proofs.PlinkLaws.{decoding-is-plink}
 use Rattle.genotype.proofs.Tabulate.{length-tabulate, getD-tabulate}
-use Rattle.genotype.proofs.Tests.{by-lt}
+use Rattle.genotype.proofs.Tests.{both-true, by-lt}
 use Rattle.genotype.proofs.ValueLaws.{zero-code, one-code, two-code}
 use Rattle.demands.specs.PlinkFile.{copiesBy, Apart, StandsIn}
 
