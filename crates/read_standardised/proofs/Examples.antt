@@ -2,13 +2,13 @@
 use mathlib.Core.Path.{_≡_, refl, sym, subst}
 use mathlib.Core.Bool.{Bool, true, false}
 use mathlib.Core.List.{List, [], _∷_}
-use Prim.Native.Nat.{ℕ, _-_, _^_, _≤_}
+use Prim.Native.Nat.{ℕ, _-_, _*_, _^_, _≤_, _<_}
 use native.Mathlib.Omega.{arith}
 use lib.Dec.{T, lit≤}
 use lib.IntN.{ℤ, pos, negsuc}
 use lib.ListN.{length, getD}
 use lib.Ieee.{Float, nan, fin, binary64, fits, isNan}
-use Rattle.genotype.specs.Answer.{refused, isDone, ifDone}
+use Rattle.genotype.specs.Answer.{done, refused, isDone, ifDone}
 use Rattle.genotype.specs.Block.{blockWidth, fileLength}
 use Rattle.genotype.specs.Entry.{isGood, means, firstBad}
 use Rattle.genotype.specs.Lists.{tabulate}
@@ -18,7 +18,7 @@ use Rattle.genotype.specs.Value.{values, valueOf}
 use Rattle.statistics.specs.Statistics.{noValue, markerStats, foundFor}
 use Rattle.standardise.specs.Standardised.{value, markerAnswer, markersAnswer, found, lowestRefused}
 use Rattle.bed_read.specs.Calls.{block, codeIn, callCode}
-use Rattle.bed_read.specs.Reading.{checkLists, readCode, codesRead, valuesRead}
+use Rattle.bed_read.specs.Reading.{checkLists, readAnswer, readCode, codesRead, valuesRead}
 use Rattle.bed_file.specs.File.{isMode1, items, blocks, checkFile, acceptAnswer}
 use Rattle.read_standardised.specs.Demand.{IsAccepted, CallsAgree, GoodList, meant, NamesEachOnce, RightLengths, Way, answersOf, valuesOf, statsOf}
 use Rattle.read_standardised.specs.Alike.{Alike, AlikeBuffers, OfFormat}
@@ -28,7 +28,7 @@ use Rattle.canonical.specs.Canonical.{fileOrder, canonicalFile, canonicalAnswer
 use Rattle.bed_write.specs.Writing.{joined, bedFile}
 use Rattle.read_standardised.proofs.Alike.{alike-is-same, same-buffers-alike}
 use Rattle.read_standardised.proofs.Computed.{allBelow, all-below, namesTest, names-by-test}
-use Rattle.read_standardised.proofs.Demand3.{canonical-is-accepted, canonical-is-itself, calls-to-canonical, canonical-to-calls, files-same-stats, files-same-answers, files-same-values, lists-same-stats, lists-same-answers, lists-moved-values, files-alike-stats, files-equal-answers, files-alike-values, lists-alike-stats, lists-equal-answers, lists-alike-values}
+use Rattle.read_standardised.proofs.Demand3.{canonical-is-done, canonical-is-accepted, canonical-is-itself, calls-to-canonical, canonical-to-calls, files-same-stats, files-same-answers, files-same-values, files-read, lists-same-stats, lists-same-answers, lists-moved-values, lists-read, lists-inside, files-alike-stats, files-equal-answers, files-alike-values, lists-alike-stats, lists-equal-answers, lists-alike-values}
 
 -- marker 1 all missing, and the same with other pads
 abbrev pub M : List ℕ
@@ -120,6 +120,9 @@ modes-calls = canonical-to-calls F 5 2 F-accepted short out out-long out out-lon
 pub modes-back : canonicalBuffer F 5 2 out ≡ canonicalBuffer inMode0 5 2 out
 modes-back = calls-to-canonical F 5 2 F-accepted short out out-long out out-long inMode0 F0-accepted modes-calls
 
+pub mode-0-done : canonicalAnswer inMode0 5 2 (length out) ≡ done []
+mode-0-done = canonical-is-done inMode0 5 2 F0-accepted short out out-long
+
 pub again : canonicalBuffer (canonicalBuffer inMode0 5 2 out) 5 2 out ≡ canonicalBuffer inMode0 5 2 out
 again = canonical-is-itself inMode0 5 2 F0-accepted short out out-long out out-long
 
@@ -178,6 +181,17 @@ module _ (flag order : Bool) (way : Way) where
 
   pub moved-answers : answersOf binary64 M 5 2 flag moved markers order val stats way ≡ answersOf binary64 M 5 2 flag (fileOrder 5) markers order val stats way
   moved-answers = lists-same-answers M 5 2 M-accepted (lit≤ tt) flag moved markers moved-names markers-good order val stats lengths way
+
+  -- the readings are done, and every place named is inside its buffer
+  pub modes-read : readAnswer F 5 2 moved markers (length val) ≡ done []
+  modes-read = files-read F inMode0 5 2 F-accepted F0-accepted short out out out-long out-long modes-same flag moved markers (moved-names .good-list) markers-good order val stats lengths way
+
+  pub moved-read : readAnswer M 5 2 moved markers (length val) ≡ done []
+  moved-read = lists-read M 5 2 M-accepted (lit≤ tt) flag moved markers moved-names markers-good order val stats lengths way
+
+  pub moved-inside : (length (valuesOf binary64 F 5 2 flag moved markers order val stats way) ≡ length moved * length markers)
+      × (length (valuesOf binary64 F 5 2 flag (fileOrder 5) markers order val stats way) ≡ length (fileOrder 5) * length markers) × (meant 5 moved 0 < length (fileOrder 5))
+  moved-inside = lists-inside F 5 2 F-accepted (lit≤ tt) flag moved markers moved-names markers-good order val stats lengths way 0 (lit≤ tt)
 
   -- entry 0 is −1 and means animal 4
   pub moved-value : value order 5 2 (valuesOf binary64 F 5 2 flag moved markers order val stats way) 0 1

@@ -13,11 +13,11 @@ use lib.Ieee.{Float, nan, inf, binary64, add, mul, div, isNan}
 use Rattle.statistics.specs.declared.MarkerStats.{MarkerStats}
 use Rattle.statistics.specs.declared.MarkerStats.the-variants.{NoIndividuals, IllegalSnpMean}
 use Rattle.statistics.specs.Statistics.{plusZero, one, counted, accumulated, mean, noValue, markerStats, foundFor}
-use Rattle.genotype.specs.Answer.{done, refused, isDone, ifDone}
+use Rattle.genotype.specs.Answer.{Answer, done, refused, isDone, ifDone}
 use Rattle.genotype.specs.Matrix.{matrixPlace}
 use Rattle.statistics.specs.Calls.{two, IsCall, isZero, isTwo, total, SumsAgree}
-use Rattle.standardise.specs.Standardised.{markerAnswer, markersAnswer, value, found, lowestRefused, standardiseAnswer, laterStats, laterValues}
-use Rattle.standardise.proofs.Theorems.{orders-same-answer, orders-same-stats, one-marker-same-cells, one-marker-same-answer, one-marker-same-stats, one-marker-same-values, reordered-same-answer, reordered-same-stats, reordered-moved-values}
+use Rattle.standardise.specs.Standardised.{markerAnswer, markersAnswer, bufferChecks, value, found, lowestRefused, standardiseAnswer, laterStats, laterValues}
+use Rattle.standardise.proofs.Theorems.{orders-same-answer, orders-same-stats, orders-same-values, rows-unchanged, one-marker-same-cells, one-marker-same-answer, one-marker-same-stats, one-marker-same-values, reordered-same-answer, reordered-same-stats, reordered-moved-values}
 use Rattle.standardise.specs.Refused.{IsFound, IsLowestRefused}
 use Rattle.standardise.proofs.Refused.{lowest-refused, is-lowest-refused, none-is-refused, done-all-found, number-told, is-13, is-14, lent-not-refused, refused-keeps-values, refused-keeps-stats}
 
@@ -75,6 +75,13 @@ orders-answer = orders-same-answer binary64 2 1 herd herd false stats refl cells
 
 pub orders-stats : laterStats binary64 true 2 1 herd false stats ≡ laterStats binary64 false 2 1 herd false stats
 orders-stats = orders-same-stats binary64 2 1 herd herd false stats refl cells
+
+herd-done : isDone (standardiseAnswer binary64 true 2 1 herd false stats) ≡ true
+unfolding standardiseAnswer lowestRefused markersAnswer markerAnswer ifDone isDone found foundFor markerStats noValue accumulated counted mean value matrixPlace isNan add mul div
+herd-done = refl
+
+pub orders-value : value true 2 1 (laterValues binary64 true 2 1 herd false stats true) 1 0 ≡ value false 2 1 (laterValues binary64 false 2 1 herd false stats true) 1 0
+orders-value = orders-same-values binary64 2 1 herd herd false stats refl cells herd-done true 1 0 (lit≤ tt) (lit≤ tt)
 
 pub swapped-answer : standardiseAnswer binary64 true 2 1 swapped false stats ≡ standardiseAnswer binary64 true 2 1 herd false stats
 swapped-answer = reordered-same-answer binary64 true 2 1 herd swapped false stats other others refl moved (inr (lit≤ tt, calls))
@@ -182,6 +189,14 @@ infinite-is-14 order = by-number (number-told 0 (found binary64 order 3 1 infini
     by-number : {x : MarkerStats} → ((_≡_ {A = ℕ} 14 13) × (x ≡ NoIndividuals)) ⊎ ((_≡_ {A = ℕ} 14 14) × (x ≡ IllegalSnpMean)) → x ≡ IllegalSnpMean
     by-number (inl (n, e)) = absurd (omega arith)
     by-number (inr (n, e)) = e
+
+-- in animal order no value changes
+mixed-not-done : isDone (standardiseAnswer binary64 true 3 3 (mixed true) false six) ≡ false
+unfolding standardiseAnswer isDone
+mixed-not-done = ap (λ (a : Answer). isDone (bufferChecks 3 3 (mixed true) six a)) (mixed-answer true)
+
+pub mixed-rows : laterValues binary64 true 3 3 (mixed true) false six true ≡ mixed true
+mixed-rows = rows-unchanged binary64 3 3 (mixed true) false six true mixed-not-done
 
 -- with lent statistics neither is refused
 pub mixed-lent : (order : Bool) → lowestRefused binary64 order 3 3 (mixed order) true six ≡ done []
