@@ -383,11 +383,11 @@ pub fn by_hand() -> Vec<Case> {
         piece(one, 0, 1, 1, TOP + 1, 1, 1, 1);
         piece(one, 0, 1, 1, 1, 1, 1, 2);
         piece(&[], 0, 1, 1, 0, 1, 1, 2);
-        // Products of -0: each sum starts at +0, so none is -0. Of a row and of a column; with a NaN; of two rows and columns.
+        // Products of -0: each sum starts at +0, so none is -0. Of one row or column; with a NaN; of two rows and columns.
         let of = |values: &[f64]| -> Vec<u64> { values.iter().flat_map(|v| v.to_le_bytes()).map(|b| b as u64).collect() };
+        let (rows, cols) = if name == "file_ata_piece" { (1, 2) } else { (2, 1) };
         for values in [[0.0, -1.0], [-0.0, 1.0], [-0.0, -0.0], [-0.0, f64::NAN]] {
-            piece(&of(&values), 0, 1, 2, 0, 2, 2, 4);
-            piece(&of(&values), 0, 2, 1, 0, 2, 2, 4);
+            piece(&of(&values), 0, rows, cols, 0, 2, 2, 4);
         }
         piece(&of(&[-0.0, 0.0, 2.0, -3.0]), 0, 2, 2, 0, 2, 2, 4);
         piece(&of(&[-0.0, 2.0, 0.0, -3.0]), 0, 2, 2, 0, 2, 2, 4);
@@ -414,6 +414,16 @@ fn features(case: &Case) -> Vec<u64> {
     case.args.iter().enumerate().map(of).collect()
 }
 
+/// How long a case is: the digits of its call, its numbers, its buffers' lengths and elements, and a space between two.
+fn size(case: &Case) -> usize {
+    let digits = |n: u64| format!("{n:x}").len();
+    let of = |arg: &Arg| match arg {
+        N(n) => 1 + digits(*n),
+        B(b) => 1 + digits(b.len() as u64) + b.iter().map(|&v| 1 + digits(v)).sum::<usize>(),
+    };
+    digits(case.call as u64 + 1) + case.args.iter().map(of).sum::<usize>()
+}
+
 /// The chosen cases, each once: those by hand, then of drawn ones the first of every sort.
 pub fn cases(seed: u64, folder: &Folder) -> Vec<Case> {
     let mut all: BTreeMap<String, Case> = BTreeMap::new();
@@ -438,7 +448,7 @@ pub fn cases(seed: u64, folder: &Folder) -> Vec<Case> {
             if let Some(outcome) = &want.outcome {
                 // A refusal once, an answer once for every sort.
                 let sort = if outcome.number == 0 { features(&case) } else { vec![] };
-                let length = case.line().len();
+                let length = size(&case);
                 if length < 260 && (length >= 60 || CALLS[case.call].1.len() < 4) {
                     sorts.entry((outcome.number, want.named, sort)).or_insert(case);
                 }
@@ -493,14 +503,28 @@ fn controls(folder: &Folder) -> Vec<String> {
         };
         let all = by_hand().into_iter().filter(|case| case.name() == *name).filter_map(done);
         let (case, right) = all.min_by_key(|(case, _)| case.line().len()).expect("a case that is done");
-        lines.extend(wrong(&case, &right).iter().map(|o| format!("2 {} {}", case.line(), o.line())));
+        lines.extend(wrong(&case, &right).iter().map(|o| format!("2 {}|{}", case.line(), o.line())));
     }
-    // Call 2 of 4 and 1 is answered 0 1 0. A word too few, one too many, no such call, a space too many, no digit, more than 64 bits; then a capital
-    // letter, a truth value of 2, and more than 64 places, with the right answers.
-    let of_div =
-        ["2 4 1 0 1", "2 4 1 0 1 0 0", "0 4 1 0 1 0", "17 4 1 0 1 0", "2 4 1 0  1 0", "2 4 1 0 1 0 ", "2 4 1 0 1 g", "2 4 1 0 10000000000000001 0"];
-    let long = format!("1 41{} 2 0 0", " 9".repeat(MOST + 1));
-    lines.extend(of_div.into_iter().chain(["1 1 A 1 0 0", "4 5 2 9 0 9 0 0 5", &long]).map(|line| format!("2 {line}")));
+    // Call 2 of 4 and 1 is answered 0 1 0: a word too few or too many, a section too few or too many, no such call, a space too many, no digit, a
+    // capital letter, more than 64 bits. A file of 65 bytes 9 is answered 2 0 0.
+    let div = "2 2 4 1 0 0 0 0||||||||0 1 0||";
+    let wrong = [
+        ("0 0 0 0|", "0 0 0|"),
+        ("0 0 0 0|", "0 0 0 0 0|"),
+        ("|0 1 0|", "|0 1|"),
+        ("|0 1 0|", "|0 1 0 0|"),
+        ("0 1 0||", "0 1 0|"),
+        ("0 1 0||", "0 1 0|||"),
+        ("2 2 4", "2 0 4"),
+        ("2 2 4", "2 17 4"),
+        ("|0 1 0", "|0  1 0"),
+        ("|0 1 0", "|0 1 0 "),
+        ("|0 1 0", "|0 1 g"),
+        ("2 2 4", "2 2 G4"),
+        ("|0 1 0", "|0 10000000000000001 0"),
+    ];
+    lines.extend(wrong.iter().map(|(right, wrong)| div.replacen(right, wrong, 1)));
+    lines.push(format!("2 1 0 0 0 0 0 0|{}|||||||2 0 0||", vec!["9"; MOST + 1].join(" ")));
     lines
 }
 
@@ -515,7 +539,7 @@ pub fn print(seed: u64, folder: &Folder) {
     for case in cases(seed, folder) {
         let want = want(&case, folder);
         if let Some(outcome) = want.outcome {
-            println!("{} {} {}", want.named.is_some() as u8, case.line(), outcome.line());
+            println!("{} {}|{}", want.named.is_some() as u8, case.line(), outcome.line());
         }
     }
     println!("# Controls: lines whose first word is 2 are wrong on purpose, each in one thing. A program that does not find that they differ compares nothing.");
@@ -534,25 +558,21 @@ pub fn rows(folder: &Folder) {
 
 /// A stored list, read back: each line's case and what stands for its answer.
 fn parse(line: &str) -> Option<(Case, String)> {
-    let word = |w| u64::from_str_radix(w, 16).ok().filter(|n| format!("{n:x}") == w);
-    let words: Vec<u64> = line.split(' ').map(word).collect::<Option<_>>()?;
-    let call = (words[1] as usize).checked_sub(1)?;
-    let mut at = 2;
-    let mut args = vec![];
-    for par in CALLS.get(call)?.1 {
-        let n = *words.get(at)?;
-        at += 1;
-        args.push(match par {
-            Par::Num => N(n),
-            _ if n > MOST as u64 => return None,
-            _ => {
-                let buffer = words.get(at..at + n as usize)?.to_vec();
-                at += n as usize;
-                B(buffer)
-            }
-        });
+    let word = |w: &str| u64::from_str_radix(w, 16).ok().filter(|n| format!("{n:x}") == w);
+    let section = |s: &str| if s.is_empty() { Some(vec![]) } else { s.split(' ').map(word).collect::<Option<Vec<u64>>>() };
+    let sections: Vec<Vec<u64>> = line.split('|').map(section).collect::<Option<_>>()?;
+    if sections.len() != 11 || sections[0].len() != 8 || sections[8].len() != 3 || sections.iter().any(|s| s.len() > MOST) {
+        return None;
     }
-    let answer = line.split(' ').skip(at).collect::<Vec<&str>>().join(" ");
+    let call = (sections[0][1] as usize).checked_sub(1)?;
+    let pars = CALLS.get(call)?.1;
+    let mut numbers = sections[0][2..].iter();
+    let of = |(par, section): (&Par, usize)| match par {
+        Par::Num => numbers.next().map(|&n| N(n)),
+        _ => Some(B(sections[section].clone())),
+    };
+    let args = pars.iter().zip(Case::sections(call)).map(of).collect::<Option<_>>()?;
+    let answer = line.split('|').skip(8).collect::<Vec<&str>>().join("|");
     Some((Case::new(CALLS[call].0, args), answer))
 }
 
