@@ -1,5 +1,5 @@
-// Each call of the C interface, with the numbers and the buffers of its line. The sections of a line: 1 bytes, 2 bytes that are written, 3 a list of i64, 4 a
-// second one or one that is written, 5 i8, 6 f64, 7 statistics; 8 the answer; 9 and 10 the written buffers as they are afterwards.
+// Each call of the C interface, with the numbers and the buffers of its line. The sections of a line: 1 bytes, 2 bytes that are written, 3 a list of
+// i64, 4 a second one or one that is written, 5 i8, 6 f64, 7 statistics; 8 the answer; 9 and 10 the written buffers as they are afterwards.
 use bed_answer::BedAnswer;
 use stored_list::buffers::bytes_at;
 use stored_list::buffers::f64s_at;
@@ -28,7 +28,7 @@ fn same_answer(words: &[usize; 715], answer: BedAnswer) -> bool {
     answer.second == signed(word(words, 8, 2))
 }
 
-// Calls on numbers alone. The root's bits are in the place of the first number.
+// Calls that write nothing. The root's bits are in the place of the first number.
 fn root_f64(n: Numbers) -> BedAnswer {
     let root = mungkelas::numbers::bed_root_f64(float_of(n.a));
     BedAnswer {
@@ -38,40 +38,51 @@ fn root_f64(n: Numbers) -> BedAnswer {
     }
 }
 
-pub(crate) fn numbers(call: usize, words: &[usize; 715]) -> bool {
-    let n = numbers_of(words);
-    let answer = match call {
-        2 => mungkelas::lists::bed_try_div_4(n.a, n.b),
-        4 => mungkelas::lists::bed_to_range(n.a, n.b == 1, n.c, n.d == 1, n.e),
-        _ => root_f64(n),
-    };
-    same_answer(words, answer)
-}
-
-pub(crate) fn open_and_check(words: &[usize; 715]) -> bool {
+fn open_and_check(words: &[usize; 715]) -> BedAnswer {
     let file = bytes_at(words, 1);
     let file_len = length(words, 1);
-    same_answer(
-        words,
-        mungkelas::reading::bed_open_and_check(&file[0..file_len]),
-    )
+    mungkelas::reading::bed_open_and_check(&file[0..file_len])
 }
 
-pub(crate) fn byte_span(words: &[usize; 715]) -> bool {
+fn byte_span(words: &[usize; 715], n: Numbers) -> BedAnswer {
     let index = i64s_at(words, 3);
     let index_len = length(words, 3);
-    let n = numbers_of(words);
-    same_answer(
-        words,
-        mungkelas::lists::bed_byte_span(n.a, &index[0..index_len]),
-    )
+    mungkelas::lists::bed_byte_span(n.a, &index[0..index_len])
+}
+
+fn number_answer(call: usize, words: &[usize; 715], n: Numbers) -> BedAnswer {
+    match call {
+        1 => open_and_check(words),
+        2 => mungkelas::lists::bed_try_div_4(n.a, n.b),
+        3 => byte_span(words, n),
+        4 => mungkelas::lists::bed_to_range(n.a, n.b == 1, n.c, n.d == 1, n.e),
+        _ => root_f64(n),
+    }
+}
+
+pub(crate) fn number(call: usize, words: &[usize; 715]) -> bool {
+    same_answer(words, number_answer(call, words, numbers_of(words)))
 }
 
 // Calls that make lists.
-fn list_answer(call: usize, n: Numbers, list: &mut [i64]) -> BedAnswer {
+fn index_vec(words: &[usize; 715], n: Numbers, list: &mut [i64]) -> BedAnswer {
+    let vec = i64s_at(words, 3);
+    let vec_len = length(words, 3);
+    mungkelas::lists::bed_index_vec(n.a, &vec[0..vec_len], list)
+}
+
+fn index_bool(words: &[usize; 715], n: Numbers, list: &mut [i64]) -> BedAnswer {
+    let marks = bytes_at(words, 1);
+    let marks_len = length(words, 1);
+    mungkelas::lists::bed_index_bool(n.a, &marks[0..marks_len], list)
+}
+
+fn list_answer(call: usize, words: &[usize; 715], n: Numbers, list: &mut [i64]) -> BedAnswer {
     match call {
         14 => mungkelas::lists::bed_index_all(n.a, list),
         15 => mungkelas::lists::bed_index_one(n.a, signed(n.b), list),
+        16 => index_vec(words, n, list),
+        17 => index_bool(words, n, list),
         18 => mungkelas::lists::bed_index_range(n.a, n.b == 1, n.c, n.d == 1, n.e, list),
         _ => mungkelas::lists::bed_index_slice(
             n.a,
@@ -85,42 +96,14 @@ fn list_answer(call: usize, n: Numbers, list: &mut [i64]) -> BedAnswer {
 }
 
 fn list_made(call: usize, words: &[usize; 715], list: &mut [i64]) -> bool {
-    let answer = list_answer(call, numbers_of(words), list);
+    let answer = list_answer(call, words, numbers_of(words), list);
     same_answer(words, answer) && same_i64s(words, 9, list)
 }
 
-pub(crate) fn index(call: usize, words: &[usize; 715]) -> bool {
+pub(crate) fn list(call: usize, words: &[usize; 715]) -> bool {
     let mut list = i64s_at(words, 4);
     let list_len = length(words, 4);
     list_made(call, words, &mut list[0..list_len])
-}
-
-fn vec_made(words: &[usize; 715], vec: &[i64], list: &mut [i64]) -> bool {
-    let n = numbers_of(words);
-    let answer = mungkelas::lists::bed_index_vec(n.a, vec, list);
-    same_answer(words, answer) && same_i64s(words, 9, list)
-}
-
-pub(crate) fn index_vec(words: &[usize; 715]) -> bool {
-    let vec = i64s_at(words, 3);
-    let vec_len = length(words, 3);
-    let mut list = i64s_at(words, 4);
-    let list_len = length(words, 4);
-    vec_made(words, &vec[0..vec_len], &mut list[0..list_len])
-}
-
-fn marked_made(words: &[usize; 715], marks: &[u8], list: &mut [i64]) -> bool {
-    let n = numbers_of(words);
-    let answer = mungkelas::lists::bed_index_bool(n.a, marks, list);
-    same_answer(words, answer) && same_i64s(words, 9, list)
-}
-
-pub(crate) fn index_bool(words: &[usize; 715]) -> bool {
-    let marks = bytes_at(words, 1);
-    let marks_len = length(words, 1);
-    let mut list = i64s_at(words, 4);
-    let list_len = length(words, 4);
-    marked_made(words, &marks[0..marks_len], &mut list[0..list_len])
 }
 
 // Reading.
@@ -140,22 +123,10 @@ fn i8s_read(words: &[usize; 715], file: &[u8], iids: &[i64], sids: &[i64], val: 
     same_answer(words, answer) && same_i8s(words, 9, val)
 }
 
-pub(crate) fn read_i8(words: &[usize; 715]) -> bool {
-    let file = bytes_at(words, 1);
-    let file_len = length(words, 1);
-    let iids = i64s_at(words, 3);
-    let iid_len = length(words, 3);
-    let sids = i64s_at(words, 4);
-    let sid_len = length(words, 4);
+fn read_i8(words: &[usize; 715], file: &[u8], iids: &[i64], sids: &[i64]) -> bool {
     let mut val = i8s_at(words, 5);
     let val_len = length(words, 5);
-    i8s_read(
-        words,
-        &file[0..file_len],
-        &iids[0..iid_len],
-        &sids[0..sid_len],
-        &mut val[0..val_len],
-    )
+    i8s_read(words, file, iids, sids, &mut val[0..val_len])
 }
 
 fn f64s_read(
@@ -178,6 +149,12 @@ fn f64s_read(
         val,
     );
     same_answer(words, answer) && same_f64s(words, 9, val)
+}
+
+fn read_f64(words: &[usize; 715], file: &[u8], iids: &[i64], sids: &[i64]) -> bool {
+    let mut val = f64s_at(words, 6);
+    let val_len = length(words, 6);
+    f64s_read(words, file, iids, sids, &mut val[0..val_len])
 }
 
 fn standardised_read(
@@ -203,42 +180,46 @@ fn standardised_read(
     same_answer(words, answer) && same_f64s(words, 9, val) && same_f64s(words, 10, stats)
 }
 
-// Reading, or the joined call with its statistics.
-fn read_either(
-    call: usize,
-    words: &[usize; 715],
-    file: &[u8],
-    iids: &[i64],
-    sids: &[i64],
-    val: &mut [f64],
-) -> bool {
-    if call == 6 {
-        return f64s_read(words, file, iids, sids, val);
-    }
+fn read_standardised_f64(words: &[usize; 715], file: &[u8], iids: &[i64], sids: &[i64]) -> bool {
+    let mut val = f64s_at(words, 6);
+    let val_len = length(words, 6);
     let mut stats = f64s_at(words, 7);
     let stats_len = length(words, 7);
-    standardised_read(words, file, iids, sids, val, &mut stats[0..stats_len])
+    standardised_read(
+        words,
+        file,
+        iids,
+        sids,
+        &mut val[0..val_len],
+        &mut stats[0..stats_len],
+    )
 }
 
-pub(crate) fn read_f64(call: usize, words: &[usize; 715]) -> bool {
+fn read_any(call: usize, words: &[usize; 715], file: &[u8], iids: &[i64], sids: &[i64]) -> bool {
+    match call {
+        5 => read_i8(words, file, iids, sids),
+        6 => read_f64(words, file, iids, sids),
+        _ => read_standardised_f64(words, file, iids, sids),
+    }
+}
+
+pub(crate) fn read(call: usize, words: &[usize; 715]) -> bool {
     let file = bytes_at(words, 1);
     let file_len = length(words, 1);
     let iids = i64s_at(words, 3);
     let iid_len = length(words, 3);
     let sids = i64s_at(words, 4);
     let sid_len = length(words, 4);
-    let mut val = f64s_at(words, 6);
-    let val_len = length(words, 6);
-    read_either(
+    read_any(
         call,
         words,
         &file[0..file_len],
         &iids[0..iid_len],
         &sids[0..sid_len],
-        &mut val[0..val_len],
     )
 }
 
+// Standardising.
 fn standardised(words: &[usize; 715], val: &mut [f64], stats: &mut [f64]) -> bool {
     let n = numbers_of(words);
     let answer = mungkelas::numbers::bed_impute_and_zero_mean_snps_f64(
@@ -261,8 +242,8 @@ pub(crate) fn impute_and_zero_mean_snps_f64(words: &[usize; 715]) -> bool {
     standardised(words, &mut val[0..val_len], &mut stats[0..stats_len])
 }
 
-// Writing.
-fn i8s_answer(call: usize, n: Numbers, val: &[i8], out: &mut [u8]) -> BedAnswer {
+// Calls that write bytes.
+fn i8s_packed(call: usize, n: Numbers, val: &[i8], out: &mut [u8]) -> BedAnswer {
     match call {
         7 => mungkelas::writing::encode_i8::bed_encode1_i8(val, out, n.a == 1, signed8(n.b)),
         _ => mungkelas::writing::write_i8::bed_write_i8(
@@ -277,20 +258,13 @@ fn i8s_answer(call: usize, n: Numbers, val: &[i8], out: &mut [u8]) -> BedAnswer 
     }
 }
 
-fn i8s_written(call: usize, words: &[usize; 715], val: &[i8], out: &mut [u8]) -> bool {
-    let answer = i8s_answer(call, numbers_of(words), val, out);
-    same_answer(words, answer) && same_bytes(words, 9, out)
-}
-
-pub(crate) fn write_i8(call: usize, words: &[usize; 715]) -> bool {
+fn pack_i8(call: usize, words: &[usize; 715], n: Numbers, out: &mut [u8]) -> BedAnswer {
     let val = i8s_at(words, 5);
     let val_len = length(words, 5);
-    let mut out = bytes_at(words, 2);
-    let out_len = length(words, 2);
-    i8s_written(call, words, &val[0..val_len], &mut out[0..out_len])
+    i8s_packed(call, n, &val[0..val_len], out)
 }
 
-fn f64s_answer(call: usize, n: Numbers, val: &[f64], out: &mut [u8]) -> BedAnswer {
+fn f64s_packed(call: usize, n: Numbers, val: &[f64], out: &mut [u8]) -> BedAnswer {
     match call {
         8 => mungkelas::writing::encode_f64::bed_encode1_f64(val, out, n.a == 1, float_of(n.b)),
         _ => mungkelas::writing::write_f64::bed_write_f64(
@@ -305,31 +279,35 @@ fn f64s_answer(call: usize, n: Numbers, val: &[f64], out: &mut [u8]) -> BedAnswe
     }
 }
 
-fn f64s_written(call: usize, words: &[usize; 715], val: &[f64], out: &mut [u8]) -> bool {
-    let answer = f64s_answer(call, numbers_of(words), val, out);
-    same_answer(words, answer) && same_bytes(words, 9, out)
-}
-
-pub(crate) fn write_f64(call: usize, words: &[usize; 715]) -> bool {
+fn pack_f64(call: usize, words: &[usize; 715], n: Numbers, out: &mut [u8]) -> BedAnswer {
     let val = f64s_at(words, 6);
     let val_len = length(words, 6);
-    let mut out = bytes_at(words, 2);
-    let out_len = length(words, 2);
-    f64s_written(call, words, &val[0..val_len], &mut out[0..out_len])
+    f64s_packed(call, n, &val[0..val_len], out)
 }
 
-fn canonical_written(words: &[usize; 715], file: &[u8], out: &mut [u8]) -> bool {
-    let n = numbers_of(words);
-    let answer = mungkelas::reading::bed_canonical(file, n.a, n.b, out);
+fn canonical(words: &[usize; 715], n: Numbers, out: &mut [u8]) -> BedAnswer {
+    let file = bytes_at(words, 1);
+    let file_len = length(words, 1);
+    mungkelas::reading::bed_canonical(&file[0..file_len], n.a, n.b, out)
+}
+
+fn byte_answer(call: usize, words: &[usize; 715], n: Numbers, out: &mut [u8]) -> BedAnswer {
+    match call {
+        7 | 9 => pack_i8(call, words, n, out),
+        8 | 10 => pack_f64(call, words, n, out),
+        _ => canonical(words, n, out),
+    }
+}
+
+fn bytes_written(call: usize, words: &[usize; 715], out: &mut [u8]) -> bool {
+    let answer = byte_answer(call, words, numbers_of(words), out);
     same_answer(words, answer) && same_bytes(words, 9, out)
 }
 
-pub(crate) fn canonical(words: &[usize; 715]) -> bool {
-    let file = bytes_at(words, 1);
-    let file_len = length(words, 1);
+pub(crate) fn write(call: usize, words: &[usize; 715]) -> bool {
     let mut out = bytes_at(words, 2);
     let out_len = length(words, 2);
-    canonical_written(words, &file[0..file_len], &mut out[0..out_len])
+    bytes_written(call, words, &mut out[0..out_len])
 }
 
 // Products.

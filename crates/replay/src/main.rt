@@ -29,25 +29,12 @@ fn say_name(call: usize) {
 // Whether the library agrees with a line of the form.
 fn calls_agree(call: usize, words: &[usize; 715]) -> bool {
     match call {
-        1 => calls::open_and_check(words),
-        3 => calls::byte_span(words),
-        5 => calls::read_i8(words),
-        6 | 13 => calls::read_f64(call, words),
-        7 | 9 => calls::write_i8(call, words),
-        8 | 10 => calls::write_f64(call, words),
-        11 => calls::canonical(words),
+        1..=4 | 22 => calls::number(call, words),
+        5 | 6 | 13 => calls::read(call, words),
+        7..=11 => calls::write(call, words),
         12 => calls::impute_and_zero_mean_snps_f64(words),
+        14..=19 => calls::list(call, words),
         20 | 21 => calls::piece(call, words),
-        _ => lists_agree(call, words),
-    }
-}
-
-fn lists_agree(call: usize, words: &[usize; 715]) -> bool {
-    match call {
-        2 | 4 | 22 => calls::numbers(call, words),
-        14 | 15 | 18 | 19 => calls::index(call, words),
-        16 => calls::index_vec(words),
-        17 => calls::index_bool(words),
         _ => false,
     }
 }
@@ -83,17 +70,18 @@ fn count(counts: &mut [u64; 72], place: usize) {
     }
 }
 
+fn say_number(number: u64, text: &[u8]) {
+    io::print_decimal(1, number);
+    say(text);
+}
+
 // A line that is not as it should be.
 fn say_line(line: u64, place: usize) {
     if place == 47 {
-        say(b"line ");
-        io::print_decimal(1, line);
-        say(b" DIFFERS\n");
+        say_number(line, b": this line of the list DIFFERS\n");
     }
     if place == 70 {
-        say(b"line ");
-        io::print_decimal(1, line);
-        say(b", a control, AGREES\n");
+        say_number(line, b": this line of the list, a control, AGREES\n");
     }
 }
 
@@ -151,10 +139,8 @@ fn read_list(fd: i32, counts: &mut [u64; 72]) {
 fn say_call(counts: &[u64; 72], call: usize) {
     if call < 23 {
         say_name(call);
-        io::print_decimal(1, counts[call]);
-        say(b" of the original's answers, ");
-        io::print_decimal(1, counts[24 + call]);
-        say(b" of document 01's\n");
+        say_number(counts[call], b" of the original's answers, ");
+        say_number(counts[24 + call], b" of document 01's\n");
     }
 }
 
@@ -167,14 +153,10 @@ fn say_calls(counts: &[u64; 72]) {
 }
 
 fn say_total(counts: &[u64; 72]) {
-    io::print_decimal(1, counts[0]);
-    say(b" lines, ");
-    io::print_decimal(1, counts[47]);
-    say(b" differ; ");
-    io::print_decimal(1, counts[48]);
-    say(b" control lines, ");
-    io::print_decimal(1, counts[71]);
-    say(b" differ\n");
+    say_number(counts[0], b" lines, ");
+    say_number(counts[47], b" differ; ");
+    say_number(counts[48], b" control lines, ");
+    say_number(counts[71], b" differ\n");
 }
 
 fn main() {
