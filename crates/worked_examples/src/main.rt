@@ -176,41 +176,58 @@ fn say_bytes(bytes: &[u8]) {
 }
 
 // The refusal's number, then what it carries.
+fn say_refused(refusal: &[u8], carried: usize) {
+    say(refusal);
+    io::print_decimal(1, carried as u64);
+}
+
 fn say_standardised(a: StandardiseAnswer) {
     match a {
         StandardiseAnswer::Done => say(b" done"),
         StandardiseAnswer::CountTooLarge => say(b" 18"),
         StandardiseAnswer::IndexMismatch => say(b" 15"),
         StandardiseAnswer::StatsMismatch => say(b" 17"),
-        StandardiseAnswer::NoIndividuals(m) => {
-            say(b" 13 for marker ");
-            io::print_decimal(1, m as u64);
-        }
-        StandardiseAnswer::IllegalSnpMean(m) => {
-            say(b" 14 for marker ");
-            io::print_decimal(1, m as u64);
-        }
+        StandardiseAnswer::NoIndividuals(m) => say_refused(b" 13 for marker ", m),
+        StandardiseAnswer::IllegalSnpMean(m) => say_refused(b" 14 for marker ", m),
     }
 }
 
 fn say_code(a: CodeAnswer) {
     match a {
-        CodeAnswer::Code(c) => {
-            say(b" ");
-            io::print_decimal(1, wide(c));
-        }
+        CodeAnswer::Code(c) => say_number(wide(c)),
         CodeAnswer::CountTooLarge => say(b" refused: 18"),
         CodeAnswer::EncodingLength => say(b" refused: 16"),
-        CodeAnswer::IidIndexTooBig(i) => {
-            say(b" refused: 5 for ");
-            io::print_decimal(1, i.0 as u64);
-        }
+        CodeAnswer::IidIndexTooBig(i) => say_refused(b" refused: 5 for ", i.0),
     }
 }
 
 fn say_number(n: u64) {
     say(b" ");
     io::print_decimal(1, n);
+}
+
+// An answer's number, then bytes.
+fn say_answer_bytes(n: u64, bytes: &[u8]) {
+    say_number(n);
+    say(b":");
+    say_bytes(bytes);
+    say(b"\n");
+}
+
+fn say_plink_rows(n: u64, val: [i8; 18]) {
+    say_number(n);
+    say(b":");
+    say_row(&val[0..6]);
+    say_row(&val[6..12]);
+    say_row(&val[12..18]);
+    say(b"\n");
+}
+
+fn plink_written(val: &[i8]) {
+    let mut out = [0u8; 9];
+    let w = bed_write::write::write_i8::write_val_i8(val, 6, 3, false, true, -127, &mut out);
+    say(b"the same, written again, its bytes 6C 1B 01 DC 0F E7 0F 6B 01: saw answer");
+    say_answer_bytes(write_number(w), &out);
 }
 
 fn plink_example() {
@@ -232,19 +249,8 @@ fn plink_example() {
     say(
         b"PLINK 1.9 format reference, its example of 6 samples and 3 variants, dosages 2 0 NA 0 0 0 / 0 NA 1 0 0 0 / 0 1 1 NA NA 2: saw answer",
     );
-    say_number(read_number(a));
-    say(b":");
-    say_row(&val[0..6]);
-    say_row(&val[6..12]);
-    say_row(&val[12..18]);
-    say(b"\n");
-    let mut out = [0u8; 9];
-    let w = bed_write::write::write_i8::write_val_i8(&val, 6, 3, false, true, -127, &mut out);
-    say(b"the same, written again, its bytes 6C 1B 01 DC 0F E7 0F 6B 01: saw answer");
-    say_number(write_number(w));
-    say(b":");
-    say_bytes(&out);
-    say(b"\n");
+    say_plink_rows(read_number(a), val);
+    plink_written(&val);
 }
 
 fn say_codes(bytes: &[u8]) {
@@ -258,115 +264,107 @@ fn say_codes(bytes: &[u8]) {
 }
 
 // One marker's block, by the functions with plain parameters.
-fn block_i8(bytes: &mut [u8]) {
+fn block_packed(bytes: &mut [u8]) {
     let column = [0i8, -127, 1, 2, 2];
     let p = block::encode_block_i8(bytes, 5, &column, true, -127);
     say(
         b"document 01, i8 column 0, -127, 1, 2, 2, counted, missing -127: 27 00, packed as a block: saw answer",
     );
-    say_number(pack_number(p));
-    say(b":");
-    say_bytes(bytes);
+    say_answer_bytes(pack_number(p), bytes);
+}
+
+fn block_decoded(bytes: &[u8]) {
     let mut back = [9i8; 5];
     let d = block::decode_block_i8(bytes, 5, true, -127, &mut back);
-    say(b"\nthe same block decoded, the column: saw answer");
+    say(b"the same block decoded, the column: saw answer");
     say_number(decode_number(d));
     say(b":");
     say_row(&back);
     say(b"\n");
-    say_codes(bytes);
 }
 
-fn block_f64(bytes: &mut [u8]) {
-    let mut values = [7.0; 5];
-    let d = block::decode_block_f64(bytes, 5, false, 9.0, &mut values);
+fn block_f64(bytes: &[u8], values: &mut [f64]) {
+    let d = block::decode_block_f64(bytes, 5, false, 9.0, values);
     say(b"the same block, not counted, as f64 with missing 9, values 2, 9, 1, 0, 0: saw answer");
     say_number(decode_number(d));
     say(b":");
-    say_floats(&values);
-    let again = block::encode_block_f64(bytes, 5, &values, false, 9.0);
+    say_floats(values);
+}
+
+fn block_again(bytes: &mut [u8], values: &[f64]) {
+    let again = block::encode_block_f64(bytes, 5, values, false, 9.0);
     say(b"\nthe same packed again, 27 00: saw answer");
-    say_number(pack_number(again));
-    say(b":");
-    say_bytes(bytes);
-    let long = block::encode_block_f64(bytes, 9, &values, false, 9.0);
-    say(b"\ndocument 01, a value buffer that is not the count is 15, 5 values for 9 animals: saw");
+    say_answer_bytes(pack_number(again), bytes);
+}
+
+fn block_long(bytes: &mut [u8], values: &[f64]) {
+    let long = block::encode_block_f64(bytes, 9, values, false, 9.0);
+    say(b"document 01, a value buffer that is not the count is 15, 5 values for 9 animals: saw");
     say_number(pack_number(long));
     say(b"\n");
 }
 
 fn one_block() {
     let mut bytes = [9u8; 2];
-    block_i8(&mut bytes);
-    block_f64(&mut bytes);
+    block_packed(&mut bytes);
+    block_decoded(&bytes);
+    say_codes(&bytes);
+    let mut values = [7.0; 5];
+    block_f64(&bytes, &mut values);
+    block_again(&mut bytes, &values);
+    block_long(&mut bytes, &values);
 }
 
-fn columns() {
-    let mut val = [0.0, 2.0, 0.0 / 0.0];
+// A column and its statistics, standardised.
+fn column(asked: &[u8], val: &mut [f64], iids: usize, animal_order: bool) {
     let mut stats = [9.0, 9.0];
     let a = standardise::impute_and_zero_mean_snps_f64(
-        &mut val,
-        3,
+        val,
+        iids,
         1,
-        false,
+        animal_order,
         true,
         false,
         &mut stats,
     );
-    say(b"document 01, column 0, 2, NaN: mean 1, deviation 1, values -1, 1, +0: saw");
+    say(asked);
     say_standardised(a);
     say(b", mean and deviation");
     say_floats(&stats);
     say(b", values");
-    say_floats(&val);
-    say(b"\n");
-    let mut same = [1.0, 1.0];
-    let mut same_stats = [9.0, 9.0];
-    let b = standardise::impute_and_zero_mean_snps_f64(
-        &mut same,
-        2,
-        1,
-        false,
-        true,
-        false,
-        &mut same_stats,
-    );
-    say(b"document 01, column 1, 1: deviation infinite, values +0: saw");
-    say_standardised(b);
-    say(b", mean and deviation");
-    say_floats(&same_stats);
-    say(b", values");
-    say_floats(&same);
-    say(b"\n");
-    let mut none = [0.0 / 0.0, 0.0 / 0.0];
-    let mut none_stats = [9.0, 9.0];
-    let c = standardise::impute_and_zero_mean_snps_f64(
-        &mut none,
-        2,
-        1,
-        true,
-        true,
-        false,
-        &mut none_stats,
-    );
-    say(b"document 01, all-NaN column: 13, which keeps old statistics, here 9: saw");
-    say_standardised(c);
-    say(b", mean and deviation");
-    say_floats(&none_stats);
-    say(b", values");
-    say_floats(&none);
+    say_floats(val);
     say(b"\n");
 }
 
-fn bounded() {
+fn columns() {
+    let mut val = [0.0, 2.0, 0.0 / 0.0];
+    let asked = b"document 01, column 0, 2, NaN: mean 1, deviation 1, values -1, 1, +0: saw";
+    column(asked, &mut val, 3, false);
+    let mut same = [1.0, 1.0];
+    column(
+        b"document 01, column 1, 1: deviation infinite, values +0: saw",
+        &mut same,
+        2,
+        false,
+    );
+    let mut none = [0.0 / 0.0, 0.0 / 0.0];
+    column(
+        b"document 01, all-NaN column: 13, which keeps old statistics, here 9: saw",
+        &mut none,
+        2,
+        true,
+    );
+}
+
+// Counts that nothing lent backs: each call returns at once.
+fn bounded(many: usize) {
     let header = b"\x6C\x1B\x01";
-    let many = 9223372036854775807;
     say(
         b"document 01, nothing in a block: length 3 for any block count, 0 animals and 2^63 - 1 markers: saw accepted",
     );
     say_number(accept_number(bed_file::accept(header, 0, many)));
     let none = [0i64; 0];
-    let mut val = [9i8; 1];
+    let mut val = [9i8; 0];
     let a = bed_read::reading::read_i8::read_no_alloc_i8(
         header,
         0,
@@ -376,91 +374,57 @@ fn bounded() {
         &none,
         -127,
         false,
-        &mut val[0..0],
+        &mut val,
     );
     say(b", read");
     say_number(read_number(a));
-    say(b"\nno markers, so none is refused, 2^63 - 1 animals: saw standardised in both orders");
-    let mut values = [9.0; 1];
-    let mut stats = [9.0; 1];
-    say_standardised(standardise::impute_and_zero_mean_snps_f64(
-        &mut values[0..0],
-        many,
-        0,
-        false,
-        true,
-        false,
-        &mut stats[0..0],
-    ));
-    say_standardised(standardise::impute_and_zero_mean_snps_f64(
-        &mut values[0..0],
-        many,
-        0,
-        true,
-        true,
-        false,
-        &mut stats[0..0],
-    ));
-    say(b"\n");
 }
 
-// Counts that nothing lent backs: each call returns at once.
-fn bounded_files() {
-    let header = b"\x6C\x1B\x01";
-    let many = 9223372036854775807;
+fn no_markers(many: usize, animal_order: bool) {
+    let mut values = [9.0; 0];
+    let mut stats = [9.0; 0];
+    let a = standardise::impute_and_zero_mean_snps_f64(
+        &mut values,
+        many,
+        0,
+        animal_order,
+        true,
+        false,
+        &mut stats,
+    );
+    say_standardised(a);
+}
+
+fn nothing_written(iids: usize, sids: usize, animal_order: bool) {
     let none = [0i8; 0];
     let mut out = [9u8; 3];
-    say(b"a file of 3 bytes, 0 animals and 2^63 - 1 markers: saw canonical");
-    say_number(canonical_number(canonical::canonical(header, 0, many, &mut out)));
+    let w = bed_write::write::write_i8::write_val_i8(
+        &none,
+        iids,
+        sids,
+        animal_order,
+        true,
+        -127,
+        &mut out,
+    );
+    say_number(write_number(w));
+}
+
+fn bounded_file(iids: usize, sids: usize) {
+    let header = b"\x6C\x1B\x01";
+    let mut out = [9u8; 3];
+    say(b": saw canonical");
+    say_number(canonical_number(canonical::canonical(header, iids, sids, &mut out)));
     say(b", written");
-    say_number(write_number(bed_write::write::write_i8::write_val_i8(
-        &none,
-        0,
-        many,
-        false,
-        true,
-        -127,
-        &mut out,
-    )));
+    nothing_written(iids, sids, false);
     say(b" in marker order and");
-    say_number(write_number(bed_write::write::write_i8::write_val_i8(
-        &none,
-        0,
-        many,
-        true,
-        true,
-        -127,
-        &mut out,
-    )));
-    say(b" in animal order\na file of 3 bytes, 2^63 - 1 animals and 0 markers: saw canonical");
-    say_number(canonical_number(canonical::canonical(header, many, 0, &mut out)));
-    say(b", written");
-    say_number(write_number(bed_write::write::write_i8::write_val_i8(
-        &none,
-        many,
-        0,
-        false,
-        true,
-        -127,
-        &mut out,
-    )));
-    say(b" in marker order and");
-    say_number(write_number(bed_write::write::write_i8::write_val_i8(
-        &none,
-        many,
-        0,
-        true,
-        true,
-        -127,
-        &mut out,
-    )));
+    nothing_written(iids, sids, true);
     say(b" in animal order\n");
 }
 
-fn bounded_others() {
-    let many = 9223372036854775807;
+fn bounded_piece(many: usize) {
     let bytes = [0u8; 0];
-    let mut piece = [9.0; 1];
+    let mut piece = [9.0; 0];
     say(
         b"document 01, width 0 is 20 for A'A only, an AA' piece of width 0 over 2^63 - 1 rows: saw",
     );
@@ -472,8 +436,11 @@ fn bounded_others() {
         0,
         many,
         0,
-        &mut piece[0..0],
+        &mut piece,
     )));
+}
+
+fn bounded_list(many: usize) {
     let mut list = [9i64; 1];
     let no_vec = [0i64; 0];
     let no_marks = [0u8; 0];
@@ -489,10 +456,18 @@ fn bounded_others() {
 }
 
 fn main() {
+    let many = 9223372036854775807;
     plink_example();
     one_block();
     columns();
-    bounded();
-    bounded_files();
-    bounded_others();
+    bounded(many);
+    say(b"\nno markers, so none is refused, 2^63 - 1 animals: saw standardised in both orders");
+    no_markers(many, false);
+    no_markers(many, true);
+    say(b"\na file of 3 bytes, 0 animals and 2^63 - 1 markers");
+    bounded_file(0, many);
+    say(b"a file of 3 bytes, 2^63 - 1 animals and 0 markers");
+    bounded_file(many, 0);
+    bounded_piece(many);
+    bounded_list(many);
 }

@@ -199,29 +199,49 @@ impl Case {
         cases
     }
 
+    /// The section of the stored list's line that has each parameter's buffer (README.md); 0, the head, has the numbers.
+    pub fn sections(call: usize) -> Vec<usize> {
+        let mut used = [false; 8];
+        let mut free = |first: usize, second: usize| {
+            let section = if used[first] { second } else { first };
+            used[section] = true;
+            section
+        };
+        let of = |par: &Par| match par {
+            Num => 0,
+            In(U8) => 1,
+            Out(U8) => 2,
+            In(I64) => free(3, 4),
+            Out(I64) => 4,
+            In(I8) | Out(I8) => 5,
+            In(F64) | Out(F64) => free(6, 7),
+        };
+        CALLS[call].1.iter().map(of).collect()
+    }
+
     /// The case's line in the stored list, up to the answer.
     pub fn line(&self) -> String {
-        let mut line = format!("{:x}", self.call + 1);
-        for arg in &self.args {
+        let mut numbers = vec![self.call as u64 + 1];
+        let mut buffers: [&[u64]; 8] = [&[]; 8];
+        for (section, arg) in Case::sections(self.call).into_iter().zip(&self.args) {
             match arg {
-                Arg::N(n) => line += &format!(" {n:x}"),
-                Arg::B(b) => push(&mut line, b),
+                Arg::N(n) => numbers.push(*n),
+                Arg::B(b) => buffers[section] = b,
             }
         }
-        line
+        numbers.resize(7, 0);
+        std::iter::once(words(&numbers)).chain(buffers[1..].iter().map(|b| words(b))).collect::<Vec<String>>().join("|")
     }
 }
 
-fn push(line: &mut String, bits: &[u64]) {
-    *line += &format!(" {:x}", bits.len());
-    bits.iter().for_each(|b| *line += &format!(" {b:x}"));
+fn words(bits: &[u64]) -> String {
+    bits.iter().map(|b| format!("{b:x}")).collect::<Vec<String>>().join(" ")
 }
 
 impl Outcome {
     /// The answer's part of a line.
     pub fn line(&self) -> String {
-        let mut line = format!("{:x} {:x} {:x}", self.number, self.first, self.second);
-        self.written.iter().for_each(|b| push(&mut line, b));
-        line
+        let later = |k: usize| self.written.get(k).map_or(String::new(), |b| words(b));
+        format!("{:x} {:x} {:x}|{}|{}", self.number, self.first, self.second, later(0), later(1))
     }
 }

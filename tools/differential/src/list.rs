@@ -155,6 +155,12 @@ pub fn by_hand() -> Vec<Case> {
     read(&F, 5, 2, vec![0, 1], vec![0], 1);
     read(&F, TOP + 1, 2, vec![0], vec![0], 1);
     read(&F, 5, TOP + 1, vec![0], vec![0], 1);
+    // Two refusals that both apply: 18 and 15, 18 and 1, 15 and 1.
+    read(&F, TOP + 1, 2, vec![0], vec![0], 2);
+    read(&F, 5, TOP + 1, vec![0, 1], vec![0], 1);
+    read(&[0x6c, 0x1b], TOP + 1, 2, vec![0], vec![0], 1);
+    read(&[0x6c, 0x1b], 5, TOP + 1, vec![], vec![], 0);
+    read(&[0x6c, 0x1b], 5, 2, vec![0], vec![0], 2);
 
     // Seventeen markers or animals, one more than a power of two.
     let drawn = |n: u64| (0..n).map(|k| (k * 37 + 11) % 256).collect::<Vec<u64>>();
@@ -171,6 +177,13 @@ pub fn by_hand() -> Vec<Case> {
             (iids * sids) as usize,
         );
         large.push((file, iids, sids));
+    }
+
+    // The joined call's buffers: 18 and 17, 15 and 17, 17 and 1.
+    for (file, iids, places, stats) in [(&F[..], TOP + 1, 4, 3), (&F[..], 5, 3, 3), (&F[..], 5, 5, 6), (&F[..2], 5, 4, 2)] {
+        for order in 0..2 {
+            add("read_standardised_f64", vec![B(file.to_vec()), N(iids), N(2), N(1), B(all(2)), B(all(2)), N(order), old(places), old(stats)]);
+        }
     }
 
     // Packing and writing.
@@ -200,6 +213,12 @@ pub fn by_hand() -> Vec<Case> {
             write("write_f64", vec![3], 1, 2, NAN, 5);
             write("write_i8", vec![3], 1, 1, 0x81, 4);
             write("write_i8", vec![3], 1, 1, 0x81, 5);
+            // 18 and 15, 4 and 15, 15 and 16, 16 and 7.
+            write("write_f64", vec![], TOP + 1, 8, NAN, 3);
+            write("write_i8", vec![3], TOP, 8, 0x81, 3);
+            write("write_i8", vec![0], 1, 2, 0x81, 4);
+            write("write_f64", vec![0], 1, 2, NAN, 4);
+            write("write_f64", vec![3], 1, 1, NAN, 3);
         }
     }
     add("encode1_i8", vec![B(vec![]), old8(0), N(0), N(0x81)]);
@@ -222,6 +241,10 @@ pub fn by_hand() -> Vec<Case> {
         (vec![0x6c, 0x1b], 0, 0, 3),
         (F.to_vec(), TOP + 1, 2, 7),
         (vec![0x6c, 0x1b, 1], TOP, 8, 3),
+        // 18 and 1, of either count; 1 and 16.
+        (vec![0x6c, 0x1b], TOP + 1, 0, 3),
+        (vec![], 0, TOP + 1, 3),
+        (vec![0x6c, 0x1b], 0, 0, 2),
     ] {
         add("canonical", vec![B(file), N(iids), N(sids), old8(n)]);
     }
@@ -257,7 +280,29 @@ pub fn by_hand() -> Vec<Case> {
         impute(&[1.0, 2.0], 1, 2, &[0.5, 0.75]);
         impute(&[f64::NAN, f64::NAN], 1, 2, &[0.5, 0.75, 0.5, 0.75]);
         impute(&[1.0], 1, 2, &[0.5, 0.75, 0.5, 0.75]);
+        // 14 of one marker among others, then 13 and 14 together, the one or the other at the lower marker: markers of two animals.
+        let columns = |columns: &[[f64; 2]]| -> Vec<f64> {
+            let by_marker = columns.concat();
+            let by_animal = (0..2).flat_map(|i| columns.iter().map(move |c| c[i]));
+            if choice & 1 == 1 {
+                by_animal.collect()
+            } else {
+                by_marker
+            }
+        };
+        let (good, none, wild) = ([0.0, 2.0], [f64::NAN; 2], [f64::NEG_INFINITY, f64::INFINITY]);
+        let stats = [0.5, 0.75, 1.5, 1.75, 2.5, 2.75, 3.5, 3.75];
+        impute(&columns(&[wild, good]), 2, 2, &stats[..4]);
+        impute(&columns(&[good, wild, [1.0, f64::NAN]]), 2, 3, &stats[..6]);
+        impute(&columns(&[good, none, wild, [2.0, 1.0]]), 2, 4, &stats);
+        impute(&columns(&[wild, [2.0, 1.0], none, good]), 2, 4, &stats);
+        // 15 and 17.
+        impute(&[1.0], 1, 2, &[0.5]);
+        impute(&[1.0, 2.0, 1.0], 1, 2, &stats[..6]);
     }
+    // 18 and 15, 18 and 17.
+    add("impute_and_zero_mean_snps_f64", vec![old(3), N(TOP + 1), N(2), N(0), N(1), N(0), old(4)]);
+    add("impute_and_zero_mean_snps_f64", vec![old(3), N(2), N(TOP + 1), N(1), N(1), N(0), old(4)]);
     add("impute_and_zero_mean_snps_f64", vec![B(vec![]), N(TOP), N(0), N(0), N(1), N(0), B(vec![])]);
     add("impute_and_zero_mean_snps_f64", vec![B(vec![]), N(0), N(TOP), N(1), N(1), N(0), B(vec![])]);
     add("impute_and_zero_mean_snps_f64", vec![B(vec![]), N(TOP + 1), N(0), N(1), N(1), N(0), B(vec![])]);
@@ -334,6 +379,18 @@ pub fn by_hand() -> Vec<Case> {
         piece(one, 0, TOP, TOP, 0, TOP, 0, 0);
         piece(one, 0, TOP + 1, 1, 0, 1, 1, 1);
         piece(one, 0, 1, 1, 0, 1, TOP + 1, 1);
+        // 18 and 20, 20 and 15, 15 and 1.
+        piece(one, 0, 1, 1, TOP + 1, 1, 1, 1);
+        piece(one, 0, 1, 1, 1, 1, 1, 2);
+        piece(&[], 0, 1, 1, 0, 1, 1, 2);
+        // Products of -0: each sum starts at +0, so none is -0. Of one row or column; with a NaN; of two rows and columns.
+        let of = |values: &[f64]| -> Vec<u64> { values.iter().flat_map(|v| v.to_le_bytes()).map(|b| b as u64).collect() };
+        let (rows, cols) = if name == "file_ata_piece" { (1, 2) } else { (2, 1) };
+        for values in [[0.0, -1.0], [-0.0, 1.0], [-0.0, -0.0], [-0.0, f64::NAN]] {
+            piece(&of(&values), 0, rows, cols, 0, 2, 2, 4);
+        }
+        piece(&of(&[-0.0, 0.0, 2.0, -3.0]), 0, 2, 2, 0, 2, 2, 4);
+        piece(&of(&[-0.0, 2.0, 0.0, -3.0]), 0, 2, 2, 0, 2, 2, 4);
     }
     for v in [0.0, -0.0, 1.0, 2.0, 0.25, -1.0, f64::INFINITY, f64::NEG_INFINITY, f64::NAN, f64::MIN_POSITIVE, 5e-324, f64::MAX, 0.1, 1.5e-310, 3.0] {
         add("root_f64", vec![N(v.to_bits())]);
@@ -355,6 +412,16 @@ fn features(case: &Case) -> Vec<u64> {
         _ => 0,
     };
     case.args.iter().enumerate().map(of).collect()
+}
+
+/// How long a case is: the digits of its call, its numbers, its buffers' lengths and elements, and a space between two.
+fn size(case: &Case) -> usize {
+    let digits = |n: u64| format!("{n:x}").len();
+    let of = |arg: &Arg| match arg {
+        N(n) => 1 + digits(*n),
+        B(b) => 1 + digits(b.len() as u64) + b.iter().map(|&v| 1 + digits(v)).sum::<usize>(),
+    };
+    digits(case.call as u64 + 1) + case.args.iter().map(of).sum::<usize>()
 }
 
 /// The chosen cases, each once: those by hand, then of drawn ones the first of every sort.
@@ -381,7 +448,7 @@ pub fn cases(seed: u64, folder: &Folder) -> Vec<Case> {
             if let Some(outcome) = &want.outcome {
                 // A refusal once, an answer once for every sort.
                 let sort = if outcome.number == 0 { features(&case) } else { vec![] };
-                let length = case.line().len();
+                let length = size(&case);
                 if length < 260 && (length >= 60 || CALLS[case.call].1.len() < 4) {
                     sorts.entry((outcome.number, want.named, sort)).or_insert(case);
                 }
@@ -390,6 +457,75 @@ pub fn cases(seed: u64, folder: &Folder) -> Vec<Case> {
         sorts.into_values().for_each(&mut put);
     }
     order.iter().map(|line| all[line].clone()).collect()
+}
+
+/// Something else than an element of a kind: the last bit or the sign is another; for NaN a number.
+fn other(kind: Kind, bits: u64) -> u64 {
+    match kind {
+        Kind::F64 if f64::from_bits(bits).is_nan() => 0,
+        Kind::F64 if f64::from_bits(bits) == 0.0 => bits ^ 1 << 63,
+        _ => bits ^ 1,
+    }
+}
+
+/// Answers that are wrong in one thing: a field, an element, a buffer's length.
+fn wrong(case: &Case, right: &Outcome) -> Vec<Outcome> {
+    let mut all = vec![];
+    let mut put = |change: &dyn Fn(&mut Outcome)| {
+        let mut outcome = right.clone();
+        change(&mut outcome);
+        all.push(outcome);
+    };
+    put(&|o| o.number ^= 1);
+    put(&|o| o.first ^= 1);
+    put(&|o| o.second ^= 1);
+    for (k, kind) in CALLS[case.call].1.iter().filter_map(|par| if let Par::Out(kind) = par { Some(*kind) } else { None }).enumerate() {
+        let last = right.written[k].len() - 1;
+        put(&|o| o.written[k][0] = other(kind, o.written[k][0]));
+        put(&|o| o.written[k][last] = other(kind, o.written[k][last]));
+        put(&|o| o.written[k].push(0));
+        put(&|o| o.written[k].truncate(last));
+        if kind == Kind::F64 {
+            put(&|o| o.written[k][0] = if f64::from_bits(o.written[k][0]).is_nan() { 1 } else { NAN });
+        }
+    }
+    all
+}
+
+/// Lines that must be reported as differing: of each call's shortest case by hand whose answer is done and in which no written buffer has fewer
+/// than two places, the answers that are wrong in one thing; then lines that break the form.
+fn controls(folder: &Folder) -> Vec<String> {
+    let mut lines = vec![];
+    for (name, _) in CALLS {
+        let done = |case: Case| {
+            let outcome = want(&case, folder).outcome.filter(|o| o.number == 0 && o.written.iter().all(|b| b.len() > 1))?;
+            Some((case, outcome))
+        };
+        let all = by_hand().into_iter().filter(|case| case.name() == *name).filter_map(done);
+        let (case, right) = all.min_by_key(|(case, _)| case.line().len()).expect("a case that is done");
+        lines.extend(wrong(&case, &right).iter().map(|o| format!("2 {}|{}", case.line(), o.line())));
+    }
+    // Call 2 of 4 and 1 is answered 0 1 0: a word too few or too many, a section too few or too many, no such call, a space too many, no digit, a
+    // capital letter, more than 64 bits. A file of 65 bytes 9 is answered 2 0 0.
+    let div = "2 2 4 1 0 0 0 0||||||||0 1 0||";
+    let wrong = [
+        ("0 0 0 0|", "0 0 0|"),
+        ("0 0 0 0|", "0 0 0 0 0|"),
+        ("|0 1 0|", "|0 1|"),
+        ("|0 1 0|", "|0 1 0 0|"),
+        ("0 1 0||", "0 1 0|"),
+        ("0 1 0||", "0 1 0|||"),
+        ("2 2 4", "2 0 4"),
+        ("2 2 4", "2 17 4"),
+        ("|0 1 0", "|0  1 0"),
+        ("|0 1 0", "|0 1 0 "),
+        ("|0 1 0", "|0 1 g"),
+        ("2 2 4", "2 2 G4"),
+        ("|0 1 0", "|0 10000000000000001 0"),
+    ];
+    lines.extend(wrong.iter().map(|(right, wrong)| div.replacen(right, wrong, 1)));
+    lines.push(format!("2 1 0 0 0 0 0 0|{}|||||||2 0 0||", vec!["9"; MOST + 1].join(" ")));
+    lines
 }
 
 pub fn print(seed: u64, folder: &Folder) {
@@ -403,9 +539,11 @@ pub fn print(seed: u64, folder: &Folder) {
     for case in cases(seed, folder) {
         let want = want(&case, folder);
         if let Some(outcome) = want.outcome {
-            println!("{} {} {}", want.named.is_some() as u8, case.line(), outcome.line());
+            println!("{} {}|{}", want.named.is_some() as u8, case.line(), outcome.line());
         }
     }
+    println!("# Controls: lines whose first word is 2 are wrong on purpose, each in one thing. A program that does not find that they differ compares nothing.");
+    controls(folder).iter().for_each(|line| println!("{line}"));
 }
 
 /// The cases by hand at which document 01 names a difference, with what the original did.
@@ -420,39 +558,44 @@ pub fn rows(folder: &Folder) {
 
 /// A stored list, read back: each line's case and what stands for its answer.
 fn parse(line: &str) -> Option<(Case, String)> {
-    let words: Vec<u64> = line.split(' ').map(|w| u64::from_str_radix(w, 16).ok()).collect::<Option<_>>()?;
-    let call = (words[1] as usize).checked_sub(1)?;
-    let mut at = 2;
-    let mut args = vec![];
-    for par in CALLS.get(call)?.1 {
-        let n = *words.get(at)?;
-        at += 1;
-        args.push(match par {
-            Par::Num => N(n),
-            _ => {
-                let buffer = words.get(at..at + n as usize)?.to_vec();
-                at += n as usize;
-                B(buffer)
-            }
-        });
+    let word = |w: &str| u64::from_str_radix(w, 16).ok().filter(|n| format!("{n:x}") == w);
+    let section = |s: &str| if s.is_empty() { Some(vec![]) } else { s.split(' ').map(word).collect::<Option<Vec<u64>>>() };
+    let sections: Vec<Vec<u64>> = line.split('|').map(section).collect::<Option<_>>()?;
+    if sections.len() != 11 || sections[0].len() != 8 || sections[8].len() != 3 || sections.iter().any(|s| s.len() > MOST) {
+        return None;
     }
-    let answer = line.split(' ').skip(at).collect::<Vec<&str>>().join(" ");
+    let call = (sections[0][1] as usize).checked_sub(1)?;
+    let pars = CALLS.get(call)?.1;
+    let mut numbers = sections[0][2..].iter();
+    let of = |(par, section): (&Par, usize)| match par {
+        Par::Num => numbers.next().map(|&n| N(n)),
+        _ => Some(B(sections[section].clone())),
+    };
+    let args = pars.iter().zip(Case::sections(call)).map(of).collect::<Option<_>>()?;
+    let answer = line.split('|').skip(8).collect::<Vec<&str>>().join("|");
     Some((Case::new(CALLS[call].0, args), answer))
 }
 
-/// Runs a stored list against the library. Answers how many lines differ.
+/// Runs a stored list against the library. Answers how many lines differ, and how many controls do not.
 pub fn check(text: &str) -> u64 {
-    let (mut same, mut different) = (0, 0);
+    let (mut same, mut different, mut controls, mut missed) = (0, 0, 0, 0);
     for line in text.lines().filter(|line| !line.starts_with('#')) {
-        let (case, answer) = parse(line).unwrap_or_else(|| panic!("a line that is not a case: {line}"));
-        let got = crate::library::run(&case).line();
-        if got == answer {
-            same += 1;
-        } else {
-            different += 1;
-            println!("DIFFERENT: {line}\n    library: {got}");
+        // What the library answers, if the line has the form, and whether it is what the line says.
+        let got = parse(line).map(|(case, answer)| (crate::library::run(&case).line(), answer));
+        let agrees = got.as_ref().is_some_and(|(got, answer)| got == answer);
+        match (line.starts_with("2 "), agrees) {
+            (false, true) => same += 1,
+            (false, false) => {
+                different += 1;
+                println!("DIFFERENT: {line}\n    library: {}", got.map_or("no case".to_string(), |g| g.0));
+            }
+            (true, false) => controls += 1,
+            (true, true) => {
+                missed += 1;
+                println!("A CONTROL THAT AGREES: {line}");
+            }
         }
     }
-    println!("the stored list: {same} lines agree, {different} differ");
-    different
+    println!("the stored list: {same} lines agree, {different} differ; of the controls {controls} differ, {missed} agree");
+    different + missed
 }

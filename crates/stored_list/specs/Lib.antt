@@ -1,0 +1,4 @@
+-- What the contracts of this crate cite.
+pub mod Words
+pub mod Buffers
+pub mod Lines
