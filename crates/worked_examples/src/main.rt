@@ -297,9 +297,12 @@ fn block_again(bytes: &mut [u8], values: &[f64]) {
     say_answer_bytes(pack_number(again), bytes);
 }
 
-fn block_long(bytes: &mut [u8], values: &[f64]) {
+fn block_lengths(bytes: &mut [u8], values: &[f64]) {
+    let short = block::encode_block_f64(bytes, 6, values, false, 9.0);
+    say(b"document 01, a value buffer that is not the count is 15, 5 values for 6 animals: saw");
+    say_number(pack_number(short));
     let long = block::encode_block_f64(bytes, 9, values, false, 9.0);
-    say(b"document 01, a value buffer that is not the count is 15, 5 values for 9 animals: saw");
+    say(b"\ndocument 01, encode1 checks 16 first, 2 bytes and 5 values for 9 animals: saw");
     say_number(pack_number(long));
     say(b"\n");
 }
@@ -312,7 +315,7 @@ fn one_block() {
     let mut values = [7.0; 5];
     block_f64(&bytes, &mut values);
     block_again(&mut bytes, &values);
-    block_long(&mut bytes, &values);
+    block_lengths(&mut bytes, &values);
 }
 
 // A column and its statistics, standardised.
