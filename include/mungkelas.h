@@ -129,7 +129,7 @@ bed_answer bed_read_standardised_f64(const uint8_t *file, size_t file_len, size_
                                      const int64_t *iid_index, size_t iid_len, const int64_t *sid_index, size_t sid_len,
                                      bool animal_order, double *val, size_t val_len, double *stats, size_t stats_len);
 
-/* The correctly rounded square root; NaN of a number below 0 and of NaN, and a zero of a zero, with its sign. */
+/* The correctly rounded square root; NaN of a number below 0 and of NaN, +infinity of +infinity, and a zero of a zero, with its sign. */
 double bed_root_f64(double variance);
 
 /* ---- lists ---- */
