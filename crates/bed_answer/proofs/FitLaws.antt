@@ -10,7 +10,7 @@ use lib.Dec.{leb, eqb}
 use lib.Ieee.{Format, Float}
 use lib.IntN.{ℤ, pos, negsuc}
 use lib.ListN.{length, getD}
-use Rattle.genotype.specs.Answer.{Answer, done, refused, check, checkEntry, checkCount, countLimit, isDone, ifDone}
+use Rattle.genotype.specs.Answer.{Answer, done, refused, check, checkEntry, checkCount, countLimit, ifDone}
 use Rattle.genotype.specs.Block.{blockWidth, checkSize, fileLength, divAnswer}
 use Rattle.genotype.specs.Entry.{isGood, firstBad, least, greatest, byteOf, span, spanAnswer}
 use Rattle.genotype.proofs.EntryLaws.{means-below}
@@ -202,7 +202,7 @@ write-fits iids sids code valLength outLength =
 
 -- ---- markers
 cond-fits : (answer new old : Answer) → Fits new → Fits old → Fits (ifDone answer new old)
-unfolding ifDone isDone
+unfolding ifDone
 cond-fits (done vs) new old f g = f
 cond-fits (refused n vs) new old f g = g
 

@@ -93,7 +93,7 @@ module _ (fileLen n b : ℕ) where
     product-fits = let k = size .length-fits in let h = whole in omega arith
 
     after-size : lengthAnswer fileLen n b ≡ check (eqb fileLen (fileLength n b)) 2 (done [])
-    unfolding lengthAnswer divAnswer isDone
+    unfolding lengthAnswer divAnswer
     after-size = heard (size-stage n b) _ (sym (ap isDone e)) (check (eqb fileLen (fileLength n b)) 2 (done []))
 
     pub length-right : fileLen ≡ w * b + 3 → done [] ≡ lengthAnswer fileLen n b
@@ -128,7 +128,7 @@ module _ (file : List ℕ) (iids sids : ℕ) where
 
       module _ (b : ℕ) (e : done (pos b ∷ []) ≡ openAnswer file) where
         opened : (later : Answer) → checkOpen file later ≡ later
-        unfolding openAnswer isDone
+        unfolding openAnswer
         opened = heard (open-stage file) _ (sym (ap isDone e))
 
         byte-is : b ≡ getD file 2 0

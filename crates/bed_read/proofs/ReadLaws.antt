@@ -92,7 +92,6 @@ module _ (file : List ℕ) (iids sids : ℕ) (il sl : List ℤ) (valLength : ℕ
           pub read-lists :
               (a : Answer) (m : Bool) → done [] ≡ acceptAnswer file iids sids → m ≡ isMode1 file → a ≡ listsAnswer m iids sids il sl
               → a ≡ readAnswer file iids sids il sl valLength
-          unfolding isDone
           read-lists a m d q l =
               l ∙ sym (lists-counted m iids sids il sl hi hs) ∙ ap (λ (x : Bool). checkLists x iids sids il sl (done [])) q
               ∙ sym (after-product ∙ accepted file iids sids (sym (ap isDone d)) .heard-later lists)

@@ -56,7 +56,7 @@ module _ (iids sids valLength outLength : ℕ) where
     whole-fits = let k = size .length-fits in let h = whole-length in omega arith
 
     after-size : checkBuffers iids sids valLength outLength (done []) ≡ after
-    unfolding checkBuffers divAnswer isDone after
+    unfolding checkBuffers divAnswer after
     after-size = heard (size-stage iids sids) _ (sym (ap isDone e)) after
 
     module _ (t : Bool) (p : t ≡ eqb (iids * sids) valLength) where
@@ -156,13 +156,12 @@ module _ (iids sids : ℕ) (number : ℕ → ℕ → ℕ) where
     -- ---- the writer, by what was found
     module _ (valLength : ℕ) (old : List ℕ) (d : done [] ≡ checkBuffers iids sids valLength (length old) (done [])) where
       heard-later : (later : Answer) → checkBuffers iids sids valLength (length old) later ≡ later
-      unfolding isDone
       heard-later = heard (buffers-stage iids sids valLength (length old)) [] (sym (ap isDone d))
 
       pub write-bad :
           (a m : ℕ) → some (call a m) ≡ firstOver iids sids number
           → (refused 7 (pos a ∷ pos m ∷ []) ≡ writeAnswer iids sids code valLength (length old)) × (old ≡ writeBuffer iids sids code valLength old)
-      unfolding writeAnswer writeBuffer checkCall isDone
+      unfolding writeAnswer writeBuffer checkCall
       write-bad a m e =
           let q : writeAnswer iids sids code valLength (length old) ≡ refused 7 (pos a ∷ pos m ∷ []) =
           heard-later _ ∙ ap (λ o. checkCall o (done [])) (sym (e ∙ over-bad)) in
@@ -171,7 +170,7 @@ module _ (iids sids : ℕ) (number : ℕ → ℕ → ℕ) where
       pub write-done :
           none ≡ firstOver iids sids number → (out : List ℕ) → out ≡ bedFile iids sids number
           → (done [] ≡ writeAnswer iids sids code valLength (length old)) × (out ≡ writeBuffer iids sids code valLength old)
-      unfolding writeAnswer writeBuffer checkCall isDone
+      unfolding writeAnswer writeBuffer checkCall
       write-done e out o =
           let q : writeAnswer iids sids code valLength (length old) ≡ done [] =
           heard-later _ ∙ ap (λ o. checkCall o (done [])) (sym (e ∙ over-bad)) in (
@@ -184,7 +183,6 @@ module _ (iids sids : ℕ) (number : ℕ → ℕ → ℕ) where
 
 -- where the buffers are refused
 refused-stays : {F : Answer → Answer} → Stage F → (a later : Answer) → a ≡ F (done []) → isDone a ≡ false → a ≡ F later
-unfolding isDone
 refused-stays (lets f) a later e n = absurd (let q : _≡_ {A = Bool} true false = sym (ap isDone (e ∙ f (done []))) ∙ n in let z : _≡_ {A = ℕ} 0 1 = cc in omega arith)
 refused-stays (refuses k vs f) a later e n = e ∙ f (done []) ∙ sym (f later)
 

@@ -26,11 +26,11 @@ abbrev bytes : List ℕ
 bytes = packBuffer 5 5 (placeCode i8 true (negsuc 126) column) old
 
 column-packable : isDone (packAnswer 5 5 (placeCode i8 true (negsuc 126) column) 2) ≡ true
-unfolding packAnswer checkColumn checkCount check encodeAnswer checkAnimal firstBadAnimal firstOf orElse ifBad placeCode codeOf sameOrNan sameInt blockWidth isDone
+unfolding packAnswer checkColumn checkCount check encodeAnswer checkAnimal firstBadAnimal firstOf orElse ifBad placeCode codeOf sameOrNan sameInt blockWidth
 column-packable = refl
 
 pub column-bytes : bytes ≡ (0x27 ∷ 0x00 ∷ [])
-unfolding packBuffer checkColumn checkCount check encodeBuffer newBefore firstBadAnimal firstOf orElse ifBad packedCodes packed packedByte tabulate orZero placeCode codeOf sameOrNan sameInt blockWidth ifDone isDone
+unfolding packBuffer checkColumn checkCount check encodeBuffer newBefore firstBadAnimal firstOf orElse ifBad packedCodes packed packedByte tabulate orZero placeCode codeOf sameOrNan sameInt blockWidth ifDone
 column-bytes = refl
 
 -- read back, the animal 1 is missing

@@ -15,7 +15,7 @@ use Rattle.block.proofs.CheckLaws.{column-too-large, column-mismatch, c
 
 -- a buffer whose old and new contents are the same
 either : {A : Type 0} (a : Answer) (x : A) → ifDone a x x ≡ x
-unfolding ifDone isDone
+unfolding ifDone
 either (done vs) x = refl
 either (refused n vs) x = refl
 
@@ -24,7 +24,7 @@ module _ (iids valLength : ℕ) (code : ℕ → Option ℕ) (old : List ℕ) whe
   Answered said new = (said ≡ packAnswer iids valLength code (length old)) × (new ≡ packBuffer iids valLength code old)
 
   refusing : (n : ℕ) → checkColumn iids valLength (done []) ≡ refused n [] → old ≡ packBuffer iids valLength code old
-  unfolding packBuffer isDone
+  unfolding packBuffer
   refusing n e = sym (old-if-not (checkColumn iids valLength (done [])) (encodeBuffer iids code old) old (ap isDone e))
 
   pub pack-too-large : countLimit < iids → Answered (refused 18 []) old
@@ -63,7 +63,7 @@ module _ (iids valLength : ℕ) (code : ℕ → Option ℕ) (old : List ℕ) whe
         pub pack-encoded :
             (said : Answer) (new : List ℕ)
             → (said ≡ encodeAnswer valLength code (length old)) × (new ≡ encodeBuffer valLength code old) → Answered said new
-        unfolding packBuffer isDone
+        unfolding packBuffer
         pack-encoded said new a = (
           a .0
               ∙ ap (λ (n : ℕ). encodeAnswer n code (length old)) e

@@ -25,7 +25,7 @@ use Rattle.block.specs.Blocks.{checkBytes, checkColumn, packAnswer, pack
 use Rattle.block.proofs.CheckLaws.{column-passes, decode-done}
 
 no-animal : (o : Option ℕ) → isDone (checkAnimal o (done [])) ≡ true → o ≡ none
-unfolding checkAnimal isDone
+unfolding checkAnimal
 no-animal none e = refl
 no-animal (some a) e = absurd (let q : _≡_ {A = ℕ} 0 1 = cc in omega arith)
 
@@ -52,7 +52,7 @@ packable iids valLength code byteCount d =
 -- the bytes that packing leaves where it is done
 module _ (iids valLength : ℕ) (code : ℕ → Option ℕ) (old : List ℕ) (p : Packable iids valLength code (length old)) where
   filled : packBuffer iids valLength code old ≡ packedCodes iids code
-  unfolding packBuffer encodeBuffer newBefore isDone
+  unfolding packBuffer encodeBuffer newBefore
   filled =
       new-if-done (checkColumn iids valLength (done [])) (encodeBuffer iids code old) old (ap isDone (column-passes iids valLength (done []) (p .fits) (p .values)))
       ∙ simp (eq-eqb (length old) (blockWidth iids) (p .bytes), p .no-bad)
@@ -91,7 +91,7 @@ module _ (w : Width) (flag : Bool) (missing : w .Value) (iids : ℕ) (val : List
   small k = zero-below (code k) (place-coded w flag missing val k)
 
   value-back : (k : ℕ) → k < iids → getD (decodeBuffer w flag missing new iids out) k missing ≡ valueOf w flag missing (orZero (code k))
-  unfolding decodeBuffer columnOf isDone
+  unfolding decodeBuffer columnOf
   value-back k h =
       ap (λ x. getD x k missing) (new-if-done (decodeAnswer (length new) iids (length out)) (columnOf w flag missing new iids) out (ap isDone decoded))
       ∙ getD-tabulate iids (λ a. valueOf w flag missing (itemCode new a)) k missing h

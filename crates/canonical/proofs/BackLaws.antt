@@ -130,7 +130,7 @@ module _ (file : List ℕ) (iids sids : ℕ) (d : isDone (acceptAnswer file iids
         ∙ ap (λ (n : ℕ). matrix order iids n (readCode file iids sids (fileOrder iids) (fileOrder sids))) (order-length sids)
 
     read-is : read ≡ map (valueOf w flag missing) (matrix order iids sids (readCode file iids sids (fileOrder iids) (fileOrder sids)))
-    unfolding readBuffer valuesRead isDone
+    unfolding readBuffer valuesRead
     read-is = new-if-done _ _ buffer (ap isDone (all-answer (length buffer) l)) ∙ ap (map (valueOf w flag missing)) codes-all
 
     pub read-length : length read ≡ iids * sids

@@ -43,7 +43,7 @@ module _ (iids sids outLength : ℕ) where
     written-fits = let k = size .length-fits in let h = whole in omega arith
 
     after-size : writtenAnswer iids sids outLength ≡ check (eqb outLength (fileLength iids sids)) 16 (done [])
-    unfolding writtenAnswer divAnswer isDone
+    unfolding writtenAnswer divAnswer
     after-size = heard (size-stage iids sids) _ (sym (ap isDone e)) _
 
     pub written-done : outLength ≡ w * sids + 3 → done [] ≡ writtenAnswer iids sids outLength
@@ -62,7 +62,7 @@ module _ (file : List ℕ) (iids sids outLength : ℕ) where
   canonical-refused k e = sym (stays read-stage [] k [] (sym e) _)
 
   pub canonical-accepted : (a : Answer) → done [] ≡ acceptAnswer file iids sids → a ≡ writtenAnswer iids sids outLength → a ≡ canonicalAnswer file iids sids outLength
-  unfolding canonicalAnswer acceptAnswer writtenAnswer isDone
+  unfolding canonicalAnswer acceptAnswer writtenAnswer
   canonical-accepted a d e =
       let acc = accepted file iids sids (sym (ap isDone d)) in
       let later = checkSize iids sids (check (eqb outLength (fileLength iids sids)) 16 (done [])) in

@@ -82,7 +82,7 @@ abbrev five : List ℕ
 five = 9 ∷ 9 ∷ 9 ∷ 9 ∷ 9 ∷ []
 
 column-writable : isDone (writeAnswer 5 1 (valueCode i8 true (negsuc 126) true 5 1 column) (length column) (length five)) ≡ true
-unfolding writeAnswer checkBuffers checkSize checkCall firstBadCall firstOf ifBad valueCode placeCode matrixPlace codeOf sameInt sameOrNan blockWidth isDone
+unfolding writeAnswer checkBuffers checkSize checkCall firstBadCall firstOf ifBad valueCode placeCode matrixPlace codeOf sameInt sameOrNan blockWidth
 column-writable = refl
 
 -- the column 0, −127, 1, 2, 2 written and read back: the animal 1 is missing
@@ -114,7 +114,7 @@ abbrev four : List ℕ
 four = 9 ∷ 9 ∷ 9 ∷ 9 ∷ []
 
 zero-writable : isDone (writeAnswer 2 1 (valueCode float true nan true 2 1 zeroAndNan) (length zeroAndNan) (length four)) ≡ true
-unfolding writeAnswer checkBuffers checkSize checkCall firstBadCall firstOf ifBad valueCode placeCode matrixPlace codeOf eq sameOrNan blockWidth isDone
+unfolding writeAnswer checkBuffers checkSize checkCall firstBadCall firstOf ifBad valueCode placeCode matrixPlace codeOf eq sameOrNan blockWidth
 zero-writable = refl
 
 pub zero-read-back :
@@ -129,7 +129,7 @@ abbrev inMode0 : List ℕ
 inMode0 = 0x6C ∷ 0x1B ∷ 0 ∷ 0x0C ∷ 0x0D ∷ 0x0A ∷ 0x03 ∷ 0x08 ∷ []
 
 mode-0-accepted : isDone (acceptAnswer inMode0 5 2) ≡ true
-unfolding acceptAnswer isMode1 items blocks blockWidth isDone
+unfolding acceptAnswer isMode1 items blocks blockWidth
 mode-0-accepted = refl
 
 short : fileLength 5 2 ≤ 2 ^ 64 - 1

@@ -35,7 +35,7 @@ use Rattle.canonical.proofs.BackLaws.{bed-call, bed-accepted, all-answe
 
 -- ---- a writing that is accepted
 call-none : (o : Option (ℕ × ℕ)) → isDone (checkCall o (done [])) ≡ true → o ≡ none
-unfolding checkCall isDone
+unfolding checkCall
 call-none none e = refl
 call-none (some p) e = absurd (let q : _≡_ {A = ℕ} 0 1 = cc in omega arith)
 
@@ -78,7 +78,7 @@ pub written-read-back :
     (readBuffer w (writeBuffer iids sids (valueCode w flag missing order iids sids val) (length val) old) iids sids flag (fileOrder iids) (fileOrder sids) missing later buffer)
     (matrixPlace later iids sids a m) missing)
     ≡ true)
-unfolding valueCode placeCode isDone
+unfolding valueCode placeCode
 written-read-back w flag missing iids sids order val old d later buffer l = (
   all-answer file iids sids acc (length buffer) l,
   λ a m ha hm.
@@ -163,7 +163,7 @@ module _ (file : List ℕ) (iids sids : ℕ) (d : isDone (acceptAnswer file iids
   pub canonical-left :
       (old : List ℕ) → length old ≡ fileLength iids sids
       → (canonicalAnswer file iids sids (length old) ≡ done []) × (canonicalBuffer file iids sids old ≡ canonicalFile file iids sids)
-  unfolding canonicalAnswer canonicalBuffer checkSize isDone
+  unfolding canonicalAnswer canonicalBuffer checkSize
   canonical-left old l =
       let acc = accepted file iids sids d in
       let q : canonicalAnswer file iids sids (length old) ≡ done [] =
@@ -195,7 +195,6 @@ pub canonical-again :
     → (acceptAnswer (canonicalBuffer file iids sids old) iids sids ≡ done [])
     × (canonicalAnswer (canonicalBuffer file iids sids old) iids sids (length again) ≡ done [])
     × (canonicalBuffer (canonicalBuffer file iids sids old) iids sids again ≡ canonicalBuffer file iids sids old)
-unfolding isDone
 canonical-again file iids sids d fits old again l k =
     let e = canonical-left file iids sids d fits old l .1 in
     let a = canonical-accepted file iids sids d fits in
@@ -245,7 +244,7 @@ pub read-written :
     (valueCode w flag missing order iids sids (readBuffer w file iids sids flag (fileOrder iids) (fileOrder sids) missing order buffer))
     (length (readBuffer w file iids sids flag (fileOrder iids) (fileOrder sids) missing order buffer)) old
     ≡ canonicalFile file iids sids)
-unfolding valueCode placeCode writeAnswer writeBuffer firstBadCall checkBuffers checkSize checkCall canonicalFile isDone orZero
+unfolding valueCode placeCode writeAnswer writeBuffer firstBadCall checkBuffers checkSize checkCall canonicalFile orZero
 read-written w n flag missing other file iids sids d fits order buffer l old k = (
   all-answer file iids sids d (length buffer) l,
   answer,

@@ -6,7 +6,7 @@ use Prim.Native.Nat.{ℕ}
 use lib.IntN.{ℤ, pos, negsuc}
 use lib.Dec.{lit<}
 use lib.Ieee.{Float, nan, inf, fin, binary64, add, sub, mul, div, neg, le, lt, eq, isNan, fits, ofBits, toBits}
-use Rattle.genotype.specs.Answer.{done, isDone, ifDone}
+use Rattle.genotype.specs.Answer.{done, ifDone}
 use Rattle.genotype.specs.Block.{blockWidth}
 use Rattle.genotype.specs.Code.{codeAt, itemCode}
 use Rattle.genotype.specs.Entry.{firstBad, isGood, means}
@@ -55,15 +55,15 @@ zero-two-found true = ap (byRoot one) root-one
 zero-two-found false = ap (byRoot one) root-one
 
 pub zero-two-answer : (order : Bool) → standardiseAnswer binary64 order 3 1 zeroTwoNan false oldStats ≡ done []
-unfolding standardiseAnswer lowestRefused markersAnswer markerAnswer isDone
+unfolding standardiseAnswer lowestRefused markersAnswer markerAnswer
 zero-two-answer order = rw (zero-two-found order)
 
 pub zero-two-stats : (order : Bool) → laterStats binary64 order 3 1 zeroTwoNan false oldStats ≡ one ∷ one ∷ []
-unfolding laterStats newStats keptOrNew matrix tabulate isDone
+unfolding laterStats newStats keptOrNew matrix tabulate
 zero-two-stats order = rw (zero-two-found order)
 
 pub zero-two-values : (order : Bool) → laterValues binary64 order 3 1 zeroTwoNan false oldStats true ≡ minusOne ∷ one ∷ plusZero ∷ []
-unfolding laterValues newValues mayChange lowestRefused markersAnswer markerAnswer applied standardised isInfinite value matrixPlace matrix tabulate isDone isNan add sub mul div neg
+unfolding laterValues newValues mayChange lowestRefused markersAnswer markerAnswer applied standardised isInfinite value matrixPlace matrix tabulate isNan add sub mul div neg
 zero-two-values true = rw (zero-two-found true)
 zero-two-values false = rw (zero-two-found false)
 
@@ -77,15 +77,15 @@ one-one-found true = refl
 one-one-found false = refl
 
 pub one-one-answer : (order : Bool) → standardiseAnswer binary64 order 2 1 oneOne false oldStats ≡ done []
-unfolding standardiseAnswer lowestRefused markersAnswer markerAnswer isDone
+unfolding standardiseAnswer lowestRefused markersAnswer markerAnswer
 one-one-answer order = rw (one-one-found order)
 
 pub one-one-stats : (order : Bool) → laterStats binary64 order 2 1 oneOne false oldStats ≡ one ∷ inf false ∷ []
-unfolding laterStats newStats keptOrNew matrix tabulate isDone
+unfolding laterStats newStats keptOrNew matrix tabulate
 one-one-stats order = rw (one-one-found order)
 
 pub one-one-values : (order : Bool) → laterValues binary64 order 2 1 oneOne false oldStats true ≡ plusZero ∷ plusZero ∷ []
-unfolding laterValues newValues mayChange lowestRefused markersAnswer markerAnswer applied standardised isInfinite value matrixPlace matrix tabulate isDone isNan
+unfolding laterValues newValues mayChange lowestRefused markersAnswer markerAnswer applied standardised isInfinite value matrixPlace matrix tabulate isNan
 one-one-values true = rw (one-one-found true)
 one-one-values false = rw (one-one-found false)
 
@@ -109,15 +109,15 @@ least-found true = ap (byRoot plusZero) root-least
 least-found false = ap (byRoot plusZero) root-least
 
 pub least-answer : (order : Bool) → standardiseAnswer binary64 order 2 1 leastVariance false oldStats ≡ done []
-unfolding standardiseAnswer lowestRefused markersAnswer markerAnswer isDone
+unfolding standardiseAnswer lowestRefused markersAnswer markerAnswer
 least-answer order = rw (least-found order)
 
 pub least-stats : (order : Bool) → laterStats binary64 order 2 1 leastVariance false oldStats ≡ plusZero ∷ small ∷ []
-unfolding laterStats newStats keptOrNew matrix tabulate isDone
+unfolding laterStats newStats keptOrNew matrix tabulate
 least-stats order = rw (least-found order)
 
 pub least-values : (order : Bool) → laterValues binary64 order 2 1 leastVariance false oldStats true ≡ one ∷ minusOne ∷ []
-unfolding laterValues newValues mayChange lowestRefused markersAnswer markerAnswer applied standardised isInfinite value matrixPlace matrix tabulate isDone isNan add sub mul div neg
+unfolding laterValues newValues mayChange lowestRefused markersAnswer markerAnswer applied standardised isInfinite value matrixPlace matrix tabulate isNan add sub mul div neg
 least-values true = rw (least-found true)
 least-values false = rw (least-found false)
 
@@ -134,11 +134,11 @@ firstBytes =
     ∷ 0 ∷ 0 ∷ 0 ∷ 0 ∷ 0 ∷ 0 ∷ 0x08 ∷ 0x40 ∷ []
 
 pub ata-two-by-two : ataLeaves firstBytes 0 2 2 0 2 2 oldPiece ≡ one ∷ fin false 3 (pos 0) ∷ fin false 3 (pos 0) ∷ fin false 13 (pos 0) ∷ []
-unfolding ataLeaves ataAnswer pieceOf ataEntry dot dotFrom floatsOf floatAt leNumber column valueAt tabulate ifDone isDone ofBits add mul
+unfolding ataLeaves ataAnswer pieceOf ataEntry dot dotFrom floatsOf floatAt leNumber column valueAt tabulate ifDone ofBits add mul
 ata-two-by-two = refl
 
 pub aat-two-by-two : aatLeaves firstBytes 0 2 2 0 2 2 oldPiece ≡ fin false 1 (pos 2) ∷ plusZero ∷ fin false 3 (pos 1) ∷ fin false 5 (pos 1) ∷ []
-unfolding aatLeaves aatAnswer pieceOf aatEntry dot dotFrom floatsOf floatAt leNumber row valueAt tabulate ifDone isDone ofBits add mul
+unfolding aatLeaves aatAnswer pieceOf aatEntry dot dotFrom floatsOf floatAt leNumber row valueAt tabulate ifDone ofBits add mul
 aat-two-by-two = refl
 
 -- "each sum runs upward from +0": of the columns −0, −0 and 1, 2 no sum is −0
@@ -150,11 +150,11 @@ minusZeroBytes =
     ∷ 0 ∷ 0 ∷ 0 ∷ 0 ∷ 0 ∷ 0 ∷ 0 ∷ 0x40 ∷ []
 
 pub ata-of-minus-zero : ataLeaves minusZeroBytes 0 2 2 0 2 2 oldPiece ≡ plusZero ∷ plusZero ∷ plusZero ∷ fin false 5 (pos 0) ∷ []
-unfolding ataLeaves ataAnswer pieceOf ataEntry dot dotFrom floatsOf floatAt leNumber column valueAt tabulate ifDone isDone ofBits add mul
+unfolding ataLeaves ataAnswer pieceOf ataEntry dot dotFrom floatsOf floatAt leNumber column valueAt tabulate ifDone ofBits add mul
 ata-of-minus-zero = refl
 
 pub aat-of-minus-zero : aatLeaves minusZeroBytes 0 2 2 0 2 2 oldPiece ≡ one ∷ plusZero ∷ two ∷ fin false 1 (pos 2) ∷ []
-unfolding aatLeaves aatAnswer pieceOf aatEntry dot dotFrom floatsOf floatAt leNumber row valueAt tabulate ifDone isDone ofBits add mul
+unfolding aatLeaves aatAnswer pieceOf aatEntry dot dotFrom floatsOf floatAt leNumber row valueAt tabulate ifDone ofBits add mul
 aat-of-minus-zero = refl
 
 -- a 1 × 1 product of −0 and 1 alone is +0 too, since the sum runs from +0
@@ -176,12 +176,12 @@ inOrder = pos 0 ∷ pos 1 ∷ []
 -- "in marker order (a marker's values adjacent) or animal order", from either mode
 pub read-in-animal-order : (mode1 : Bool) (w : Width) (missing : w .Value)
     → readBuffer w (twoByTwo mode1) 2 2 true secondFirst inOrder missing true (missing ∷ missing ∷ missing ∷ missing ∷ []) ≡ w .one ∷ missing ∷ w .two ∷ w .zero ∷ []
-unfolding readBuffer readAnswer isMode1 items blocks blockWidth firstBad isGood means valuesRead codesRead matrix tabulate readCode callCode codeIn block itemCode codeAt valueOf values ifDone isDone
+unfolding readBuffer readAnswer isMode1 items blocks blockWidth firstBad isGood means valuesRead codesRead matrix tabulate readCode callCode codeIn block itemCode codeAt valueOf values ifDone
 read-in-animal-order true w missing = refl
 read-in-animal-order false w missing = refl
 
 pub read-in-marker-order : (mode1 : Bool) (w : Width) (missing : w .Value)
     → readBuffer w (twoByTwo mode1) 2 2 true secondFirst inOrder missing false (missing ∷ missing ∷ missing ∷ missing ∷ []) ≡ w .one ∷ w .two ∷ missing ∷ w .zero ∷ []
-unfolding readBuffer readAnswer isMode1 items blocks blockWidth firstBad isGood means valuesRead codesRead matrix tabulate readCode callCode codeIn block itemCode codeAt valueOf values ifDone isDone
+unfolding readBuffer readAnswer isMode1 items blocks blockWidth firstBad isGood means valuesRead codesRead matrix tabulate readCode callCode codeIn block itemCode codeAt valueOf values ifDone
 read-in-marker-order true w missing = refl
 read-in-marker-order false w missing = refl

@@ -7,7 +7,7 @@ use mathlib.Core.Option.{Option}
 use Prim.Native.Nat.{ℕ, _-_, _^_}
 use lib.IntN.{ℤ, pos, negsuc}
 use lib.Ieee.{Float, nan, Format, isNan}
-use Rattle.genotype.specs.Answer.{refused, check, checkCount, isDone}
+use Rattle.genotype.specs.Answer.{refused, check, checkCount}
 use Rattle.genotype.specs.Block.{blockWidth}
 use Rattle.genotype.specs.Code.{codeAt, itemCode}
 use Rattle.genotype.specs.Entry.{firstBad, isGood, means}
@@ -129,7 +129,7 @@ module _ (f : Format) (order : Bool) where
   standardise-15-before-17 useStats = (refl, refl)
 
 pub standardise-17-before-13 : (f : Format) (order : Bool) → (standardiseAnswer f order 2 1 twoNan false [] ≡ refused 17 []) × (standardiseAnswer f order 2 1 twoNan false twoNan ≡ refused 13 (pos 0 ∷ []))
-unfolding standardiseAnswer lowestRefused markersAnswer markerAnswer found foundFor markerStats noValue value matrixPlace isNan isDone
+unfolding standardiseAnswer lowestRefused markersAnswer markerAnswer found foundFor markerStats noValue value matrixPlace isNan
 standardise-17-before-13 f true = (refl, refl)
 standardise-17-before-13 f false = (refl, refl)
 
@@ -157,7 +157,7 @@ pub joined-5-before-13 : (f : Format) (flag order : Bool)
     → (joinedAnswer f noCalls 2 1 flag (pos 0 ∷ pos 9 ∷ []) animal0 order twoNan twoNan ≡ refused 5 (pos 9 ∷ []))
     × (joinedAnswer f noCalls 2 1 flag both animal0 order twoNan twoNan ≡ refused 13 (pos 0 ∷ []))
 unfolding joinedAnswer isMode1 items blocks blockWidth firstBad isGood means valuesRead codesRead matrix matrixPlace tabulate readCode callCode codeIn block itemCode codeAt valueOf values
-    lowestRefused markersAnswer markerAnswer found foundFor markerStats noValue value isNan isDone
+    lowestRefused markersAnswer markerAnswer found foundFor markerStats noValue value isNan
 joined-5-before-13 f true true = (refl, refl)
 joined-5-before-13 f true false = (refl, refl)
 joined-5-before-13 f false true = (refl, refl)

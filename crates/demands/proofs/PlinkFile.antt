@@ -68,7 +68,7 @@ module _ (file : List ℕ) (iids sids a m : ℕ) where
 -- ---- reading: a file of mode 1 that is accepted
 module _ (file : List ℕ) (iids sids : ℕ) (acc : IsAccepted file iids sids) (one : isMode1 file ≡ true) where
   first-bytes : (getD file 0 0 ≡ 0x6C) × (getD file 1 0 ≡ 0x1B)
-  unfolding acceptAnswer checkFile checkOpen isDone
+  unfolding acceptAnswer checkFile checkOpen
   first-bytes =
       let a = count-done iids _ (ap isDone acc) in
       let b = count-done sids _ (a .1) in
@@ -79,7 +79,7 @@ module _ (file : List ℕ) (iids sids : ℕ) (acc : IsAccepted file iids sids) (
 
   -- is PLINK's file, its animals the samples and its markers the variants
   pub accepted-is-plink : IsPlinkFile file iids sids
-  unfolding isMode1 items blocks isDone
+  unfolding isMode1 items blocks
   accepted-is-plink =
       let a = accepted file iids sids (ap isDone acc) in
       let l : length file ≡ fileLength iids sids = a .length-is ∙ ap (λ (m : Bool). fileLength (items m iids sids) (blocks m iids sids)) one in
@@ -96,7 +96,7 @@ module _ (file : List ℕ) (iids sids : ℕ) (acc : IsAccepted file iids sids) (
         (readAnswer file iids sids iidList sidList (length val) ≡ done [])
         × (readBuffer w file iids sids flag iidList sidList missing order val
         ≡ matrix order (length iidList) (length sidList) (λ k m. copiesValue w missing (copiesBy flag (genotypeIn file iids (meant sids sidList m) (meant iids iidList k)))))
-    unfolding readBuffer valuesRead codesRead readCode meant isDone
+    unfolding readBuffer valuesRead codesRead readCode meant
     reading-is-plink =
         let d = read-done file iids sids iidList sidList acc gi gs (length val) for-15 in (
           d,
@@ -168,7 +168,6 @@ module _ (w : Width) (apart : Apart w) (flag : Bool) (missing : w .Value) (order
   code a m = orZero (valueCode w flag missing order iids sids val a m)
 
   is-done : isDone (writeAnswer iids sids (valueCode w flag missing order iids sids val) (length val) (length old)) ≡ true
-  unfolding isDone
   is-done = ap isDone accept
 
   left : writeBuffer iids sids (valueCode w flag missing order iids sids val) (length val) old ≡ bedFile iids sids code
@@ -202,7 +201,6 @@ module _ (w : Width) (apart : Apart w) (flag : Bool) (missing : w .Value) (order
 -- ---- the canonical file, of a file of either mode
 module _ (file : List ℕ) (iids sids : ℕ) (old : List ℕ) (accept : canonicalAnswer file iids sids (length old) ≡ done []) where
   canonical-done : isDone (canonicalAnswer file iids sids (length old)) ≡ true
-  unfolding isDone
   canonical-done = ap isDone accept
 
   canonical-left : canonicalBuffer file iids sids old ≡ bedFile iids sids (callCode file iids sids)

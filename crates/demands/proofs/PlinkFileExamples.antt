@@ -8,7 +8,7 @@ use lib.Dec.{lit≤}
 use lib.IntN.{ℤ, pos, negsuc}
 use lib.ListN.{length}
 use lib.Ieee.{Float, fin, eq}
-use Rattle.genotype.specs.Answer.{done, isDone, ifDone}
+use Rattle.genotype.specs.Answer.{done, ifDone}
 use Rattle.genotype.specs.Block.{blockWidth, checkSize}
 use Rattle.genotype.specs.Code.{codeAt, itemCode, copies, packedByte, packed}
 use Rattle.genotype.specs.Entry.{isGood, means, firstBad}
@@ -121,7 +121,7 @@ dosages-written = refl
 -- the example's bytes
 pub written-bytes : written ≡ published
 unfolding writeBuffer writeAnswer checkBuffers checkSize checkCall firstBadCall firstOf ifBad valueCode placeCode matrixPlace codeOf sameInt sameOrNan
-    bedFile joined packed packedByte tabulate orZero blockWidth ifDone isDone
+    bedFile joined packed packedByte tabulate orZero blockWidth ifDone
 written-bytes = refl
 
 pub written-plink : IsPlinkFile written 6 3

@@ -5,7 +5,7 @@ use mathlib.Core.List.{List, [], _∷_}
 use Prim.Native.Nat.{ℕ}
 use lib.IntN.{ℤ, pos, negsuc}
 use lib.Ieee.{Float, nan, inf, binary64, add, sub, mul, div, neg, le, lt, eq, isNan}
-use Rattle.genotype.specs.Answer.{Answer, done, refused, isDone, ifDone}
+use Rattle.genotype.specs.Answer.{Answer, done, refused, ifDone}
 use Rattle.genotype.specs.Block.{blockWidth}
 use Rattle.genotype.specs.Code.{codeAt, itemCode}
 use Rattle.genotype.specs.Entry.{firstBad, isGood, means}
@@ -93,11 +93,11 @@ marker-1 false true = refl
 marker-1 false false = refl
 
 new-answer : (moved order : Bool) → lowestRefused binary64 order 3 2 (read moved order) false stats ≡ done []
-unfolding lowestRefused markersAnswer markerAnswer ifDone isDone
+unfolding lowestRefused markersAnswer markerAnswer ifDone
 new-answer moved order = rw (marker-0 moved order, marker-1 moved order)
 
 new-values : (moved order : Bool) → newValues binary64 order 3 2 (read moved order) false stats true ≡ after moved order
-unfolding newValues mayChange lowestRefused markersAnswer markerAnswer applied standardised isInfinite value matrixPlace matrix tabulate ifDone isDone isNan add sub mul div neg
+unfolding newValues mayChange lowestRefused markersAnswer markerAnswer applied standardised isInfinite value matrixPlace matrix tabulate ifDone isNan add sub mul div neg
 new-values true true = rw (marker-0 true true, marker-1 true true)
 new-values true false = rw (marker-0 true false, marker-1 true false)
 new-values false true = rw (marker-0 false true, marker-1 false true)
@@ -109,7 +109,7 @@ new-stats moved order = rw (marker-0 moved order, marker-1 moved order)
 
 pub joined-leaves : (mode1 moved order : Bool) → Leaves (T mode1) (animals moved) order joinedCall (done [] ∷ []) (after moved order) afterStats
 unfolding answersOf valuesOf sideStats asRead readBuffer readAnswer joinedAnswer joinedValues joinedStats readNan standardiseAnswer laterValues laterStats
-    isMode1 items blocks blockWidth firstBad isGood means fileOrder valuesRead codesRead matrix tabulate readCode callCode codeIn block itemCode codeAt valueOf values ifDone isDone
+    isMode1 items blocks blockWidth firstBad isGood means fileOrder valuesRead codesRead matrix tabulate readCode callCode codeIn block itemCode codeAt valueOf values ifDone
 joined-leaves true true true = (ap alone (new-answer true true), new-values true true, new-stats true true)
 joined-leaves true true false = (ap alone (new-answer true false), new-values true false, new-stats true false)
 joined-leaves true false true = (ap alone (new-answer false true), new-values false true, new-stats false true)
@@ -121,7 +121,7 @@ joined-leaves false false false = (ap alone (new-answer false false), new-values
 
 pub in-turn-leaves : (mode1 moved order : Bool) → Leaves (T mode1) (animals moved) order (inTurn false true) (done [] ∷ done [] ∷ []) (after moved order) afterStats
 unfolding answersOf valuesOf sideStats asRead readBuffer readAnswer joinedAnswer joinedValues joinedStats readNan standardiseAnswer laterValues laterStats
-    isMode1 items blocks blockWidth firstBad isGood means fileOrder valuesRead codesRead matrix tabulate readCode callCode codeIn block itemCode codeAt valueOf values ifDone isDone
+    isMode1 items blocks blockWidth firstBad isGood means fileOrder valuesRead codesRead matrix tabulate readCode callCode codeIn block itemCode codeAt valueOf values ifDone
 in-turn-leaves true true true = (ap afterDone (new-answer true true), new-values true true, new-stats true true)
 in-turn-leaves true true false = (ap afterDone (new-answer true false), new-values true false, new-stats true false)
 in-turn-leaves true false true = (ap afterDone (new-answer false true), new-values false true, new-stats false true)
@@ -162,11 +162,11 @@ marker-1-13 false true = refl
 marker-1-13 false false = refl
 
 new-answer-13 : (moved order : Bool) → lowestRefused binary64 order 3 2 (read13 moved order) false stats ≡ refused 13 (pos 1 ∷ [])
-unfolding lowestRefused markersAnswer markerAnswer ifDone isDone
+unfolding lowestRefused markersAnswer markerAnswer ifDone
 new-answer-13 moved order = rw (marker-0-13 moved order, marker-1-13 moved order)
 
 new-values-13 : (moved order : Bool) → newValues binary64 order 3 2 (read13 moved order) false stats true ≡ after13 moved order
-unfolding newValues mayChange lowestRefused markersAnswer markerAnswer applied standardised isInfinite value matrixPlace matrix tabulate ifDone isDone isNan add sub mul div neg
+unfolding newValues mayChange lowestRefused markersAnswer markerAnswer applied standardised isInfinite value matrixPlace matrix tabulate ifDone isNan add sub mul div neg
 new-values-13 true true = rw (marker-0-13 true true)
 new-values-13 true false = rw (marker-0-13 true false)
 new-values-13 false true = rw (marker-0-13 false true)
@@ -178,7 +178,7 @@ new-stats-13 moved order = rw (marker-0-13 moved order, marker-1-13 moved order)
 
 pub joined-leaves-13 : (mode1 moved order : Bool) → Leaves (T13 mode1) (animals moved) order joinedCall (refused 13 (pos 1 ∷ []) ∷ []) (after13 moved order) afterStats13
 unfolding answersOf valuesOf sideStats asRead readBuffer readAnswer joinedAnswer joinedValues joinedStats readNan standardiseAnswer laterValues laterStats
-    isMode1 items blocks blockWidth firstBad isGood means fileOrder valuesRead codesRead matrix tabulate readCode callCode codeIn block itemCode codeAt valueOf values ifDone isDone
+    isMode1 items blocks blockWidth firstBad isGood means fileOrder valuesRead codesRead matrix tabulate readCode callCode codeIn block itemCode codeAt valueOf values ifDone
 joined-leaves-13 true true true = (ap alone (new-answer-13 true true), new-values-13 true true, new-stats-13 true true)
 joined-leaves-13 true true false = (ap alone (new-answer-13 true false), new-values-13 true false, new-stats-13 true false)
 joined-leaves-13 true false true = (ap alone (new-answer-13 false true), new-values-13 false true, new-stats-13 false true)
@@ -190,7 +190,7 @@ joined-leaves-13 false false false = (ap alone (new-answer-13 false false), new-
 
 pub in-turn-leaves-13 : (mode1 moved order : Bool) → Leaves (T13 mode1) (animals moved) order (inTurn false true) (done [] ∷ refused 13 (pos 1 ∷ []) ∷ []) (after13 moved order) afterStats13
 unfolding answersOf valuesOf sideStats asRead readBuffer readAnswer joinedAnswer joinedValues joinedStats readNan standardiseAnswer laterValues laterStats
-    isMode1 items blocks blockWidth firstBad isGood means fileOrder valuesRead codesRead matrix tabulate readCode callCode codeIn block itemCode codeAt valueOf values ifDone isDone
+    isMode1 items blocks blockWidth firstBad isGood means fileOrder valuesRead codesRead matrix tabulate readCode callCode codeIn block itemCode codeAt valueOf values ifDone
 in-turn-leaves-13 true true true = (ap afterDone (new-answer-13 true true), new-values-13 true true, new-stats-13 true true)
 in-turn-leaves-13 true true false = (ap afterDone (new-answer-13 true false), new-values-13 true false, new-stats-13 true false)
 in-turn-leaves-13 true false true = (ap afterDone (new-answer-13 false true), new-values-13 false true, new-stats-13 false true)

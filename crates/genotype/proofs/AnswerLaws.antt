@@ -56,12 +56,12 @@ entry-none o n q = sym (carried-entry o n) ∙ ap carried (sym q)
 
 -- ---- what is known where nothing was refused
 pub check-done : (b : Bool) (n : ℕ) (later : Answer) → isDone (check b n later) ≡ true → (b ≡ true) × (isDone later ≡ true)
-unfolding check isDone
+unfolding check
 check-done true n later e = (refl, e)
 check-done false n later e = absurd (let q : _≡_ {A = ℕ} 0 1 = cc in omega arith)
 
 pub entry-done : (o : Option ℤ) (n : ℕ) (later : Answer) → isDone (checkEntry o n later) ≡ true → (o ≡ none) × (isDone later ≡ true)
-unfolding checkEntry isDone
+unfolding checkEntry
 entry-done none n later e = (refl, e)
 entry-done (some z) n later e = absurd (let q : _≡_ {A = ℕ} 0 1 = cc in omega arith)
 
@@ -71,11 +71,11 @@ count-done n later e = let d = check-done (leb n countLimit) 18 later e in (leb-
 
 -- ---- later buffers
 pub new-if-done : {A : Type 0} (a : Answer) (new old : A) → isDone a ≡ true → ifDone a new old ≡ new
-unfolding ifDone isDone
+unfolding ifDone
 new-if-done a new old e = rw e
 
 pub old-if-not : {A : Type 0} (a : Answer) (new old : A) → isDone a ≡ false → ifDone a new old ≡ old
-unfolding ifDone isDone
+unfolding ifDone
 old-if-not a new old e = rw e
 
 -- a test that tells whether an answer is done
@@ -111,7 +111,6 @@ never n vs ws e = let q : _≡_ {A = ℕ} 0 1 = cc in omega arith
 
 -- where a row of checks finds nothing, a later one is heard
 pub heard : {F : Answer → Answer} → Stage F → (vs : List ℤ) → isDone (F (done vs)) ≡ true → (later : Answer) → F later ≡ later
-unfolding isDone
 heard (lets f) vs e later = f later
 heard (refuses n ws f) vs e later = absurd (let q : _≡_ {A = Bool} false true = sym (ap isDone (f (done vs))) ∙ e in let r : _≡_ {A = ℕ} 0 1 = cc in omega arith)
 
@@ -122,7 +121,6 @@ stays (refuses m us f) vs n ws e later = f later ∙ sym (f (done vs)) ∙ e
 
 -- where the answer is done, the earlier checks found nothing
 pub before-later : {F : Answer → Answer} → Stage F → (later : Answer) → isDone (F later) ≡ true → isDone (F (done [])) ≡ true
-unfolding isDone
 before-later (lets f) later e = ap isDone (f (done []))
 before-later (refuses n ws f) later e =
     absurd (let q : _≡_ {A = Bool} false true = sym (ap isDone (f later)) ∙ e in let r : _≡_ {A = ℕ} 0 1 = cc in omega arith)

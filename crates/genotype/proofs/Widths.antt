@@ -77,7 +77,7 @@ pub record Sized (i s w : ℕ) : Type 0 where
   pub width-is : w ≡ blockWidth i
 
 pub width-given : (i s w : ℕ) → done (pos w ∷ []) ≡ divAnswer i s → Sized i s w
-unfolding divAnswer isDone
+unfolding divAnswer
 width-given i s w e =
     let d0 = count-done i _ (sym (ap isDone e)) in
     let d1 = count-done s _ (d0 .1) in

@@ -22,7 +22,7 @@ checkEntry none n later = later
 checkEntry (some e) n later = refused n (e ∷ [])
 
 -- whether nothing was refused
-unfoldable pub isDone : Answer → Bool
+abbrev pub isDone : Answer → Bool
 isDone (done vs) = true
 isDone (refused n vs) = false
 
@@ -36,5 +36,4 @@ checkCount n later = check (leb n countLimit) 18 later
 
 -- "Every refusal leaves all lent bytes and values unchanged": a buffer's later contents, new if nothing was refused, else old
 unfoldable pub ifDone : {A : Type 0} → Answer → A → A → A
-unfolding isDone
 ifDone answer new old = cond (isDone answer) new old

@@ -12,7 +12,7 @@ use lib.Ieee.{Float}
 use borrow.Author.Tests.{ltb-true, leb-true, eqb-true, lt-ltb, le-ltb, le-leb, lt-leb, ne-eqb}
 use denote.Enum.Declared.{tagOf}
 use types.Run.{OneOf}
-use Rattle.genotype.specs.Answer.{Answer, done, check, isDone, ifDone}
+use Rattle.genotype.specs.Answer.{Answer, done, check, ifDone}
 use Rattle.genotype.proofs.Tests.{both-true}
 use Rattle.product.specs.Piece.{goodPiece, enoughBytes, pieceAnswer, ataAnswer, aatAnswer}
 use Rattle.product.specs.Says.{pieceSays}
@@ -103,7 +103,7 @@ least-none false w = refl
 
 -- a call that refuses leaves the old list, one that is done the new one
 pub leaves-old : (a : PieceAnswer) (s : Answer) (new old : List Float) → OneOf (1 ∷ 2 ∷ 3 ∷ 4 ∷ []) (tagOf the-type a) → pieceSays a ≡ s → (pieceSays a ≡ s) × (old ≡ ifDone s new old)
-unfolding ifDone isDone
+unfolding ifDone
 leaves-old Done s new old k e = absurd (⊎-elim (λ z. omega arith) (⊎-elim (λ z. omega arith) (⊎-elim (λ z. omega arith) (λ z. omega arith))) k)
 leaves-old CountTooLarge s new old k e = (e, ap (λ (t : Answer). ifDone t new old) e)
 leaves-old CannotConvertBetaToFromF64 s new old k e = (e, ap (λ (t : Answer). ifDone t new old) e)
@@ -111,7 +111,7 @@ leaves-old IndexMismatch s new old k e = (e, ap (λ (t : Answer). ifDone t new o
 leaves-old ReadError s new old k e = (e, ap (λ (t : Answer). ifDone t new old) e)
 
 pub leaves-new : (a : PieceAnswer) (s : Answer) (l new old : List Float) → a ≡ Done → pieceSays a ≡ s → l ≡ new → (done [] ≡ s) × (l ≡ ifDone s new old)
-unfolding ifDone isDone
+unfolding ifDone
 leaves-new a s l new old told e q =
     let d : done [] ≡ s = sym (ap pieceSays told) ∙ e in
     (d, q ∙ ap (λ (t : Answer). ifDone t new old) d)

@@ -33,7 +33,6 @@ module _ (file : List ℕ) (iids sids : ℕ)
     -- packed buffers "of the right length"
     (out : List ℕ) (l : length out ≡ fileLength iids sids) where
   d : isDone (acceptAnswer file iids sids) ≡ true
-  unfolding isDone
   d = ap isDone acc
 
   -- the canonical call refuses nothing
@@ -51,7 +50,6 @@ module _ (file : List ℕ) (iids sids : ℕ)
 
     module _ (other : List ℕ) (acc′ : IsAccepted other iids sids) where
       d′ : isDone (acceptAnswer other iids sids) ≡ true
-      unfolding isDone
       d′ = ap isDone acc′
 
       -- "two files' calls agree if these codes are equal": then the canonical files are equal

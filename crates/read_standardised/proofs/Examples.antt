@@ -8,7 +8,7 @@ use lib.Dec.{T, lit≤}
 use lib.IntN.{ℤ, pos, negsuc}
 use lib.ListN.{length, getD}
 use lib.Ieee.{Float, nan, fin, binary64, fits, isNan}
-use Rattle.genotype.specs.Answer.{done, refused, isDone, ifDone}
+use Rattle.genotype.specs.Answer.{done, refused, ifDone}
 use Rattle.genotype.specs.Block.{blockWidth, fileLength}
 use Rattle.genotype.specs.Entry.{isGood, means, firstBad}
 use Rattle.genotype.specs.Lists.{tabulate}
@@ -86,7 +86,7 @@ lengths = record { for-15 = refl; for-17 = refl }
 pub missing-refused : (order : Bool) → joinedAnswer binary64 M 5 2 true moved markers order val stats ≡ refused 13 (pos 0 ∷ [])
 unfolding joinedAnswer joinedChecks readNan isMode1 items blocks blockWidth checkLists firstBad isGood means
     valuesRead codesRead matrix matrixPlace tabulate readCode callCode codeIn block itemCode codeAt valueOf values
-    lowestRefused markersAnswer markerAnswer found foundFor markerStats value noValue isNan ifDone isDone
+    lowestRefused markersAnswer markerAnswer found foundFor markerStats value noValue isNan ifDone
 missing-refused true = refl
 missing-refused false = refl
 
@@ -103,15 +103,15 @@ unfolding blockWidth
 short = lit≤ tt
 
 pads-same : canonicalBuffer F 5 2 out ≡ canonicalBuffer lastByteF2 5 2 out
-unfolding canonicalBuffer canonicalAnswer checkFile canonicalFile bedFile joined isMode1 items blocks blockWidth callCode codeIn block itemCode codeAt packed packedByte tabulate ifDone isDone
+unfolding canonicalBuffer canonicalAnswer checkFile canonicalFile bedFile joined isMode1 items blocks blockWidth callCode codeIn block itemCode codeAt packed packedByte tabulate ifDone
 pads-same = refl
 
 modes-same : canonicalBuffer F 5 2 out ≡ canonicalBuffer inMode0 5 2 out
-unfolding canonicalBuffer canonicalAnswer checkFile canonicalFile bedFile joined isMode1 items blocks blockWidth callCode codeIn block itemCode codeAt packed packedByte tabulate ifDone isDone
+unfolding canonicalBuffer canonicalAnswer checkFile canonicalFile bedFile joined isMode1 items blocks blockWidth callCode codeIn block itemCode codeAt packed packedByte tabulate ifDone
 modes-same = refl
 
 missing-same : canonicalBuffer M 5 2 out ≡ canonicalBuffer M2 5 2 out
-unfolding canonicalBuffer canonicalAnswer checkFile canonicalFile bedFile joined isMode1 items blocks blockWidth callCode codeIn block itemCode codeAt packed packedByte tabulate ifDone isDone
+unfolding canonicalBuffer canonicalAnswer checkFile canonicalFile bedFile joined isMode1 items blocks blockWidth callCode codeIn block itemCode codeAt packed packedByte tabulate ifDone
 missing-same = refl
 
 pub modes-calls : CallsAgree F inMode0 5 2

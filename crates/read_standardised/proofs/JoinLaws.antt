@@ -26,7 +26,6 @@ use Rattle.read_standardised.specs.Demand.{inTurn, asRead, answersOf, va
 
 -- where a row of checks refuses, it does whatever comes later
 pub unheard : {F : Answer → Answer} → Stage F → isDone (F (done [])) ≡ false → (later : Answer) → F later ≡ F (done [])
-unfolding isDone
 unheard (lets g) e later = absurd (let q : _≡_ {A = Bool} true false = sym (ap isDone (g (done []))) ∙ e in let r : _≡_ {A = ℕ} 0 1 = cc in omega arith)
 unheard (refuses n vs g) e later = g later ∙ sym (g (done []))
 

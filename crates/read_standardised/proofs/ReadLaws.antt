@@ -37,7 +37,7 @@ lists-pass false iids sids il sl gi gs = entry-passes (firstBad sids sl) 5 _ gs 
 
 module _ (file : List ℕ) (iids sids : ℕ) (il sl : List ℤ) (acc : IsAccepted file iids sids) (gi : GoodList iids il) (gs : GoodList sids sl) where
   pub read-done : (n : ℕ) → length il * length sl ≡ n → readAnswer file iids sids il sl n ≡ done []
-  unfolding readAnswer isDone
+  unfolding readAnswer
   read-done n e =
       let a = accepted file iids sids (ap isDone acc) in
       count-passes iids _ (a .iids-fit) ∙ count-passes sids _ (a .sids-fit)

@@ -32,7 +32,6 @@ module _ (f : Format) (file : List ℕ) (iids sids : ℕ) (flag : Bool) (il sl :
   reads = read-done file iids sids il sl acc gi gs (length val) (len .for-15)
 
   pub is-read : isDone (readAnswer file iids sids il sl (length val)) ≡ true
-  unfolding isDone
   is-read = ap isDone reads
 
   pub right-17 : eqb (statsPerMarker * length sl) (length stats) ≡ true

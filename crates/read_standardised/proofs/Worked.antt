@@ -22,11 +22,11 @@ use Rattle.read_standardised.specs.Demand.{IsAccepted}
 use Rattle.read_standardised.specs.SmallHerds.{SmallHerds}
 
 last : (file : List ℕ) (outLength : ℕ) → IsAccepted file 5 (2 ^ 63 - 1) → canonicalAnswer file 5 (2 ^ 63 - 1) outLength ≡ refused 4 []
-unfolding canonicalAnswer checkSize check checkCount blockWidth isDone
+unfolding canonicalAnswer checkSize check checkCount blockWidth
 last file n acc = accepted file 5 (2 ^ 63 - 1) (ap isDone acc) .heard-later (refused 4 [])
 
 pub small-herds : SmallHerds
-unfolding canonicalBuffer canonicalAnswer canonicalFile bedFile joined readBuffer readAnswer ifDone isDone acceptAnswer isMode1 items blocks blockWidth checkLists firstBad isGood means
+unfolding canonicalBuffer canonicalAnswer canonicalFile bedFile joined readBuffer readAnswer ifDone acceptAnswer isMode1 items blocks blockWidth checkLists firstBad isGood means
     valuesRead codesRead matrix tabulate readCode callCode codeIn block itemCode codeAt valueOf values fileOrder
     entryAnswer divAnswer indexBuffer indexAnswer checkIndex checkSlice checkEnd checkCount check listAnswer listBuffer indexList sliceList stepped backward distances numbersBelow sliceEnd fromCount
     encodeBuffer placeCode codeOf sameInt sameOrNan orZero packedCodes packed packedByte orElse firstOf ifBad firstBadAnimal newBefore

@@ -8,7 +8,7 @@ use Rattle.read_standardised.specs.declared.AnswersInTurn.{AnswersInTurn
 use Rattle.read_standardised.specs.declared.JoinedAnswer.{JoinedAnswer}
 use Rattle.read_standardised.specs.declared.JoinedAnswer.the-variants as answers
 
-unfoldable pub joinedSays : JoinedAnswer → Answer
+abbrev pub joinedSays : JoinedAnswer → Answer
 joinedSays answers.Done = done []
 joinedSays answers.CountTooLarge = refused 18 []
 joinedSays answers.IndexMismatch = refused 15 []

@@ -144,7 +144,7 @@ module _ (f : Format) (sids : ℕ) (found : ℕ → MarkerStats) (old : ℕ → 
       pairOf x y = record { mean = x; deviation = y }
 
   stored-applies : (x : MarkerStats) → found m ≡ x → isDone (markerAnswer m x) ≡ true → standardised f (statsAt stored m) v ≡ applied f x v
-  unfolding applied markerAnswer isDone
+  unfolding applied markerAnswer
   stored-applies (Found s) e t = ap (λ (y : Stats). standardised f y v) (stored-is s e)
   stored-applies NoIndividuals e t = absurd (true≢false (sym t))
   stored-applies IllegalSnpMean e t = absurd (true≢false (sym t))

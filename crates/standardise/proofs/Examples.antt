@@ -77,7 +77,7 @@ pub orders-stats : laterStats binary64 true 2 1 herd false stats ≡ laterStats 
 orders-stats = orders-same-stats binary64 2 1 herd herd false stats refl cells
 
 herd-done : isDone (standardiseAnswer binary64 true 2 1 herd false stats) ≡ true
-unfolding standardiseAnswer lowestRefused markersAnswer markerAnswer ifDone isDone found foundFor markerStats noValue accumulated counted mean value matrixPlace isNan add mul div
+unfolding standardiseAnswer lowestRefused markersAnswer markerAnswer ifDone found foundFor markerStats noValue accumulated counted mean value matrixPlace isNan add mul div
 herd-done = refl
 
 pub orders-value : value true 2 1 (laterValues binary64 true 2 1 herd false stats true) 1 0 ≡ value false 2 1 (laterValues binary64 false 2 1 herd false stats true) 1 0
@@ -128,7 +128,6 @@ pub first-answer : lowestRefused binary64 true 3 1 firstColumn false six ≡ don
 first-answer = none-is-refused binary64 true 3 1 firstColumn false six first-found
 
 pub first-is-found : IsFound (found binary64 true 3 1 firstColumn false six 0)
-unfolding isDone
 first-is-found = done-all-found binary64 true 3 1 firstColumn false six (ap isDone first-answer) 0 (lit≤ tt)
 
 -- marker 1 is the lowest of the two that are refused
@@ -174,7 +173,7 @@ abbrev pub infinite : List Float
 infinite = inf false ∷ inf true ∷ nan ∷ []
 
 pub infinite-answer : (order : Bool) → lowestRefused binary64 order 3 1 infinite false six ≡ refused 14 (pos 0 ∷ [])
-unfolding lowestRefused markersAnswer markerAnswer ifDone isDone found foundFor markerStats noValue accumulated counted mean value matrixPlace isNan add mul div
+unfolding lowestRefused markersAnswer markerAnswer ifDone found foundFor markerStats noValue accumulated counted mean value matrixPlace isNan add mul div
 infinite-answer true = refl
 infinite-answer false = refl
 
@@ -192,7 +191,7 @@ infinite-is-14 order = by-number (number-told 0 (found binary64 order 3 1 infini
 
 -- in animal order no value changes
 mixed-not-done : isDone (standardiseAnswer binary64 true 3 3 (mixed true) false six) ≡ false
-unfolding standardiseAnswer isDone
+unfolding standardiseAnswer
 mixed-not-done = ap (λ (a : Answer). isDone (bufferChecks 3 3 (mixed true) six a)) (mixed-answer true)
 
 pub mixed-rows : laterValues binary64 true 3 3 (mixed true) false six true ≡ mixed true

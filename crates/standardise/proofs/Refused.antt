@@ -26,7 +26,7 @@ use Rattle.standardise.proofs.Theorems.{later-value, changes, either-sa
 -- ---- 1. the answer of the first n markers
 -- a marker's answer is done exactly if the marker is found
 found-done : (m : ℕ) (x : MarkerStats) → isDone (markerAnswer m x) ≡ true → IsFound x
-unfolding markerAnswer isDone
+unfolding markerAnswer
 found-done m (Found s) e = (s, refl)
 found-done m NoIndividuals e = absurd (true≢false (sym e))
 found-done m IllegalSnpMean e = absurd (true≢false (sym e))
@@ -51,7 +51,7 @@ number-told m IllegalSnpMean k vs e = inr (cc, refl)
 
 -- two answers of which the second counts if the first is done
 both-done : (a b : Answer) → isDone (ifDone a b a) ≡ true → (isDone a ≡ true) × (isDone b ≡ true)
-unfolding ifDone isDone
+unfolding ifDone
 both-done (done vs) b e = (refl, e)
 both-done (refused k vs) b e = absurd (true≢false (sym e))
 
@@ -66,7 +66,7 @@ module _ (g : ℕ → MarkerStats) where
 
   -- nothing is refused exactly if every marker is found
   none-refused : (n : ℕ) → ((j : ℕ) → j < n → IsFound (g j)) → markersAnswer g n ≡ done []
-  unfolding markersAnswer ifDone isDone
+  unfolding markersAnswer ifDone
   none-refused zero h = refl
   none-refused (suc n) h =
       ap (λ (a : Answer). ifDone a (markerAnswer n (g n)) a) (none-refused n (λ j l. h j (omega arith))) ∙ done-found n (g n) (h n (omega arith))
@@ -88,7 +88,7 @@ module _ (g : ℕ → MarkerStats) where
 
   -- and the lowest refused marker's is the answer
   lowest-only : (n k m : ℕ) → IsLowestRefused g n k m → markersAnswer g n ≡ refused k (pos m ∷ [])
-  unfolding markersAnswer ifDone isDone
+  unfolding markersAnswer ifDone
   lowest-only zero k m l = absurd (let h = l .in-matrix in omega arith)
   lowest-only (suc n) k m l =
       by-test (eqb m n)

@@ -98,7 +98,7 @@ same-cell f p q r = λ i. laterValue f (p i) (q i) (r i)
 -- ---- 1. the two orders
 -- a check that passed
 later-done : (b : Bool) (n : ℕ) (later : Answer) → isDone (check b n later) ≡ true → isDone later ≡ true
-unfolding check isDone
+unfolding check
 later-done true n later e = e
 later-done false n later e = absurd (true≢false (sym e))
 
@@ -148,7 +148,7 @@ module _ (f : Format) (iids sids : ℕ) (rows cols : List Float) (useStats : Boo
 refused-kept : (p q r t : Bool) (markers : Answer) (apply : Bool) (new old : List Float)
     → isDone (check p 18 (check q 18 (check r 15 (check t 17 markers)))) ≡ false
     → ifDone (check p 18 (check q 18 (check r 15 (check t 17 (done []))))) (cond (apply && isDone markers) new old) old ≡ old
-unfolding check isDone ifDone
+unfolding check ifDone
 refused-kept false q r t markers apply new old e = refl
 refused-kept true false r t markers apply new old e = refl
 refused-kept true true false t markers apply new old e = refl
@@ -173,7 +173,7 @@ either-same true v = refl
 either-same false v = refl
 
 only-marker : (g : ℕ → MarkerStats) (sids m : ℕ) → sids ≤ 1 → m < sids → isDone (markersAnswer g sids) ≡ isDone (markerAnswer m (g m))
-unfolding markersAnswer ifDone isDone
+unfolding markersAnswer ifDone
 only-marker g zero m o h = absurd (omega arith)
 only-marker g (suc zero) zero o h = refl
 only-marker g (suc zero) (suc m) o h = absurd (omega arith)
@@ -181,7 +181,7 @@ only-marker g (suc (suc n)) m o h = absurd (omega arith)
 
 -- a marker that is refused keeps its value, whether or not values may change
 only-cell : (f : Format) (m : ℕ) (b apply : Bool) (x : MarkerStats) (v : Float) → laterValue f (b && (apply && isDone (markerAnswer m x))) x v ≡ laterValue f (b && (apply && true)) x v
-unfolding laterValue applied markerAnswer isDone
+unfolding laterValue applied markerAnswer
 only-cell f m b apply (Found s) v = refl
 only-cell f m b apply NoIndividuals v = either-same (b && (apply && false)) v ∙ sym (either-same (b && (apply && true)) v)
 only-cell f m b apply IllegalSnpMean v = either-same (b && (apply && false)) v ∙ sym (either-same (b && (apply && true)) v)

@@ -15,7 +15,7 @@ use Rattle.standardise.specs.declared.StandardiseAnswer.the-variants as 
 use Rattle.statistics.specs.Statistics.{foundFor, statsPerMarker, inPlaces, statsAt, standardised}
 
 -- document 01's number and values for each case
-unfoldable pub standardiseSays : StandardiseAnswer → Answer
+abbrev pub standardiseSays : StandardiseAnswer → Answer
 standardiseSays answers.Done = done []
 standardiseSays answers.CountTooLarge = refused 18 []
 standardiseSays answers.IndexMismatch = refused 15 []
@@ -85,7 +85,7 @@ module _ (f : Format) (order : Bool) (iids sids : ℕ) (val : List Float) (useSt
 
   -- "The marker-order standardiser still applies to every marker not refused; the animal-order one changes no value."
   unfoldable pub mayChange : Bool
-  unfolding isDone lowestRefused
+  unfolding lowestRefused
   mayChange = cond order (isDone lowestRefused) true
 
   -- the values once the buffers are checked. "without applying no value changes"

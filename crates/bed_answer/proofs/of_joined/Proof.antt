@@ -84,51 +84,51 @@ one-requires-2 : tie.Need-one-requires-2
 one-requires-2 c κs = search needs
 
 returns : tie.Need-returns
-unfolding bedAnswer numberOf valuesOf clipAnswer clip carriesEntry joinedSays
+unfolding bedAnswer numberOf valuesOf clipAnswer clip carriesEntry
 returns c = told (λ a. clipAnswer (joinedSays a)) _ (c .bare .ensures) (c .before .enum-told .given .1)
 
 returns-2 : tie.Need-returns-2
-unfolding bedAnswer numberOf valuesOf clipAnswer clip carriesEntry joinedSays
+unfolding bedAnswer numberOf valuesOf clipAnswer clip carriesEntry
 returns-2 c = told (λ a. clipAnswer (joinedSays a)) _ (c .bare2 .ensures) (c .before .enum-told2 .given .1)
 
 returns-3 : tie.Need-returns-3
-unfolding bedAnswer numberOf valuesOf clipAnswer clip carriesEntry joinedSays
+unfolding bedAnswer numberOf valuesOf clipAnswer clip carriesEntry
 returns-3 c = told (λ a. clipAnswer (joinedSays a)) _ (c .bare3 .ensures) (c .before .enum-told3 .given .1)
 
 returns-4 : tie.Need-returns-4
-unfolding bedAnswer numberOf valuesOf clipAnswer clip carriesEntry joinedSays
+unfolding bedAnswer numberOf valuesOf clipAnswer clip carriesEntry
 returns-4 c = told (λ a. clipAnswer (joinedSays a)) _ (c .bare4 .ensures) (c .before .enum-told4 .given .1)
 
 returns-5 : tie.Need-returns-5
-unfolding bedAnswer numberOf valuesOf clipAnswer clip carriesEntry joinedSays
+unfolding bedAnswer numberOf valuesOf clipAnswer clip carriesEntry
 returns-5 c = told (λ a. clipAnswer (joinedSays a)) _ (c .bare5 .ensures) (c .before .enum-told5 .given .1)
 
 returns-6 : tie.Need-returns-6
-unfolding bedAnswer numberOf valuesOf clipAnswer clip carriesEntry joinedSays
+unfolding bedAnswer numberOf valuesOf clipAnswer clip carriesEntry
 returns-6 c = told (λ a. clipAnswer (joinedSays a)) _ (c .bare6 .ensures) (c .before .enum-told6 .given .1)
 
 returns-7 : tie.Need-returns-7
-unfolding bedAnswer numberOf valuesOf clipAnswer clip carriesEntry joinedSays
+unfolding bedAnswer numberOf valuesOf clipAnswer clip carriesEntry
 returns-7 c = told (λ a. clipAnswer (joinedSays a)) _ (c .bare7 .ensures) (c .before .enum-told7 .given .1)
 
 returns-8 : tie.Need-returns-8
-unfolding bedAnswer numberOf valuesOf clipAnswer clip carriesEntry joinedSays
+unfolding bedAnswer numberOf valuesOf clipAnswer clip carriesEntry
 returns-8 c = told (λ a. clipAnswer (joinedSays a)) _ (c .bare8 .ensures) (c .before .enum-told8 .given .1)
 
 returns-9 : tie.Need-returns-9
-unfolding bedAnswer numberOf valuesOf clipAnswer clip carriesEntry joinedSays
+unfolding bedAnswer numberOf valuesOf clipAnswer clip carriesEntry
 returns-9 c = told (λ a. clipAnswer (joinedSays a)) _ (c .entry .ensures ∙ ap (λ (e : ℤ). threeOf 5 e (pos 0)) (toZ-ofZ w64 (c .before .before .answer .given .0 .0) (record { sfits = c .before .known-told .given .0 .1 }))) (c .before .before .answer .given .1)
 
 returns-10 : tie.Need-returns-10
-unfolding bedAnswer numberOf valuesOf clipAnswer clip carriesEntry joinedSays
+unfolding bedAnswer numberOf valuesOf clipAnswer clip carriesEntry
 returns-10 c = told (λ a. clipAnswer (joinedSays a)) _ (c .entry2 .ensures ∙ ap (λ (e : ℤ). threeOf 6 e (pos 0)) (toZ-ofZ w64 (c .before .before .answer2 .given .0 .0) (record { sfits = c .before .known-told2 .given .0 .1 }))) (c .before .before .answer2 .given .1)
 
 returns-11 : tie.Need-returns-11
-unfolding bedAnswer numberOf valuesOf clipAnswer clip carriesEntry joinedSays
+unfolding bedAnswer numberOf valuesOf clipAnswer clip carriesEntry
 returns-11 c = told (λ a. clipAnswer (joinedSays a)) _ (c .one .ensures) (c .before .before .answer3 .given .1)
 
 returns-12 : tie.Need-returns-12
-unfolding bedAnswer numberOf valuesOf clipAnswer clip carriesEntry joinedSays
+unfolding bedAnswer numberOf valuesOf clipAnswer clip carriesEntry
 returns-12 c = told (λ a. clipAnswer (joinedSays a)) _ (c .one2 .ensures) (c .before .before .answer4 .given .1)
 
 pub of-joined-spec : {M : Type 1} → statement M

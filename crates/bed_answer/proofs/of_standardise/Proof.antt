@@ -43,27 +43,27 @@ one-requires-2 : tie.Need-one-requires-2
 one-requires-2 c κs = search needs
 
 returns : tie.Need-returns
-unfolding bedAnswer numberOf valuesOf clipAnswer clip carriesEntry standardiseSays
+unfolding bedAnswer numberOf valuesOf clipAnswer clip carriesEntry
 returns c = told (λ a. clipAnswer (standardiseSays a)) _ (c .bare .ensures) (c .before .enum-told .given .1)
 
 returns-2 : tie.Need-returns-2
-unfolding bedAnswer numberOf valuesOf clipAnswer clip carriesEntry standardiseSays
+unfolding bedAnswer numberOf valuesOf clipAnswer clip carriesEntry
 returns-2 c = told (λ a. clipAnswer (standardiseSays a)) _ (c .bare2 .ensures) (c .before .enum-told2 .given .1)
 
 returns-3 : tie.Need-returns-3
-unfolding bedAnswer numberOf valuesOf clipAnswer clip carriesEntry standardiseSays
+unfolding bedAnswer numberOf valuesOf clipAnswer clip carriesEntry
 returns-3 c = told (λ a. clipAnswer (standardiseSays a)) _ (c .bare3 .ensures) (c .before .enum-told3 .given .1)
 
 returns-4 : tie.Need-returns-4
-unfolding bedAnswer numberOf valuesOf clipAnswer clip carriesEntry standardiseSays
+unfolding bedAnswer numberOf valuesOf clipAnswer clip carriesEntry
 returns-4 c = told (λ a. clipAnswer (standardiseSays a)) _ (c .bare4 .ensures) (c .before .enum-told4 .given .1)
 
 returns-5 : tie.Need-returns-5
-unfolding bedAnswer numberOf valuesOf clipAnswer clip carriesEntry standardiseSays
+unfolding bedAnswer numberOf valuesOf clipAnswer clip carriesEntry
 returns-5 c = told (λ a. clipAnswer (standardiseSays a)) _ (c .one .ensures) (c .before .before .answer .given .1)
 
 returns-6 : tie.Need-returns-6
-unfolding bedAnswer numberOf valuesOf clipAnswer clip carriesEntry standardiseSays
+unfolding bedAnswer numberOf valuesOf clipAnswer clip carriesEntry
 returns-6 c = told (λ a. clipAnswer (standardiseSays a)) _ (c .one2 .ensures) (c .before .before .answer2 .given .1)
 
 pub of-standardise-spec : {M : Type 1} → statement M

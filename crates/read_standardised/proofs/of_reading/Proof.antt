@@ -6,7 +6,6 @@ use mir.Syntax.{w64}
 use mir.ValLaws.{toZ-ofZ}
 use Rattle.genotype.specs.Answer.{refused}
 use Rattle.bed_read.specs.Says.{readSays}
-use Rattle.read_standardised.specs.Says.{joinedSays}
 use borrow.Author.Needs.{needs}
 use Rattle.read_standardised.proofs.of_reading.Statement.{statement}
 use Rattle.read_standardised.proofs.of_reading.Tie as tie
@@ -39,41 +38,32 @@ enum-known-answer-2 : tie.Need-enum-known-answer-2
 enum-known-answer-2 c = search needs
 
 returns : tie.Need-returns
-unfolding joinedSays
 returns c = sym (ap readSays (c .enum-told .given .1))
 
 returns-2 : tie.Need-returns-2
-unfolding joinedSays
 returns-2 c = sym (ap readSays (c .enum-told2 .given .1))
 
 returns-3 : tie.Need-returns-3
-unfolding joinedSays
 returns-3 c = sym (ap readSays (c .enum-told3 .given .1))
 
 returns-4 : tie.Need-returns-4
-unfolding joinedSays
 returns-4 c = sym (ap readSays (c .enum-told4 .given .1))
 
 returns-5 : tie.Need-returns-5
-unfolding joinedSays
 returns-5 c = sym (ap readSays (c .enum-told5 .given .1))
 
 returns-6 : tie.Need-returns-6
-unfolding joinedSays
 returns-6 c = sym (ap readSays (c .enum-told6 .given .1))
 
 returns-7 : tie.Need-returns-7
-unfolding joinedSays
 returns-7 c = sym (ap readSays (c .enum-told7 .given .1))
 
 returns-8 : tie.Need-returns-8
-unfolding joinedSays
 returns-8 c =
     ap (λ (e : ℤ). refused 5 (e ∷ [])) (toZ-ofZ w64 (c .before .answer .given .0 .0) (record { sfits = c .known-told .given .0 .1 }))
     ∙ sym (ap readSays (c .before .answer .given .1))
 
 returns-9 : tie.Need-returns-9
-unfolding joinedSays
 returns-9 c =
     ap (λ (e : ℤ). refused 6 (e ∷ [])) (toZ-ofZ w64 (c .before .answer2 .given .0 .0) (record { sfits = c .known-told2 .given .0 .1 }))
     ∙ sym (ap readSays (c .before .answer2 .given .1))

@@ -1,7 +1,6 @@
 -- `of_standardising`, variant by variant.
 use mathlib.Core.Path.{sym, ap}
 use Rattle.standardise.specs.Standardised.{standardiseSays}
-use Rattle.read_standardised.specs.Says.{joinedSays}
 use borrow.Author.Needs.{needs}
 use Rattle.read_standardised.proofs.of_standardising.Statement.{statement}
 use Rattle.read_standardised.proofs.of_standardising.Tie as tie
@@ -25,27 +24,21 @@ enum-known-answer-2 : tie.Need-enum-known-answer-2
 enum-known-answer-2 c = search needs
 
 returns : tie.Need-returns
-unfolding joinedSays standardiseSays
 returns c = sym (ap standardiseSays (c .enum-told .given .1))
 
 returns-2 : tie.Need-returns-2
-unfolding joinedSays standardiseSays
 returns-2 c = sym (ap standardiseSays (c .enum-told2 .given .1))
 
 returns-3 : tie.Need-returns-3
-unfolding joinedSays standardiseSays
 returns-3 c = sym (ap standardiseSays (c .enum-told3 .given .1))
 
 returns-4 : tie.Need-returns-4
-unfolding joinedSays standardiseSays
 returns-4 c = sym (ap standardiseSays (c .enum-told4 .given .1))
 
 returns-5 : tie.Need-returns-5
-unfolding joinedSays standardiseSays
 returns-5 c = sym (ap standardiseSays (c .before .answer .given .1))
 
 returns-6 : tie.Need-returns-6
-unfolding joinedSays standardiseSays
 returns-6 c = sym (ap standardiseSays (c .before .answer2 .given .1))
 
 pub of-standardising-spec : {M : Type 1} → statement M

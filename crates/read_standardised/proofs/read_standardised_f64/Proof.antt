@@ -5,20 +5,17 @@ use native.Mathlib.Omega.{arith}
 use lib.Ieee.{binary64, ofBits, div}
 use lib.ListN.{length}
 use borrow.Author.Tests.{not-true, not-false}
-use Rattle.genotype.specs.Answer.{refused, isDone}
-use Rattle.read_standardised.specs.Says.{joinedSays}
+use Rattle.genotype.specs.Answer.{refused}
 use Rattle.read_standardised.proofs.JoinLaws.{iids-too-large, sids-too-large, values-mismatch, stats-mismatch, call-refused, standardised-after, refused-after}
 use borrow.Author.Needs.{needs}
 use Rattle.read_standardised.proofs.read_standardised_f64.Statement.{statement}
 use Rattle.read_standardised.proofs.read_standardised_f64.Tie as tie
 
 returns : tie.Need-returns
-unfolding joinedSays isDone
 returns c =
     let s = c .before .before .before .before in call-refused binary64 (s .args .file .now) (s .args .iid-count) (s .args .sid-count) (s .args .is-a1-counted) (s .args .iid-index .now) (s .args .sid-index .now) (s .args .animal-order) (s .args .val .now) (s .args .stats .now) (refused 18 []) refl (λ later. iids-too-large (s .args .file .now) (s .args .iid-count) (s .args .sid-count) (s .args .iid-index .now) (s .args .sid-index .now) (length (s .args .val .now)) (length (s .args .stats .now)) (c .if1 .taken) later)
 
 returns-2 : tie.Need-returns-2
-unfolding joinedSays isDone
 returns-2 c =
     let s = c .before .before .before .before .before in call-refused binary64 (s .args .file .now) (s .args .iid-count) (s .args .sid-count) (s .args .is-a1-counted) (s .args .iid-index .now) (s .args .sid-index .now) (s .args .animal-order) (s .args .val .now) (s .args .stats .now) (refused 18 []) refl (λ later. sids-too-large (s .args .file .now) (s .args .iid-count) (s .args .sid-count) (s .args .iid-index .now) (s .args .sid-index .now) (length (s .args .val .now)) (length (s .args .stats .now)) (c .before .if1 .left) (c .if2 .taken) later)
 
@@ -26,7 +23,6 @@ product-is-requires : tie.Need-product-is-requires
 product-is-requires c κs = search needs
 
 returns-3 : tie.Need-returns-3
-unfolding joinedSays isDone
 returns-3 c =
     let s = c .before .before .before .before .before .before .before in call-refused binary64 (s .args .file .now) (s .args .iid-count) (s .args .sid-count) (s .args .is-a1-counted) (s .args .iid-index .now) (s .args .sid-index .now) (s .args .animal-order) (s .args .val .now) (s .args .stats .now) (refused 15 []) refl (λ later. values-mismatch (s .args .file .now) (s .args .iid-count) (s .args .sid-count) (s .args .iid-index .now) (s .args .sid-index .now) (length (s .args .val .now)) (length (s .args .stats .now)) (c .before .before .before .if1 .left) (c .before .before .if2 .left) (sym (c .before .product-is .ensures) ∙ not-true _ (c .if3 .taken)) later)
 
@@ -34,7 +30,6 @@ product-is-requires-2 : tie.Need-product-is-requires-2
 product-is-requires-2 c κs = search needs
 
 returns-4 : tie.Need-returns-4
-unfolding joinedSays isDone
 returns-4 c =
     let s = c .before .before .before .before .before .before .before .before .before in call-refused binary64 (s .args .file .now) (s .args .iid-count) (s .args .sid-count) (s .args .is-a1-counted) (s .args .iid-index .now) (s .args .sid-index .now) (s .args .animal-order) (s .args .val .now) (s .args .stats .now) (refused 17 []) refl (λ later. stats-mismatch (s .args .file .now) (s .args .iid-count) (s .args .sid-count) (s .args .iid-index .now) (s .args .sid-index .now) (length (s .args .val .now)) (length (s .args .stats .now)) (c .before .before .before .before .before .if1 .left) (c .before .before .before .before .if2 .left) (sym (c .before .before .before .product-is .ensures) ∙ not-false _ (c .before .before .if3 .left)) (sym (c .before .product-is2 .ensures) ∙ not-true _ (c .if4 .taken)) later)
 

@@ -25,7 +25,6 @@ abbrev μ-loop : tie.MeasureT-loop
 μ-loop val iid-count sid-count stats₀ lowest₀ base₀ stats lowest base = sid-count - base
 
 loop-holds : tie.Need-loop-holds Inv-loop2 μ-loop2 Inv-loop μ-loop
-unfolding standardiseSays
 loop-holds c = let s = c .before .before in stats-passed-none (s .args .sid-count) false (found binary64 true (s .args .iid-count) (s .args .sid-count) (s .args .val .now) false (s .args .stats .now)) (s .args .stats .now) (s .pre .1)
 
 sub-tile-width : tie.Need-sub-tile-width Inv-loop2 μ-loop2 Inv-loop μ-loop

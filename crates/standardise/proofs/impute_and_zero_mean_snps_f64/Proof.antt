@@ -3,25 +3,21 @@ use mathlib.Core.Path.{sym, _∙_}
 use mathlib.Core.Bool.{true, false}
 use lib.Ieee.{binary64}
 use borrow.Author.Tests.{not-true, not-false, eqb-true}
-use Rattle.standardise.specs.Standardised.{standardiseSays}
 use Rattle.standardise.proofs.CallLaws.{iids-too-large, sids-too-large, values-mismatch, stats-mismatch, checks-pass, call-refused, call-made}
 use borrow.Author.Needs.{needs}
 use Rattle.standardise.proofs.impute_and_zero_mean_snps_f64.Statement.{statement}
 use Rattle.standardise.proofs.impute_and_zero_mean_snps_f64.Tie as tie
 
 returns : tie.Need-returns
-unfolding standardiseSays
 returns c = let s = c .before .before .before in call-refused binary64 (s .args .animal-order) (s .args .iid-count) (s .args .sid-count) (s .args .val .now) (s .args .use-stats) (s .args .stats .now) (s .args .apply-in-place) 18 (λ later. iids-too-large (s .args .iid-count) (s .args .sid-count) (s .args .val .now) (s .args .stats .now) later (c .if1 .taken))
 
 returns-2 : tie.Need-returns-2
-unfolding standardiseSays
 returns-2 c = let s = c .before .before .before .before in call-refused binary64 (s .args .animal-order) (s .args .iid-count) (s .args .sid-count) (s .args .val .now) (s .args .use-stats) (s .args .stats .now) (s .args .apply-in-place) 18 (λ later. sids-too-large (s .args .iid-count) (s .args .sid-count) (s .args .val .now) (s .args .stats .now) later (c .before .if1 .left) (c .if2 .taken))
 
 product-is-requires : tie.Need-product-is-requires
 product-is-requires c κs = search needs
 
 returns-3 : tie.Need-returns-3
-unfolding standardiseSays
 returns-3 c =
     let s = c .before .before .before .before .before .before in
     call-refused binary64 (s .args .animal-order) (s .args .iid-count) (s .args .sid-count) (s .args .val .now) (s .args .use-stats) (s .args .stats .now) (s .args .apply-in-place) 15
@@ -31,7 +27,6 @@ product-is-requires-2 : tie.Need-product-is-requires-2
 product-is-requires-2 c κs = search needs
 
 returns-4 : tie.Need-returns-4
-unfolding standardiseSays
 returns-4 c =
     let s = c .before .before .before .before .before .before .before .before in
     call-refused binary64 (s .args .animal-order) (s .args .iid-count) (s .args .sid-count) (s .args .val .now) (s .args .use-stats) (s .args .stats .now) (s .args .apply-in-place) 17

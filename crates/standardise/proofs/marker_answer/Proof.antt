@@ -1,11 +1,9 @@
 -- `marker_answer`, case by case.
 use mathlib.Core.Path.{sym, ap}
-use Rattle.standardise.specs.Standardised.{standardiseSays, markerAnswer}
+use Rattle.standardise.specs.Standardised.{markerAnswer}
 use borrow.Author.Needs.{needs}
 use Rattle.standardise.proofs.marker_answer.Statement.{statement}
 use Rattle.standardise.proofs.marker_answer.Tie as tie
-use Rattle.standardise.proofs.marker_answer.Reads as reads
-use Rattle.standardise.proofs.marker_answer.Lts as lts
 
 -- src/lib.rt:247:34
 enum-told : tie.Need-enum-told
@@ -21,17 +19,17 @@ enum-told-3 c = search needs
 
 -- src/lib.rt:243:1
 returns : tie.Need-returns
-unfolding markerAnswer standardiseSays
+unfolding markerAnswer
 returns c = sym (ap (markerAnswer (c .before .before .args .m)) (c .enum-told .given .1))
 
 -- src/lib.rt:243:1
 returns-2 : tie.Need-returns-2
-unfolding markerAnswer standardiseSays
+unfolding markerAnswer
 returns-2 c = sym (ap (markerAnswer (c .before .before .args .m)) (c .enum-told2 .given .1))
 
 -- src/lib.rt:243:1
 returns-3 : tie.Need-returns-3
-unfolding markerAnswer standardiseSays
+unfolding markerAnswer
 returns-3 c = sym (ap (markerAnswer (c .before .before .args .m)) (c .enum-told3 .given .1))
 
 pub marker-answer-spec : {M : Type 1} → statement M

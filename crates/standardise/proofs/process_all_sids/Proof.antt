@@ -17,7 +17,6 @@ abbrev μ-loop : tie.MeasureT-loop
 μ-loop val₀ iid-count sid-count apply-in-place use-stats stats₀ answer₀ m₀ val stats answer m = sid-count - m
 
 loop-holds : tie.Need-loop-holds Inv-loop μ-loop
-unfolding standardiseSays
 loop-holds c =
     let s = c .before .before in
     passed-none binary64 (s .args .iid-count) (s .args .sid-count) (s .args .val .now) (s .args .use-stats) (s .args .stats .now) (s .args .apply-in-place) (s .pre .0) (s .pre .1)

@@ -1,14 +1,12 @@
 -- `stats_by_rows`: lent, or worked out.
 use mathlib.Core.Bool.{true}
 use lib.Ieee.{binary64}
-use Rattle.standardise.specs.Standardised.{standardiseSays}
 use Rattle.standardise.proofs.CallLaws.{lent-answer, lent-stats, as-not-lent}
 use borrow.Author.Needs.{needs}
 use Rattle.standardise.proofs.stats_by_rows.Statement.{statement}
 use Rattle.standardise.proofs.stats_by_rows.Tie as tie
 
 returns : tie.Need-returns
-unfolding standardiseSays
 returns c = let s = c .before .before .before in (lent-answer binary64 true (s .args .iid-count) (s .args .sid-count) (s .args .val .now) (s .args .use-stats) (s .args .stats .now) (c .if1 .taken), lent-stats binary64 true (s .args .iid-count) (s .args .sid-count) (s .args .val .now) (s .args .use-stats) (s .args .stats .now) (c .if1 .taken))
 
 all-stats-requires : tie.Need-all-stats-requires

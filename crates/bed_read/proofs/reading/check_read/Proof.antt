@@ -26,7 +26,6 @@ enum-told : tie.Need-enum-told
 enum-told c = search needs
 
 shared-slice-read-check-lists : tie.Need-shared-slice-read-check-lists
-unfolding isDone
 shared-slice-read-check-lists c =
     let a = accepted _ _ _ (sym (ap isDone (sym (ap acceptSays (c .before .enum-told .given .1)) ∙ c .before .before .before .accept .ensures))) in omega (arith, a .long)
 
