@@ -1,19 +1,11 @@
-// The worked examples of document 01 that are not marked P, PLINK's published example, one marker's block, and calls whose counts nothing lent
-// backs.
+// The worked examples of document 01 that are not marked P, PLINK's published example, and one marker's block.
 // Each line says where it comes from and what that asks for, then what was seen; the file `stdout` beside src/ has them all.
-use bed_file::AcceptAnswer;
 use bed_read::reading::ReadAnswer;
 use bed_write::write::WriteAnswer;
 use block::decode::CodeAnswer;
 use block::decode::DecodeAnswer;
 use block::pack::PackAnswer;
-use canonical::CanonicalAnswer;
 use genotype::entries::IidIndex;
-use index::Bound;
-use index::Index;
-use index::ListAnswer;
-use index::RangeAny;
-use product::PieceAnswer;
 use standardise::StandardiseAnswer;
 
 fn say(text: &[u8]) {
@@ -86,29 +78,6 @@ fn read_number(a: ReadAnswer) -> u64 {
     }
 }
 
-fn accept_number(a: AcceptAnswer) -> u64 {
-    match a {
-        AcceptAnswer::Accepted => 0,
-        AcceptAnswer::CountTooLarge => 18,
-        AcceptAnswer::ReadError => 1,
-        AcceptAnswer::IllFormed => 2,
-        AcceptAnswer::BadMode => 3,
-        AcceptAnswer::IndexesTooBigForFiles => 4,
-    }
-}
-
-fn canonical_number(a: CanonicalAnswer) -> u64 {
-    match a {
-        CanonicalAnswer::Done => 0,
-        CanonicalAnswer::CountTooLarge => 18,
-        CanonicalAnswer::ReadError => 1,
-        CanonicalAnswer::IllFormed => 2,
-        CanonicalAnswer::BadMode => 3,
-        CanonicalAnswer::IndexesTooBigForFiles => 4,
-        CanonicalAnswer::EncodingLength => 16,
-    }
-}
-
 fn write_number(a: WriteAnswer) -> u64 {
     match a {
         WriteAnswer::Done => 0,
@@ -136,29 +105,6 @@ fn decode_number(a: DecodeAnswer) -> u64 {
         DecodeAnswer::CountTooLarge => 18,
         DecodeAnswer::IndexMismatch => 15,
         DecodeAnswer::EncodingLength => 16,
-    }
-}
-
-fn piece_number(a: PieceAnswer) -> u64 {
-    match a {
-        PieceAnswer::Done => 0,
-        PieceAnswer::CountTooLarge => 18,
-        PieceAnswer::CannotConvertBetaToFromF64 => 20,
-        PieceAnswer::IndexMismatch => 15,
-        PieceAnswer::ReadError => 1,
-    }
-}
-
-fn list_number(a: ListAnswer) -> u64 {
-    match a {
-        ListAnswer::Length(_) => 0,
-        ListAnswer::CountTooLarge => 18,
-        ListAnswer::BoolArrayVectorWrongLength => 8,
-        ListAnswer::StepZero => 9,
-        ListAnswer::StartGreaterThanCount => 10,
-        ListAnswer::EndGreaterThanCount => 11,
-        ListAnswer::StartGreaterThanEnd => 12,
-        ListAnswer::ListTooShort => 19,
     }
 }
 
@@ -359,118 +305,8 @@ fn columns() {
     );
 }
 
-// Counts that nothing lent backs: each call returns at once.
-fn bounded(many: usize) {
-    let header = b"\x6C\x1B\x01";
-    say(
-        b"document 01, nothing in a block: length 3 for any block count, 0 animals and 2^63 - 1 markers: saw accepted",
-    );
-    say_number(accept_number(bed_file::accept(header, 0, many)));
-    let none = [0i64; 0];
-    let mut val = [9i8; 0];
-    let a = bed_read::reading::read_i8::read_no_alloc_i8(
-        header,
-        0,
-        many,
-        true,
-        &none,
-        &none,
-        -127,
-        false,
-        &mut val,
-    );
-    say(b", read");
-    say_number(read_number(a));
-}
-
-fn no_markers(many: usize, animal_order: bool) {
-    let mut values = [9.0; 0];
-    let mut stats = [9.0; 0];
-    let a = standardise::impute_and_zero_mean_snps_f64(
-        &mut values,
-        many,
-        0,
-        animal_order,
-        true,
-        false,
-        &mut stats,
-    );
-    say_standardised(a);
-}
-
-fn nothing_written(iids: usize, sids: usize, animal_order: bool) {
-    let none = [0i8; 0];
-    let mut out = [9u8; 3];
-    let w = bed_write::write::write_i8::write_val_i8(
-        &none,
-        iids,
-        sids,
-        animal_order,
-        true,
-        -127,
-        &mut out,
-    );
-    say_number(write_number(w));
-}
-
-fn bounded_file(iids: usize, sids: usize) {
-    let header = b"\x6C\x1B\x01";
-    let mut out = [9u8; 3];
-    say(b": saw canonical");
-    say_number(canonical_number(canonical::canonical(header, iids, sids, &mut out)));
-    say(b", written");
-    nothing_written(iids, sids, false);
-    say(b" in marker order and");
-    nothing_written(iids, sids, true);
-    say(b" in animal order\n");
-}
-
-fn bounded_piece(many: usize) {
-    let bytes = [0u8; 0];
-    let mut piece = [9.0; 0];
-    say(
-        b"document 01, width 0 is 20 for A'A only, an AA' piece of width 0 over 2^63 - 1 rows: saw",
-    );
-    say_number(piece_number(product::file_aat_piece_f64(
-        &bytes,
-        0,
-        many,
-        0,
-        0,
-        many,
-        0,
-        &mut piece,
-    )));
-}
-
-fn bounded_list(many: usize) {
-    let mut list = [9i64; 1];
-    let no_vec = [0i64; 0];
-    let no_marks = [0u8; 0];
-    let all = Index::RangeAny(RangeAny {
-        start: Bound::Absent,
-        end: Bound::At(many),
-    });
-    say(
-        b"\ndocument 01, list buffer shorter than the list is 19, a range of 2^63 - 1 entries into a buffer of 1: saw",
-    );
-    say_number(list_number(all.to_vec(5, &no_vec, &no_marks, &mut list)));
-    say(b"\n");
-}
-
 fn main() {
-    let many = 9223372036854775807;
     plink_example();
     one_block();
     columns();
-    bounded(many);
-    say(b"\nno markers, so none is refused, 2^63 - 1 animals: saw standardised in both orders");
-    no_markers(many, false);
-    no_markers(many, true);
-    say(b"\na file of 3 bytes, 0 animals and 2^63 - 1 markers");
-    bounded_file(0, many);
-    say(b"a file of 3 bytes, 2^63 - 1 animals and 0 markers");
-    bounded_file(many, 0);
-    bounded_piece(many);
-    bounded_list(many);
 }
