@@ -9,7 +9,6 @@ use stored_list::buffers::same_bytes;
 use stored_list::buffers::same_f64s;
 use stored_list::buffers::same_i8s;
 use stored_list::buffers::same_i64s;
-use stored_list::words::Numbers;
 use stored_list::words::bits_of;
 use stored_list::words::float_of;
 use stored_list::words::length;
@@ -29,8 +28,8 @@ fn same_answer(words: &[usize; 715], answer: BedAnswer) -> bool {
 }
 
 // Calls that write nothing. The root's bits are in the place of the first number.
-fn root_f64(n: Numbers) -> BedAnswer {
-    let root = mungkelas::numbers::bed_root_f64(float_of(n.a));
+fn root_f64(variance: usize) -> BedAnswer {
+    let root = mungkelas::numbers::bed_root_f64(float_of(variance));
     BedAnswer {
         number: 0,
         first: signed(bits_of(root)),
@@ -44,45 +43,50 @@ fn open_and_check(words: &[usize; 715]) -> BedAnswer {
     mungkelas::reading::bed_open_and_check(&file[0..file_len])
 }
 
-fn byte_span(words: &[usize; 715], n: Numbers) -> BedAnswer {
+fn byte_span(words: &[usize; 715]) -> BedAnswer {
+    let n = numbers_of(words);
     let index = i64s_at(words, 3);
     let index_len = length(words, 3);
     mungkelas::lists::bed_byte_span(n.a, &index[0..index_len])
 }
 
-fn number_answer(call: usize, words: &[usize; 715], n: Numbers) -> BedAnswer {
+fn number_answer(call: usize, words: &[usize; 715]) -> BedAnswer {
+    let n = numbers_of(words);
     match call {
         1 => open_and_check(words),
         2 => mungkelas::lists::bed_try_div_4(n.a, n.b),
-        3 => byte_span(words, n),
+        3 => byte_span(words),
         4 => mungkelas::lists::bed_to_range(n.a, n.b == 1, n.c, n.d == 1, n.e),
-        _ => root_f64(n),
+        _ => root_f64(n.a),
     }
 }
 
 pub(crate) fn number(call: usize, words: &[usize; 715]) -> bool {
-    same_answer(words, number_answer(call, words, numbers_of(words)))
+    same_answer(words, number_answer(call, words))
 }
 
 // Calls that make lists.
-fn index_vec(words: &[usize; 715], n: Numbers, list: &mut [i64]) -> BedAnswer {
+fn index_vec(words: &[usize; 715], list: &mut [i64]) -> BedAnswer {
+    let n = numbers_of(words);
     let vec = i64s_at(words, 3);
     let vec_len = length(words, 3);
     mungkelas::lists::bed_index_vec(n.a, &vec[0..vec_len], list)
 }
 
-fn index_bool(words: &[usize; 715], n: Numbers, list: &mut [i64]) -> BedAnswer {
+fn index_bool(words: &[usize; 715], list: &mut [i64]) -> BedAnswer {
+    let n = numbers_of(words);
     let marks = bytes_at(words, 1);
     let marks_len = length(words, 1);
     mungkelas::lists::bed_index_bool(n.a, &marks[0..marks_len], list)
 }
 
-fn list_answer(call: usize, words: &[usize; 715], n: Numbers, list: &mut [i64]) -> BedAnswer {
+fn list_answer(call: usize, words: &[usize; 715], list: &mut [i64]) -> BedAnswer {
+    let n = numbers_of(words);
     match call {
         14 => mungkelas::lists::bed_index_all(n.a, list),
         15 => mungkelas::lists::bed_index_one(n.a, signed(n.b), list),
-        16 => index_vec(words, n, list),
-        17 => index_bool(words, n, list),
+        16 => index_vec(words, list),
+        17 => index_bool(words, list),
         18 => mungkelas::lists::bed_index_range(n.a, n.b == 1, n.c, n.d == 1, n.e, list),
         _ => mungkelas::lists::bed_index_slice(
             n.a,
@@ -96,7 +100,7 @@ fn list_answer(call: usize, words: &[usize; 715], n: Numbers, list: &mut [i64]) 
 }
 
 fn list_made(call: usize, words: &[usize; 715], list: &mut [i64]) -> bool {
-    let answer = list_answer(call, words, numbers_of(words), list);
+    let answer = list_answer(call, words, list);
     same_answer(words, answer) && same_i64s(words, 9, list)
 }
 
@@ -243,7 +247,8 @@ pub(crate) fn impute_and_zero_mean_snps_f64(words: &[usize; 715]) -> bool {
 }
 
 // Calls that write bytes.
-fn i8s_packed(call: usize, n: Numbers, val: &[i8], out: &mut [u8]) -> BedAnswer {
+fn i8s_packed(call: usize, words: &[usize; 715], val: &[i8], out: &mut [u8]) -> BedAnswer {
+    let n = numbers_of(words);
     match call {
         7 => mungkelas::writing::encode_i8::bed_encode1_i8(val, out, n.a == 1, signed8(n.b)),
         _ => mungkelas::writing::write_i8::bed_write_i8(
@@ -258,13 +263,14 @@ fn i8s_packed(call: usize, n: Numbers, val: &[i8], out: &mut [u8]) -> BedAnswer 
     }
 }
 
-fn pack_i8(call: usize, words: &[usize; 715], n: Numbers, out: &mut [u8]) -> BedAnswer {
+fn pack_i8(call: usize, words: &[usize; 715], out: &mut [u8]) -> BedAnswer {
     let val = i8s_at(words, 5);
     let val_len = length(words, 5);
-    i8s_packed(call, n, &val[0..val_len], out)
+    i8s_packed(call, words, &val[0..val_len], out)
 }
 
-fn f64s_packed(call: usize, n: Numbers, val: &[f64], out: &mut [u8]) -> BedAnswer {
+fn f64s_packed(call: usize, words: &[usize; 715], val: &[f64], out: &mut [u8]) -> BedAnswer {
+    let n = numbers_of(words);
     match call {
         8 => mungkelas::writing::encode_f64::bed_encode1_f64(val, out, n.a == 1, float_of(n.b)),
         _ => mungkelas::writing::write_f64::bed_write_f64(
@@ -279,28 +285,29 @@ fn f64s_packed(call: usize, n: Numbers, val: &[f64], out: &mut [u8]) -> BedAnswe
     }
 }
 
-fn pack_f64(call: usize, words: &[usize; 715], n: Numbers, out: &mut [u8]) -> BedAnswer {
+fn pack_f64(call: usize, words: &[usize; 715], out: &mut [u8]) -> BedAnswer {
     let val = f64s_at(words, 6);
     let val_len = length(words, 6);
-    f64s_packed(call, n, &val[0..val_len], out)
+    f64s_packed(call, words, &val[0..val_len], out)
 }
 
-fn canonical(words: &[usize; 715], n: Numbers, out: &mut [u8]) -> BedAnswer {
+fn canonical(words: &[usize; 715], out: &mut [u8]) -> BedAnswer {
+    let n = numbers_of(words);
     let file = bytes_at(words, 1);
     let file_len = length(words, 1);
     mungkelas::reading::bed_canonical(&file[0..file_len], n.a, n.b, out)
 }
 
-fn byte_answer(call: usize, words: &[usize; 715], n: Numbers, out: &mut [u8]) -> BedAnswer {
+fn byte_answer(call: usize, words: &[usize; 715], out: &mut [u8]) -> BedAnswer {
     match call {
-        7 | 9 => pack_i8(call, words, n, out),
-        8 | 10 => pack_f64(call, words, n, out),
-        _ => canonical(words, n, out),
+        7 | 9 => pack_i8(call, words, out),
+        8 | 10 => pack_f64(call, words, out),
+        _ => canonical(words, out),
     }
 }
 
 fn bytes_written(call: usize, words: &[usize; 715], out: &mut [u8]) -> bool {
-    let answer = byte_answer(call, words, numbers_of(words), out);
+    let answer = byte_answer(call, words, out);
     same_answer(words, answer) && same_bytes(words, 9, out)
 }
 
@@ -311,7 +318,8 @@ pub(crate) fn write(call: usize, words: &[usize; 715]) -> bool {
 }
 
 // Products.
-fn piece_answer(call: usize, n: Numbers, bytes: &[u8], piece: &mut [f64]) -> BedAnswer {
+fn piece_answer(call: usize, words: &[usize; 715], bytes: &[u8], piece: &mut [f64]) -> BedAnswer {
+    let n = numbers_of(words);
     let offset = n.a as u64;
     match call {
         20 => mungkelas::products::bed_file_ata_piece(
@@ -329,7 +337,7 @@ fn piece_answer(call: usize, n: Numbers, bytes: &[u8], piece: &mut [f64]) -> Bed
 }
 
 fn piece_made(call: usize, words: &[usize; 715], bytes: &[u8], piece: &mut [f64]) -> bool {
-    let answer = piece_answer(call, numbers_of(words), bytes, piece);
+    let answer = piece_answer(call, words, bytes, piece);
     same_answer(words, answer) && same_f64s(words, 9, piece)
 }
 
