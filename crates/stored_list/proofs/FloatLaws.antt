@@ -1,8 +1,6 @@
 -- The pattern of a NaN, and that what equals itself has one of its own.
 use mathlib.Core.Path.{_≡_, refl, sym, ap, subst, _∙_}
 use mathlib.Core.Bool.{Bool, true, false, not}
-use Prim.Native.Nat.{ℕ}
-use native.Mathlib.Omega.{arith}
 use lib.Dec.{T}
 use lib.Ieee.{Float, nan, inf, fin, ne, isNan, binary64, toBits}
 use Rattle.statistics.proofs.FloatLaws.{differs}

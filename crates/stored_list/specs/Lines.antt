@@ -1,5 +1,5 @@
 -- A line, read byte by byte into words: words are of hexadecimal digits, a space stands between two words, `|` between two sections.
-use mathlib.Core.Bool.{Bool, true, false, cond}
+use mathlib.Core.Bool.{true, false, cond}
 use mathlib.Core.List.{List}
 use Prim.Native.Nat.{ℕ, _+_, _-_, _*_}
 use lib.Dec.{ltb, eqb}

@@ -1,5 +1,5 @@
 -- The places so far have what their words stand for.
-use mathlib.Core.Path.{refl, ap, _∙_}
+use mathlib.Core.Path.{refl}
 use Prim.Native.Nat.{_-_}
 use lib.IntN.{pos}
 use mir.Syntax.{w64}

@@ -1,6 +1,6 @@
 -- The places so far have what their words stand for.
-use mathlib.Core.Path.{refl, ap, _∙_}
-use Prim.Native.Nat.{ℕ, _-_, _%_}
+use mathlib.Core.Path.{refl}
+use Prim.Native.Nat.{_-_, _%_}
 use lib.IntN.{pos}
 use mir.Syntax.{w8}
 use mir.Val.{toZ}
