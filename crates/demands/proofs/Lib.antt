@@ -1,4 +1,13 @@
 -- The theorems.
+pub mod ReadLaws
+pub mod SumLaws
+pub mod SideLaws
+pub mod LengthLaws
+pub mod Alike
+pub mod Demand3
+pub mod Computed
+pub mod Demand3Examples
+pub mod Worked
 pub mod PlinkFileLaws
 pub mod PlinkFile
 pub mod PlinkFileExamples

@@ -30,7 +30,7 @@ use Rattle.statistics.specs.Statistics.{noValue, markerStats, foundFor}
 use Rattle.standardise.specs.Standardised.{markerAnswer, markersAnswer, value, found, lowestRefused, standardiseAnswer}
 use Rattle.product.specs.Piece.{ataAnswer, aatAnswer}
 use Rattle.read_standardised.specs.Joined.{joinedAnswer}
-use Rattle.read_standardised.specs.SmallHerds.{F}
+use Rattle.demands.specs.SmallHerds.{F}
 
 -- ---- reading: "18, 15, 1 (under 3 bytes), 2 (first two bytes), 3, 4, 2 (length), 5, 6"
 abbrev animal0 : List ℤ

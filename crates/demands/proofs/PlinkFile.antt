@@ -40,8 +40,8 @@ use Rattle.canonical.specs.Canonical.{canonicalAnswer, canonicalFile, canonical
 use Rattle.canonical.proofs.BackLaws.{bed-mode, bed-call, bed-accepted}
 use Rattle.canonical.proofs.CanonicalLaws.{writable}
 use Rattle.canonical.proofs.Theorems.{writing-passed, has-code, wrote}
-use Rattle.read_standardised.specs.Demand.{IsAccepted, GoodList, meant}
-use Rattle.read_standardised.proofs.ReadLaws.{read-done}
+use Rattle.demands.specs.Demand.{IsAccepted, GoodList, meant}
+use Rattle.demands.proofs.ReadLaws.{read-done}
 use Rattle.demands.specs.PlinkFile.{IsPlinkFile, variantBit, genotypeIn, ExtraBitsZero, copiesBy, Apart, StandsIn}
 use Rattle.demands.proofs.PlinkFileLaws.{three-bytes, same-bit, part-copies, tabulated-codes, value-copies, same-genotype, stands-by-code}
 

@@ -22,8 +22,8 @@ use Rattle.bed_read.specs.Reading.{readBuffer}
 use Rattle.bed_write.specs.Packing.{placeCode, orZero, firstOf, ifBad}
 use Rattle.bed_write.specs.Writing.{valueCode, firstBadCall, checkCall, checkBuffers, writeAnswer, joined, bedFile, writeBuffer}
 use Rattle.canonical.specs.Canonical.{canonicalAnswer, canonicalBuffer, fileOrder}
-use Rattle.read_standardised.specs.Demand.{IsAccepted, GoodList, meant}
-use Rattle.read_standardised.specs.SmallHerds.{inMode0}
+use Rattle.demands.specs.Demand.{IsAccepted, GoodList, meant}
+use Rattle.demands.specs.SmallHerds.{inMode0}
 use Rattle.demands.specs.PlinkFile.{IsPlinkFile, variantBit, genotypeIn, ExtraBitsZero, copiesBy}
 use Rattle.demands.proofs.PlinkFileLaws.{i8-apart, float-apart}
 use Rattle.demands.proofs.PlinkFile.{block-is-plink, call-is-plink, call-in-mode-0, accepted-is-plink, reading-is-plink, plink-is-accepted, written-is-plink, written-extra-zero, written-stands, canonical-is-plink, canonical-extra-zero, canonical-keeps-copies, canonical-keeps, canonical-trades}

@@ -22,8 +22,8 @@ use Rattle.statistics.specs.Statistics.{plusZero, one, counted, accumulated, me
 use Rattle.statistics.specs.Calls.{two}
 use Rattle.standardise.specs.Standardised.{markerAnswer, markersAnswer, keptOrNew, applied, value, found, lowestRefused, standardiseAnswer, newStats, mayChange, newValues, laterStats, laterValues}
 use Rattle.read_standardised.specs.Joined.{readNan, joinedAnswer, joinedStats, joinedValues}
-use Rattle.read_standardised.specs.Demand.{Way, inTurn, joinedCall, asRead, answersOf, valuesOf}
-use Rattle.read_standardised.specs.Demand.{statsOf as sideStats}
+use Rattle.read_standardised.specs.Ways.{Way, inTurn, joinedCall, asRead, answersOf, valuesOf}
+use Rattle.read_standardised.specs.Ways.{statsOf as sideStats}
 use Rattle.demands.proofs.Examples.{minusOne, root-one, byRoot}
 
 -- in mode 1 (true) and mode 0 (false); marker 1 with calls, and without one

@@ -1,2 +1,5 @@
 -- Words that only theorems speak in. Each definition sets out words of document 01 or of the PLINK 1.9 format reference.
+pub mod Demand
+pub mod Alike
+pub mod SmallHerds
 pub mod PlinkFile

@@ -22,7 +22,7 @@ use Rattle.statistics.specs.Statistics.{statsPerMarker}
 use Rattle.standardise.specs.Standardised.{bufferChecks, lowestRefused, newStats, newValues, standardiseAnswer, laterStats, laterValues}
 use Rattle.standardise.proofs.CallLaws.{checks-pass}
 use Rattle.read_standardised.specs.Joined.{joinedChecks, readNan, joinedAnswer, joinedStats, joinedValues}
-use Rattle.read_standardised.specs.Demand.{inTurn, asRead, answersOf, valuesOf, statsOf}
+use Rattle.read_standardised.specs.Ways.{inTurn, asRead, answersOf, valuesOf, statsOf}
 
 -- where a row of checks refuses, it does whatever comes later
 pub unheard : {F : Answer → Answer} → Stage F → isDone (F (done [])) ≡ false → (later : Answer) → F later ≡ F (done [])

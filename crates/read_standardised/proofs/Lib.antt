@@ -1,10 +1,1 @@
 pub mod JoinLaws
-pub mod SumLaws
-pub mod ReadLaws
-pub mod SideLaws
-pub mod LengthLaws
-pub mod Alike
-pub mod Demand3
-pub mod Computed
-pub mod Examples
-pub mod Worked

@@ -1,6 +1,4 @@
--- The joined call, and the words of demand 3.
+-- The joined call, and the two ways that demand 3 compares.
 pub mod Says
 pub mod Joined
-pub mod Demand
-pub mod Alike
-pub mod SmallHerds
+pub mod Ways

@@ -6,7 +6,7 @@ ghost use Rattle.bed_read.specs.Says.{readSays};
 ghost use Rattle.standardise.specs.Standardised.{standardiseSays};
 ghost use Rattle.read_standardised.specs.Says.{joinedSays, inTurnSays};
 ghost use Rattle.read_standardised.specs.Joined.{joinedAnswer, joinedStats, joinedValues};
-ghost use Rattle.read_standardised.specs.Demand.{inTurn, answersOf, valuesOf, statsOf};
+ghost use Rattle.read_standardised.specs.Ways.{inTurn, answersOf, valuesOf, statsOf};
 use bed_read::reading::ReadAnswer;
 use standardise::StandardiseAnswer;
 

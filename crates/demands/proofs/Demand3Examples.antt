@@ -20,15 +20,16 @@ use Rattle.standardise.specs.Standardised.{value, markerAnswer, markersAnswer, 
 use Rattle.bed_read.specs.Calls.{block, codeIn, callCode}
 use Rattle.bed_read.specs.Reading.{checkLists, readAnswer, readCode, codesRead, valuesRead}
 use Rattle.bed_file.specs.File.{isMode1, items, blocks, checkFile, acceptAnswer}
-use Rattle.read_standardised.specs.Demand.{IsAccepted, CallsAgree, GoodList, meant, NamesEachOnce, RightLengths, Way, answersOf, valuesOf, statsOf}
-use Rattle.read_standardised.specs.Alike.{Alike, AlikeBuffers, OfFormat}
+use Rattle.read_standardised.specs.Ways.{Way, answersOf, valuesOf, statsOf}
+use Rattle.demands.specs.Demand.{IsAccepted, CallsAgree, GoodList, meant, NamesEachOnce, RightLengths}
+use Rattle.demands.specs.Alike.{Alike, AlikeBuffers, OfFormat}
 use Rattle.read_standardised.specs.Joined.{joinedChecks, readNan, joinedAnswer}
-use Rattle.read_standardised.specs.SmallHerds.{F, lastByteF2, inMode0}
+use Rattle.demands.specs.SmallHerds.{F, lastByteF2, inMode0}
 use Rattle.canonical.specs.Canonical.{fileOrder, canonicalFile, canonicalAnswer, canonicalBuffer}
 use Rattle.bed_write.specs.Writing.{joined, bedFile}
-use Rattle.read_standardised.proofs.Alike.{alike-is-same, same-buffers-alike}
-use Rattle.read_standardised.proofs.Computed.{allBelow, all-below, namesTest, names-by-test}
-use Rattle.read_standardised.proofs.Demand3.{canonical-is-done, canonical-is-accepted, canonical-is-itself, calls-to-canonical, canonical-to-calls, files-same-stats, files-same-answers, files-same-values, files-read, lists-same-stats, lists-same-answers, lists-moved-values, lists-read, lists-inside, files-alike-stats, files-equal-answers, files-alike-values, lists-alike-stats, lists-equal-answers, lists-alike-values}
+use Rattle.demands.proofs.Alike.{alike-is-same, same-buffers-alike}
+use Rattle.demands.proofs.Computed.{allBelow, all-below, namesTest, names-by-test}
+use Rattle.demands.proofs.Demand3.{canonical-is-done, canonical-is-accepted, canonical-is-itself, calls-to-canonical, canonical-to-calls, files-same-stats, files-same-answers, files-same-values, files-read, lists-same-stats, lists-same-answers, lists-moved-values, lists-read, lists-inside, files-alike-stats, files-equal-answers, files-alike-values, lists-alike-stats, lists-equal-answers, lists-alike-values}
 
 -- marker 1 all missing, and the same with other pads
 abbrev pub M : List ℕ

@@ -1,21 +1,16 @@
--- The words of demand 3: accepted files, lists that name each animal once, and the two ways to go. Definitions only.
+-- The words of demand 3: accepted files, calls that agree, lists that name each animal once. The two ways to go are read_standardised's Ways. Definitions only.
 use mathlib.Core.Path.{_≡_}
-use mathlib.Core.Bool.{Bool}
-use mathlib.Core.List.{List, [], _∷_}
+use mathlib.Core.List.{List, []}
 use mathlib.Core.Option.{none}
 use Prim.Native.Nat.{ℕ, _*_, _<_}
 use lib.IntN.{ℤ, pos}
 use lib.ListN.{length, getD}
-use lib.Ieee.{Float, nan, Format}
-use Rattle.genotype.specs.Answer.{Answer, done}
+use lib.Ieee.{Float}
+use Rattle.genotype.specs.Answer.{done}
 use Rattle.genotype.specs.Entry.{means, firstBad}
-use Rattle.genotype.specs.Value.{float}
 use Rattle.bed_file.specs.File.{acceptAnswer}
 use Rattle.bed_read.specs.Calls.{callCode}
-use Rattle.bed_read.specs.Reading.{readAnswer, readBuffer}
 use Rattle.statistics.specs.Statistics.{statsPerMarker}
-use Rattle.standardise.specs.Standardised.{standardiseAnswer, laterStats, laterValues}
-use Rattle.read_standardised.specs.Joined.{joinedAnswer, joinedStats, joinedValues}
 
 -- "A file is accepted for two counts if the reading's checks without 15, 5 and 6 find nothing."
 abbrev pub IsAccepted : List ℕ → ℕ → ℕ → Type 0
@@ -50,32 +45,3 @@ pub record NamesEachOnce (count : ℕ) (list : List ℤ) : Type 0 where
 pub record RightLengths (iidList sidList : List ℤ) (val stats : List Float) : Type 0 where
   pub for-15 : length iidList * length sidList ≡ length val
   pub for-17 : statsPerMarker * length sidList ≡ length stats
-
--- "Each side either reads and then standardises .. or makes the joined call"; "outside the joined call, the same two choices"
-pub data Way : Type 0 where
-  inTurn : (useStats apply : Bool) → Way
-  joinedCall : Way
-
--- a side
-module _ (f : Format) (file : List ℕ) (iids sids : ℕ) (flag : Bool) (iidList sidList : List ℤ) (order : Bool) (val stats : List Float) where
-  -- the values as the reading left them
-  unfoldable pub asRead : List Float
-  asRead = readBuffer float file iids sids flag iidList sidList nan order val
-
-  -- "standardises the values as the reading left them, in the order they were read in and with the lengths of the animal and marker lists
-  -- as its two counts": the answers of its calls
-  unfoldable pub answersOf : Way → List Answer
-  answersOf (inTurn useStats apply) =
-      readAnswer file iids sids iidList sidList (length val)
-      ∷ standardiseAnswer f order (length iidList) (length sidList) asRead useStats stats ∷ []
-  answersOf joinedCall = joinedAnswer f file iids sids flag iidList sidList order val stats ∷ []
-
-  -- "Afterwards": the value buffer
-  unfoldable pub valuesOf : Way → List Float
-  valuesOf (inTurn useStats apply) = laterValues f order (length iidList) (length sidList) asRead useStats stats apply
-  valuesOf joinedCall = joinedValues f file iids sids flag iidList sidList order val stats
-
-  -- and the statistics buffer
-  unfoldable pub statsOf : Way → List Float
-  statsOf (inTurn useStats apply) = laterStats f order (length iidList) (length sidList) asRead useStats stats
-  statsOf joinedCall = joinedStats f file iids sids flag iidList sidList order val stats

@@ -18,8 +18,8 @@ use Rattle.bed_file.proofs.FileLaws.{accepted}
 use Rattle.canonical.specs.Canonical.{fileOrder, canonicalFile, canonicalAnswer, canonicalBuffer}
 use Rattle.bed_write.specs.Writing.{joined, bedFile}
 use Rattle.bed_write.specs.Packing.{placeCode, orZero, packedCodes, orElse, firstOf, ifBad, firstBadAnimal, newBefore, encodeBuffer}
-use Rattle.read_standardised.specs.Demand.{IsAccepted}
-use Rattle.read_standardised.specs.SmallHerds.{SmallHerds}
+use Rattle.demands.specs.Demand.{IsAccepted}
+use Rattle.demands.specs.SmallHerds.{SmallHerds}
 
 last : (file : List ℕ) (outLength : ℕ) → IsAccepted file 5 (2 ^ 63 - 1) → canonicalAnswer file 5 (2 ^ 63 - 1) outLength ≡ refused 4 []
 unfolding canonicalAnswer checkSize check checkCount blockWidth

@@ -8,7 +8,7 @@ use Rattle.genotype.proofs.EntryLaws.{means-below}
 use Rattle.genotype.proofs.SpanLaws.{all-good}
 use Rattle.statistics.specs.Calls.{SumsAgree}
 use Rattle.statistics.proofs.Names.{as-long, each-once}
-use Rattle.read_standardised.specs.Demand.{meant, NamesEachOnce}
+use Rattle.demands.specs.Demand.{meant, NamesEachOnce}
 
 module _ (count : ℕ) (list : List ℤ) (names : NamesEachOnce count list) where
   pub meant-below : (k : ℕ) → k < length list → meant count list k < count

@@ -26,7 +26,7 @@ use Rattle.bed_file.proofs.FileLaws.{accepted}
 use Rattle.statistics.specs.Calls.{IsCall}
 use Rattle.standardise.specs.Standardised.{value}
 use Rattle.canonical.specs.Canonical.{fileOrder}
-use Rattle.read_standardised.specs.Demand.{IsAccepted, CallsAgree, GoodList, meant}
+use Rattle.demands.specs.Demand.{IsAccepted, CallsAgree, GoodList, meant}
 use Rattle.standardise.proofs.Theorems.{decoded-call}
 
 -- ---- an accepted file is read, with good lists and a buffer of the right length

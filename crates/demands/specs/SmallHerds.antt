@@ -15,7 +15,7 @@ use Rattle.bed_file.specs.File.{acceptAnswer}
 use Rattle.bed_read.specs.Reading.{readBuffer}
 use Rattle.canonical.specs.Canonical.{fileOrder, canonicalAnswer, canonicalBuffer}
 use Rattle.bed_write.specs.Packing.{placeCode, encodeBuffer}
-use Rattle.read_standardised.specs.Demand.{IsAccepted}
+use Rattle.demands.specs.Demand.{IsAccepted}
 
 -- "File F, 5 animals, 2 markers: 6C 1B 01 E4 00 2F 02."
 abbrev pub F : List ℕ

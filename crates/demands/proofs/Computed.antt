@@ -1,5 +1,5 @@
 -- Facts of all numbers below a given one, and of a list that names each once, from a test that computes.
-use mathlib.Core.Path.{_≡_, refl, ap, _∙_}
+use mathlib.Core.Path.{_≡_, ap, _∙_}
 use mathlib.Core.Bool.{Bool, true, false, not, _&&_, _||_}
 use mathlib.Core.List.{List}
 use Prim.Native.Nat.{ℕ, zero, suc, _<_}
@@ -9,7 +9,7 @@ use lib.Dec.{eqb, ltb}
 use lib.IntN.{ℤ}
 use lib.ListN.{length, getD}
 use Rattle.genotype.proofs.Tests.{both-true, by-test}
-use Rattle.read_standardised.specs.Demand.{GoodList, meant, MeantOnce, NamesEachOnce}
+use Rattle.demands.specs.Demand.{GoodList, meant, MeantOnce, NamesEachOnce}
 
 -- whether a test holds of every number below n
 unfoldable pub allBelow : ℕ → (ℕ → Bool) → Bool

@@ -9,7 +9,7 @@ use lib.ListN.{length, getD}
 use lib.Seq.{ext-getD}
 use lib.Ieee.{Float, nan, inf, fin, Format, fits, isNan, toBits, ofBits}
 use lib.Ieee.Bits.{ofBits-toBits}
-use Rattle.read_standardised.specs.Alike.{Alike, AlikeBuffers, OfFormat}
+use Rattle.demands.specs.Alike.{Alike, AlikeBuffers, OfFormat}
 
 is-nan : (x : Float) → isNan x ≡ true → x ≡ nan
 unfolding isNan

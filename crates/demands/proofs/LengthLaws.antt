@@ -10,11 +10,12 @@ use Rattle.genotype.specs.Matrix.{matrix}
 use Rattle.genotype.proofs.MatrixLaws.{length-matrix}
 use Rattle.standardise.specs.Standardised.{applied, value, found, mayChange, newValues}
 use Rattle.standardise.proofs.Theorems.{same-length}
 use Rattle.read_standardised.specs.Joined.{readNan}
-use Rattle.read_standardised.specs.Demand.{IsAccepted, GoodList, RightLengths, Way, inTurn, joinedCall, asRead, valuesOf}
+use Rattle.read_standardised.specs.Ways.{Way, inTurn, joinedCall, asRead, valuesOf}
+use Rattle.demands.specs.Demand.{IsAccepted, GoodList, RightLengths}
 use Rattle.read_standardised.proofs.JoinLaws.{values-are}
-use Rattle.read_standardised.proofs.ReadLaws.{length-read}
-use Rattle.read_standardised.proofs.SideLaws.{left-by-reading, right-17, is-read}
+use Rattle.demands.proofs.ReadLaws.{length-read}
+use Rattle.demands.proofs.SideLaws.{left-by-reading, right-17, is-read}
 
 module _ (f : Format) (order : Bool) (n s : ℕ) (xs : List Float) (useStats : Bool) (stats : List Float) (apply : Bool) (l : length xs ≡ n * s) where
   new-length : length (newValues f order n s xs useStats stats apply) ≡ length xs

@@ -15,14 +15,15 @@ use Rattle.bed_read.specs.Reading.{readAnswer}
 use Rattle.canonical.specs.Canonical.{fileOrder, canonicalAnswer, canonicalBuffer}
 use Rattle.statistics.specs.Calls.{FewEnough}
 use Rattle.standardise.specs.Standardised.{value}
-use Rattle.read_standardised.specs.Demand.{IsAccepted, CallsAgree, GoodList, meant, NamesEachOnce, RightLengths, Way, answersOf, valuesOf, statsOf}
-use Rattle.read_standardised.specs.Alike.{Alike, AlikeBuffers, OfFormat}
+use Rattle.read_standardised.specs.Ways.{Way, answersOf, valuesOf, statsOf}
+use Rattle.demands.specs.Demand.{IsAccepted, CallsAgree, GoodList, meant, NamesEachOnce, RightLengths}
+use Rattle.demands.specs.Alike.{Alike, AlikeBuffers, OfFormat}
 use Rattle.canonical.proofs.Theorems.{canonical-left, canonical-again, canonical-equal}
-use Rattle.read_standardised.proofs.Alike.{same-is-alike, same-buffers-alike, alike-buffers-same}
-use Rattle.read_standardised.proofs.SumLaws.{names-length, meant-below}
-use Rattle.read_standardised.proofs.ReadLaws.{length-order, order-good}
-use Rattle.read_standardised.proofs.LengthLaws.{values-length}
-use Rattle.read_standardised.proofs.SideLaws.{reads, files-answers, files-values, files-stats, lists-answers, lists-values, lists-stats}
+use Rattle.demands.proofs.Alike.{same-is-alike, same-buffers-alike, alike-buffers-same}
+use Rattle.demands.proofs.SumLaws.{names-length, meant-below}
+use Rattle.demands.proofs.ReadLaws.{length-order, order-good}
+use Rattle.demands.proofs.LengthLaws.{values-length}
+use Rattle.demands.proofs.SideLaws.{reads, files-answers, files-values, files-stats, lists-answers, lists-values, lists-stats}
 
 -- ---- 1. canonical files. "Its canonical file is the bytes that the canonical call leaves in a packed buffer of the right length"
 module _ (file : List ℕ) (iids sids : ℕ)

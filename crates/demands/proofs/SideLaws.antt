@@ -18,12 +18,13 @@ use Rattle.statistics.specs.Statistics.{statsPerMarker}
 use Rattle.statistics.specs.Calls.{IsCall, FewEnough}
 use Rattle.standardise.specs.Standardised.{value, lowestRefused, newStats, newValues, standardiseAnswer, laterStats, laterValues}
 use Rattle.standardise.proofs.Theorems.{reordered-lowest, reordered-new-stats, reordered-new-values, reordered-same-answer, reordered-same-stats, reordered-moved-values}
 use Rattle.read_standardised.specs.Joined.{readNan}
 use Rattle.canonical.specs.Canonical.{fileOrder}
-use Rattle.read_standardised.specs.Demand.{IsAccepted, CallsAgree, GoodList, meant, NamesEachOnce, RightLengths, Way, inTurn, joinedCall, asRead, answersOf, valuesOf, statsOf}
+use Rattle.read_standardised.specs.Ways.{Way, inTurn, joinedCall, asRead, answersOf, valuesOf, statsOf}
+use Rattle.demands.specs.Demand.{IsAccepted, CallsAgree, GoodList, meant, NamesEachOnce, RightLengths}
 use Rattle.read_standardised.proofs.JoinLaws.{as-read-is, answer-is, values-are, stats-are}
-use Rattle.read_standardised.proofs.SumLaws.{same-sums, names-length, meant-below}
-use Rattle.read_standardised.proofs.ReadLaws.{read-done, values-same, length-read, cell-read, call-read, length-order, order-means, order-good}
+use Rattle.demands.proofs.SumLaws.{same-sums, names-length, meant-below}
+use Rattle.demands.proofs.ReadLaws.{read-done, values-same, length-read, cell-read, call-read, length-order, order-means, order-good}
 
 -- ---- a side whose file is accepted, whose lists are good, and whose buffers have the right lengths
 module _ (f : Format) (file : List ℕ) (iids sids : ℕ) (flag : Bool) (il sl : List ℤ) (order : Bool) (val stats : List Float)
