@@ -163,10 +163,11 @@ class _Lent:
         _get(self.thing, ctypes.byref(view), _FORMAT_AND_SHAPE | (_WRITABLE if self.written else 0))
         letters, size = _TYPES[self.values]
         letter = (view.format or b"B").decode().lstrip("@=<")
-        if letter not in letters or view.itemsize != size or (view.buf or 0) % size:
+        address = view.buf if view.len else None  # null is allowed there, and aligned
+        if letter not in letters or view.itemsize != size or (address or 0) % size:
             _release(ctypes.byref(view))
             raise TypeError("a buffer of aligned {} values is needed, not one of {!r}".format(self.values, letter))
-        return view, view.len // size
+        return view, address, view.len // size
 
 
 def _list(entries):
@@ -203,9 +204,9 @@ def _call(function, *arguments):
     try:
         for argument in arguments:
             if isinstance(argument, _Lent):
-                view, length = argument.take()
+                view, address, length = argument.take()
                 views.append(view)
-                plain += [view.buf, length]
+                plain += [address, length]
             else:
                 plain.append(argument)
         answer = function(*plain)
