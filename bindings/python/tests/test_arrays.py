@@ -186,12 +186,18 @@ def test_lent():
                     same(all(np.shares_memory(one, out) for one in lent), True, "out is lent")
                     same(sum(one.size for one in lent), out.size, "every value is lent once")
                     same(len(lent) > 1, threads > 1, "with threads it is cut")
-        with Cut(100, 4), Seen("read_f64") as seen:
-            bed.read(dtype="float32", num_threads=2)
-        same(max(one.size for one in seen.calls) <= 100 + 40, True, "scratch is bounded")
         with Seen("read_standardised_f64") as seen:
             val, stats = bed.read_standardised(num_threads=1)
         same(np.shares_memory(seen.calls[0], stats), True, "statistics are lent")
+    for mode in (0, 1):
+        with open_bed(saved("drawn.bed", drawn(mode, 40, 30)), 40, 30) as bed:
+            for order in "FC":
+                with Cut(100, 10), Seen("read_f64") as values, Seen("read_f64", 4) as animals, Seen("read_f64", 5) as markers:
+                    bed.read(dtype="float32", order=order, num_threads=2)
+                lines = max(len(one) for one in (markers if order == "F" else animals).calls)
+                along = 2 if order == "F" else 3  # lines of 40 or 30 values in a part
+                same(lines, 10 if (mode == 1) == (order == "C") else along, "the lines of a part")
+                same(max(one.size for one in values.calls) <= 100, True, "scratch is bounded")
     for dtype, call in (("int8", "write_i8"), ("float64", "write_f64")):
         for order in "FC":
             val = np.array(typed(unpacked(file, 40, 30), dtype), order=order)
@@ -215,7 +221,7 @@ def test_index():
         cut = slice(draw.choice(bounds), draw.choice(bounds), draw.choice([None, 1, 2, 5, 40, -1, -2, -5, -40]))
         return [None, slice(None), int(entries[0]), np.int32(entries[1]), np.array(entries[2]), entries, entries.tolist(), tuple(entries.tolist())[:0],
                 [], entries[::2], entries.astype(np.int8), np.abs(entries).astype(np.uint64) % count, marks, marks.tolist(), marks[::-1], cut,
-                slice(None, None, -1), slice(2, None, 10**30), slice(None, 2, -10**30), range(1, 5), range(5, 1), range(5, 1, -2), range(-2, 2), range(0)]
+                slice(None, None, -1), slice(2, None, 10**30), slice(None, 2, -10**30), range(1, 5), range(1, 6, 2), range(5, 1), range(5, 1, -2), range(-2, 2), range(0)]
 
     def meant(index, count):
         every = np.arange(count)
@@ -339,7 +345,9 @@ def test_out():
         raised((ValueError,), bed.read, num_threads=-1)
         # an index in the memory of out
         room = np.arange(5)
-        got = bed.read(([0], room), out=room.view("float64").reshape(1, 5))
+        with Seen("read_f64", 5) as seen:
+            got = bed.read(([0], room), out=room.view("float64").reshape(1, 5))
+        same([np.shares_memory(one, got) for one in seen.calls], [False], "the list lent beside out")
         alike(got, typed(calls, "float64")[:1], "an index in the memory of out")
 
 
@@ -459,7 +467,9 @@ def test_writing():
                 val = np.where(calls == MISSING, np.nan, calls).astype(dtype) if floating else calls.astype(dtype)
                 double = np.zeros((2 * iids, 2 * sids), dtype)
                 double[::2, ::2] = val
-                for form in (np.asfortranarray(val), np.ascontiguousarray(val), double[::2, ::2], val[::-1, ::-1][::-1, ::-1]):
+                unaligned = np.zeros(val.nbytes + 1, np.uint8)[1:].view(dtype).reshape(val.shape)
+                unaligned[:] = val
+                for form in (np.asfortranarray(val), np.ascontiguousarray(val), double[::2, ::2], unaligned):
                     for threads in (1, 2, 3):
                         with Cut(draw.choice([1, 7, 30]), 1):
                             to_bed(path("w.bed"), form, count_A1=flag, num_threads=threads)
@@ -514,6 +524,15 @@ def test_refused_writing():
             "try: to_bed(sys.argv[1], numpy.zeros((100, 200), 'int8'))\nexcept OSError as e: print(e.errno)")
     ran = subprocess.run([sys.executable, "-c", code, path("k.bed")], stdout=subprocess.PIPE, check=True)
     same(ran.stdout, b"27\n", "a file that is too large for its place")
+    unchanged()
+    before_reserving = os.posix_fallocate
+
+    def full(file, start, length):
+        raise OSError(28, "full")
+
+    os.posix_fallocate = full
+    same(raised((OSError,), to_bed, path("k.bed"), np.zeros((3, 2))).errno, 28, "a full disk")
+    os.posix_fallocate = before_reserving
     unchanged()
 
 

@@ -277,10 +277,12 @@ def test_lending():
     grown.append(0)
     same(len(grown), 8, "a buffer is given back after a refusal too")
     # a buffer's values have the call's type, stand beside each other, and can be written where the call writes
-    for wrong in (array("B", b"\x09"), array("h", [9]), b"\x09", (ctypes.c_double * 1)()):
+    shut = memoryview(array("b", b"\x09")).toreadonly()
+    for wrong in (array("B", b"\x09"), array("h", [9]), b"\x09", (ctypes.c_double * 1)(), shut):
         raised(((TypeError, BufferError),), core.read_i8, F, 5, 2, True, *lists, 0, False, wrong)
     for wrong in (array("f", [0]), array("q", [0]), bytes(8), memoryview(bytearray(17))[1:9].cast("d"), memoryview(array("d", [0] * 4))[::2]):
         raised(((TypeError, BufferError),), core.read_f64, F, 5, 2, True, *lists, 0, False, wrong)
+    raised((BufferError,), core.index_all, 1, memoryview(array("q", [9])).toreadonly())
     for wrong in (array("i", [0]), array("d", [0]), ["0"], [0.0], 0, b"\x00"):
         raised((TypeError,), core.read_i8, F, 5, 2, True, wrong, [0], 0, False, one)
     # a number that its parameter cannot hold
