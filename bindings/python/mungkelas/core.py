@@ -148,8 +148,8 @@ _release = ctypes.pythonapi.PyBuffer_Release
 _release.argtypes, _release.restype = [ctypes.POINTER(_View)], None
 _WRITABLE, _FORMAT_AND_SHAPE = 1, 4 | 8
 
-# What a buffer's values may be called, and their width.
-_TYPES = {"u8": ("Bbc?", 1), "i8": ("b", 1), "i64": ("ql", 8), "f64": ("d", 8)}
+# The letters that stand for a buffer's values, and their width.
+_TYPES = {"u8": (set("Bbc?"), 1), "i8": (set("b"), 1), "i64": (set("ql"), 8), "f64": (set("d"), 8)}
 
 
 class _Lent:

@@ -19,6 +19,13 @@ def lines_of_part(lines, length, across, threads, whole):
     return max(1, share if whole else min(share, PART // length), LEAST // length, ACROSS if across else 1)
 
 
+def run_lines(work, lines, length, across, threads, told):
+    """work(start, end) for parts of the lines of a matrix."""
+    whole = told.progress is None and (threads == 1 or across)
+    cuts = cut(lines, lines_of_part(lines, length, across, threads, whole))
+    run(lambda part: work(*part), cuts, threads, lambda part: told.add((part[1] - part[0]) * length))
+
+
 def thread_count(*wishes):
     """The first wish that is not None, else the environment's, else the processors that this process may use."""
     wishes += os.environ.get("MUNGKELAS_NUM_THREADS"), os.environ.get("NUM_THREADS"), 0
@@ -26,6 +33,19 @@ def thread_count(*wishes):
     if count < 0:
         raise ValueError("num_threads is {}".format(count))
     return count or len(os.sched_getaffinity(0))
+
+
+class Told:
+    """Tells progress, a function or None, how many values are done."""
+
+    def __init__(self, progress, total):
+        self.progress, self.done, self.total = progress, 0, total
+        self.add(0)
+
+    def add(self, values):
+        self.done += values
+        if self.progress is not None:
+            self.progress(self.done, self.total)
 
 
 def run(work, parts, threads, tell):

@@ -23,19 +23,6 @@ def met(where):
         raise core.refusal(e.number, e.first, e.second, where) from None
 
 
-class _Told:
-    """Tells progress how much is done."""
-
-    def __init__(self, progress, total):
-        self.progress, self.done, self.total = progress, 0, total
-        self.add(0)
-
-    def add(self, values):
-        self.done += values
-        if self.progress is not None:
-            self.progress(self.done, self.total)
-
-
 def _room(out, dtype, order, shape):
     """The matrix to be filled, out or a new one, and its order."""
     if out is None:
@@ -178,17 +165,13 @@ class open_bed:
         """Reads into values, a matrix of int8 or float64 as it stands in memory, by whole lines."""
         call = core.read_i8 if values.dtype == np.int8 else core.read_f64
         missing = _MISSING[values.dtype]
-        across = self._across(order)
         lines, length = (len(markers), len(animals)) if order == "F" else (len(animals), len(markers))
-        whole = told.progress is None and (threads == 1 or across)
 
-        def work(part):
-            start, end = part
+        def work(start, end):
             lists = (animals, markers[start:end]) if order == "F" else (animals[start:end], markers)
             call(*self._asked(), *lists, missing, order == "C", values[start * length:end * length])
 
-        cuts = parts.cut(lines, parts.lines_of_part(lines, length, across, threads, whole))
-        parts.run(work, cuts, threads, lambda part: told.add((part[1] - part[0]) * length))
+        parts.run_lines(work, lines, length, self._across(order), threads, told)
 
     def _read_tiles(self, animals, markers, order, val, threads, told):
         """Reads into val, a matrix of float32, through a scratch buffer of float64 for each thread."""
@@ -226,7 +209,7 @@ class open_bed:
         animals, markers = self._lists(index, out)
         val, order = _room(out, dtype, order, (len(animals), len(markers)))
         threads = parts.thread_count(num_threads, self._num_threads)
-        told = _Told(progress, val.size)
+        told = parts.Told(progress, val.size)
         if val.dtype == np.float32:
             self._read_tiles(animals, markers, order, np.asarray(val), threads, told)
         else:
@@ -244,42 +227,38 @@ class open_bed:
         val, order = _room(out, np.float64, order, (len(animals), len(markers)))
         threads = parts.thread_count(num_threads, self._num_threads)
         stats = np.zeros((len(markers), core.STATS_PER_MARKER))
-        told = _Told(progress, val.size * (1 if order == "F" else 2))
+        told = parts.Told(progress, val.size * (1 if order == "F" else 2))
         with met(self.filepath):
             way = self._standardise_by_markers if order == "F" else self._standardise_by_animals
             way(animals, markers, flat(val, order), flat(stats, "C"), threads, told)
         return val, stats
 
     def _standardise_by_markers(self, animals, markers, values, stats, threads, told):
-        across, length, record = self._across("F"), len(animals), core.STATS_PER_MARKER
+        """Each part in one joined call; every part is gone through, so that 13 names the lowest marker."""
+        length, record = len(animals), core.STATS_PER_MARKER
         refused = []
 
-        def work(part):
-            start, end = part
+        def work(start, end):
             try:
                 core.read_standardised_f64(*self._asked(), animals, markers[start:end], False,
                                            values[start * length:end * length], stats[start * record:end * record])
             except core.BedError as e:
                 refused.append(core.refusal(e.number, e.first + start))
 
-        whole = told.progress is None and (threads == 1 or across)
-        cuts = parts.cut(len(markers), parts.lines_of_part(len(markers), length, across, threads, whole))
-        parts.run(work, cuts, threads, lambda part: told.add((part[1] - part[0]) * length))
+        parts.run_lines(work, len(markers), length, self._across("F"), threads, told)
         if refused:
             raise min(refused, key=lambda e: e.first)
 
     def _standardise_by_animals(self, animals, markers, values, stats, threads, told):
+        """Reads in parts, finds the statistics of the whole matrix in one call, and applies them in parts."""
         self._read_lines(animals, markers, "C", values, threads, told)
         length = len(markers)
         core.impute_and_zero_mean_snps_f64(values, len(animals), length, True, False, False, stats)
 
-        def work(part):
-            start, end = part
+        def work(start, end):
             core.impute_and_zero_mean_snps_f64(values[start * length:end * length], end - start, length, True, True, True, stats)
 
-        whole = told.progress is None and threads == 1
-        cuts = parts.cut(len(animals), parts.lines_of_part(len(animals), length, False, threads, whole))
-        parts.run(work, cuts, threads, lambda part: told.add((part[1] - part[0]) * length))
+        parts.run_lines(work, len(animals), length, False, threads, told)
 
 
 def _property(name, ending):
