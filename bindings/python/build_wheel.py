@@ -1,6 +1,7 @@
-"""build_wheel.py LIBRARY DIRECTORY: writes the wheel, with the shared library in it, to the directory and prints its path.
+"""build_wheel.py LIBRARY DIRECTORY: writes the wheel, with the shared library in it, to the directory; prints its path.
 
-Uses Python's own library alone. pyproject.toml names this file as the build backend; LIBRARY is then what ./library prints.
+Uses Python's own library alone. pyproject.toml names this file as the build backend; LIBRARY is then what ./library
+prints.
 """
 import base64
 import hashlib
@@ -73,8 +74,8 @@ def make(library, directory):
 
 
 def build_wheel(wheel_directory, config_settings=None, metadata_directory=None):
-    library = subprocess.run([os.path.join(HERE, "library")], check=True, stdout=subprocess.PIPE).stdout.decode().strip()
-    return make(library, wheel_directory)
+    ran = subprocess.run([os.path.join(HERE, "library")], check=True, stdout=subprocess.PIPE)
+    return make(ran.stdout.decode().strip(), wheel_directory)
 
 
 if __name__ == "__main__":

@@ -1,7 +1,7 @@
 """Reading, writing and standardising genotypes of PLINK .bed files.
 
-open_bed and to_bed work on NumPy arrays, and NumPy is loaded when one of them is first named; mungkelas.core has the calls of
-the library and needs no NumPy.
+open_bed and to_bed work on NumPy arrays, and NumPy is loaded when one of them is first named; mungkelas.core has the
+calls of the library and needs no NumPy.
 """
 from ._version import __version__
 from .core import BedError, BedIndexError, BedValueError

@@ -1,8 +1,8 @@
 """The calls of include/mungkelas.h, a function each, over ctypes. Needs no NumPy.
 
-A buffer is any object that lends its bytes: bytes, bytearray, mmap, array.array, memoryview, a NumPy array. It is lent and
-never copied, and its length is the one that the call is told; it is contiguous, its values are of the type that the call
-asks, and it can be written where the call writes. A list may also be an iterable of ints, of which an array is made.
+A buffer is any object that lends its bytes: bytes, bytearray, mmap, array.array, memoryview, a NumPy array. It is lent
+and never copied, and its length is the one that the call is told; it is contiguous, its values are of the type that the
+call asks, and it can be written where the call writes. A list may also be an iterable of ints, of which an array is made.
 
 The header says what each call reads and writes and which refusals it has. A refusal is raised as BedError.
 """

@@ -6,8 +6,8 @@ import numpy as np
 # name, type, and what stands there by default: a value, or a word that is numbered from 1.
 FAM = {"fid": (np.str_, "0"), "iid": (np.str_, "iid{}"), "father": (np.str_, "0"), "mother": (np.str_, "0"),
        "sex": (np.int32, 0), "pheno": (np.str_, "0")}
-BIM = {"chromosome": (np.str_, "0"), "sid": (np.str_, "sid{}"), "cm_position": (np.float32, 0), "bp_position": (np.int32, 0),
-       "allele_1": (np.str_, "A1"), "allele_2": (np.str_, "A2")}
+BIM = {"chromosome": (np.str_, "0"), "sid": (np.str_, "sid{}"), "cm_position": (np.float32, 0),
+       "bp_position": (np.int32, 0), "allele_1": (np.str_, "A1"), "allele_2": (np.str_, "A2")}
 
 
 def path_of(bed, given, ending):

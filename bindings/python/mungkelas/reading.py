@@ -177,8 +177,8 @@ class open_bed:
         """Reads into val, a matrix of float32, through a scratch buffer of float64 for each thread."""
         lines, length = (len(markers), len(animals)) if order == "F" else (len(animals), len(markers))
         height = parts.lines_of_part(lines, length, self._across(order), threads, False)
-        cuts = parts.cut(lines, height), parts.cut(length, max(1, parts.PART // height))
-        tiles = [(a, m) for m in cuts[0] for a in cuts[1]] if order == "F" else [(a, m) for a in cuts[0] for m in cuts[1]]
+        heights, widths = parts.cut(lines, height), parts.cut(length, max(1, parts.PART // height))
+        tiles = [(w, h) if order == "F" else (h, w) for h in heights for w in widths]  # animals, markers
         own = threading.local()
 
         def work(tile):
@@ -199,8 +199,8 @@ class open_bed:
     def read(self, index=None, dtype=None, order=None, *, out=None, num_threads=None, progress=None):
         """The calls of the animals and markers that the index means, as a matrix of animals times markers.
 
-        index: a tuple of two, animals and markers, or one of the markers alone. Each is None (all), an int, a slice, bools, or
-            ints, of which a negative one counts from the end.
+        index: a tuple of two, animals and markers, or one of the markers alone. Each is None (all), an int, a slice,
+            bools, or ints, of which a negative one counts from the end.
         dtype: float32 (by default), float64 or int8. A missing call is NaN, in int8 -127.
         order: 'F' (by default: a marker's values beside each other) or 'C' (an animal's).
         out: the array to be filled, with dtype and order its own. At a refusal it is as it was.
@@ -219,9 +219,9 @@ class open_bed:
     def read_standardised(self, index=None, order=None, *, out=None, num_threads=None, progress=None):
         """The same calls standardised, as float64, and the statistics, a row for each marker read: mean, deviation.
 
-        A value is (value - mean) * (1 / deviation), and 0 where the call is missing or the marker's calls are all one value. A marker
-        without calls is refused (13); out then holds what bed_read_standardised_f64 leaves. In order 'C' the values are gone
-        through twice, and progress counts them twice.
+        A value is (value - mean) * (1 / deviation), and 0 where the call is missing or the marker's calls are all one
+        value. A marker without calls is refused (13); out then holds what bed_read_standardised_f64 leaves. In order 'C'
+        the values are gone through twice, and progress counts them twice.
         """
         animals, markers = self._lists(index, out)
         val, order = _room(out, np.float64, order, (len(animals), len(markers)))
@@ -256,7 +256,8 @@ class open_bed:
         core.impute_and_zero_mean_snps_f64(values, len(animals), length, True, False, False, stats)
 
         def work(start, end):
-            core.impute_and_zero_mean_snps_f64(values[start * length:end * length], end - start, length, True, True, True, stats)
+            some = values[start * length:end * length]
+            core.impute_and_zero_mean_snps_f64(some, end - start, length, True, True, True, stats)
 
         parts.run_lines(work, len(animals), length, False, threads, told)
 

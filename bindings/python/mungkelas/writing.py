@@ -62,8 +62,8 @@ def _pack(val, width, flag, threads, mapped):
 def to_bed(filepath, val, properties={}, count_A1=True, fam_filepath=None, bim_filepath=None, *, num_threads=None):
     """Writes val, a matrix of animals times markers, as a .bed of mode 1, with a .fam and a .bim beside it.
 
-    val: values 0, 1, 2 and missing: NaN among floats, -127 among ints. int8 and float64 that are contiguous are lent as they
-        are, others converted in parts. Another value is refused (7), with its animal and marker.
+    val: values 0, 1, 2 and missing: NaN among floats, -127 among ints. int8 and float64 that are contiguous are lent as
+        they are, others converted in parts. Another value is refused (7), with its animal and marker.
     properties: names for the .fam and .bim; by default iid1, iid2 and so on, sid1, sid2 and so on, A1, A2, and 0.
     count_A1: whether values count the first allele, else the second.
     Every file is written as PATH.part, and all are renamed when the last one is done.

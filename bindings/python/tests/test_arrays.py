@@ -1,6 +1,9 @@
-"""Tests open_bed and to_bed beside an unpacking and a standardising written in NumPy alone: drawn files of both modes with set pads, every
-dtype, order and thread count, every form of index, out, progress, refusals, names, and writing."""
+"""Tests open_bed and to_bed beside an unpacking and a standardising written in NumPy alone: drawn files of both modes with
+set pads, every dtype, order and thread count, every form of index, out, progress, refusals, names, and writing."""
+import contextlib
+import io
 import os
+import re
 import subprocess
 import sys
 import tempfile
@@ -103,8 +106,13 @@ class Seen:
         self.name, self.place, self.calls = name, place, []
 
     def __enter__(self):
-        self.before = getattr(core, self.name)
-        setattr(core, self.name, lambda *arguments: (self.calls.append(arguments[self.place]), self.before(*arguments))[1])
+        before = self.before = getattr(core, self.name)
+
+        def kept(*arguments):
+            self.calls.append(arguments[self.place])
+            return before(*arguments)
+
+        setattr(core, self.name, kept)
         return self
 
     def __exit__(self, *_):
@@ -192,9 +200,9 @@ def test_lent():
     for mode in (0, 1):
         with open_bed(saved("drawn.bed", drawn(mode, 40, 30)), 40, 30) as bed:
             for order in "FC":
-                with Cut(100, 10), Seen("read_f64") as values, Seen("read_f64", 4) as animals, Seen("read_f64", 5) as markers:
+                with Cut(100, 10), Seen("read_f64") as values, Seen("read_f64", 5 if order == "F" else 4) as lists:
                     bed.read(dtype="float32", order=order, num_threads=2)
-                lines = max(len(one) for one in (markers if order == "F" else animals).calls)
+                lines = max(len(one) for one in lists.calls)
                 along = 2 if order == "F" else 3  # lines of 40 or 30 values in a part
                 same(lines, 10 if (mode == 1) == (order == "C") else along, "the lines of a part")
                 same(max(one.size for one in values.calls) <= 100, True, "scratch is bounded")
@@ -219,9 +227,10 @@ def test_index():
         entries = draw.randint(-count, count, 5)
         bounds = [None, *range(-count - 3, count + 4)]
         cut = slice(draw.choice(bounds), draw.choice(bounds), draw.choice([None, 1, 2, 5, 40, -1, -2, -5, -40]))
-        return [None, slice(None), int(entries[0]), np.int32(entries[1]), np.array(entries[2]), entries, entries.tolist(), tuple(entries.tolist())[:0],
-                [], entries[::2], entries.astype(np.int8), np.abs(entries).astype(np.uint64) % count, marks, marks.tolist(), marks[::-1], cut,
-                slice(None, None, -1), slice(2, None, 10**30), slice(None, 2, -10**30), range(1, 5), range(1, 6, 2), range(5, 1), range(5, 1, -2), range(-2, 2), range(0)]
+        return [None, slice(None), int(entries[0]), np.int32(entries[1]), np.array(entries[2]), entries, entries.tolist(),
+                (), [], entries[::2], entries.astype(np.int8), np.abs(entries).astype(np.uint64) % count, marks,
+                marks.tolist(), marks[::-1], cut, slice(None, None, -1), slice(2, None, 10**30), slice(None, 2, -10**30),
+                range(1, 5), range(1, 6, 2), range(5, 1), range(5, 1, -2), range(-2, 2), range(0)]
 
     def meant(index, count):
         every = np.arange(count)
@@ -241,7 +250,7 @@ def test_index():
                 if not isinstance(markers, tuple):
                     alike(bed.read(markers, "int8"), calls[:, meant(markers, sids)], "index {!r}".format(markers))
         alike(bed.read(np.s_[2:5, ::-3], "int8"), calls[2:5, ::-3], "np.s_")
-        for wrong in ("sid1", 1.0, [1.0], True, np.zeros((1, 1), int), (1, 2, 3), (1,), (None, "a"), [2**64], {1}, Ellipsis):
+        for wrong in ("sid1", 1.0, [1.0], True, np.zeros((1, 1), int), (1, 2, 3), (1,), (None, "a"), [2**64], {1}, ...):
             raised((TypeError,), bed.read, wrong)
         raised((OverflowError,), bed.read, np.array([2**64 - 1], np.uint64))
         raised((OverflowError,), bed.read, 2**63 + 1)
@@ -276,15 +285,15 @@ def test_standardised():
                     for order in "FC":
                         left = np.full(cut.shape, 9, "float64", order)
                         if len(empty):
-                            count = len(lists[0]) * len(lists[1])
-                            records = np.full(core.STATS_PER_MARKER * len(lists[1]), 9.0)
-                            core_out = np.full(count, 9.0)
-                            raised((BedError,), core.read_standardised_f64, file, iids, sids, True, *lists, order == "C", core_out, records)
+                            records, core_out = np.zeros(stats.size), np.full(cut.size, 9.0)
+                            raised((BedError,), core.read_standardised_f64, file, iids, sids, True, *lists, order == "C",
+                                   core_out, records)
                             core_out = core_out.reshape(cut.shape, order=order)
                         for threads in (1, 2, 3):
                             with Cut(draw.choice([1, 7, 30]), draw.choice([1, 3])):
                                 if len(empty):
-                                    e = raised((BedError, ValueError), bed.read_standardised, lists, order, out=left, num_threads=threads)
+                                    e = raised((BedError, ValueError), bed.read_standardised, lists, order, out=left,
+                                               num_threads=threads)
                                     same((e.number, e.first, e.second), (13, empty[0], 0), "a marker without calls")
                                     alike(left, core_out, "what 13 leaves")
                                 else:
@@ -298,20 +307,24 @@ def test_standardised():
 
 
 def test_progress():
+    here = threading.current_thread
     file = drawn(1, 40, 30)
     with open_bed(saved("drawn.bed", file), 40, 30) as bed:
         for threads in (1, 2, 3):
             for order in "FC":
-                calls = [lambda tell, dtype=dtype: bed.read(None, dtype, order, num_threads=threads, progress=tell) for dtype in DTYPES]
-                calls.append(lambda tell: bed.read_standardised(order=order, num_threads=threads, progress=tell))
-                for call, passes in zip(calls, (1, 1, 1, 1 if order == "F" else 2)):
+                for dtype in DTYPES + ("standardised",):
                     told = []
+                    options = {"num_threads": threads, "progress": lambda *numbers: told.append((here(), *numbers))}
                     with Cut(100, 4):
-                        call(lambda done, total: told.append((done, total, threading.current_thread())))
-                    numbers = [one[0] for one in told]
+                        if dtype == "standardised":
+                            bed.read_standardised(None, order, **options)
+                        else:
+                            bed.read(None, dtype, order, **options)
+                    total = 2400 if dtype == "standardised" and order == "C" else 1200
+                    same({(one[0], one[2]) for one in told}, {(here(), total)}, "the thread and the total")
+                    numbers = [one[1] for one in told]
                     same(numbers, sorted(set(numbers)), "progress rises")
-                    same((numbers[0], numbers[-1], len(numbers) > 5), (0, passes * 1200, True), "progress from nothing to all")
-                    same({one[1:] for one in told}, {(passes * 1200, threading.current_thread())}, "the total and the thread")
+                    same((numbers[0], numbers[-1], len(numbers) > 5), (0, total, True), "progress from nothing to all")
 
         def stop(done, total):
             if done:
@@ -328,13 +341,13 @@ def test_out():
     calls = unpacked(file, 6, 5)
     with open_bed(saved("drawn.bed", file), 6, 5) as bed:
         out = np.zeros((6, 5), "float64")
-        alike(bed.read(out=out, order="C", dtype="float64"), typed(calls, "float64"), "out with its order and type named")
+        alike(bed.read(None, "float64", "C", out=out), typed(calls, "float64"), "out with its order and type named")
         wide = np.zeros((6, 10), "int8")
         unaligned = np.zeros(6 * 5 * 8 + 1, np.uint8)[1:].view("float64").reshape(6, 5)
         shut = np.zeros((6, 5), "int8")
         shut.flags.writeable = False
-        for wrong in (np.zeros((5, 6)), np.zeros(30), np.zeros((6, 5), "int16"), wide[:, ::2], wide[:, :5], unaligned, shut,
-                      np.zeros((6, 5), ">f8")):
+        for wrong in (np.zeros((5, 6)), np.zeros(30), np.zeros((6, 5), "int16"), wide[:, ::2], wide[:, :5], unaligned,
+                      shut, np.zeros((6, 5), ">f8")):
             raised((ValueError,), bed.read, out=wrong)
         raised((TypeError,), bed.read, out=[[0.0] * 5] * 6)
         raised((ValueError,), bed.read, out=out, dtype="int8")
@@ -418,9 +431,10 @@ def test_names():
     saved("n.bim", b"1\ts1\t0\t100\tA\tC\nX s2 1.25 -7 G AT\n")
     with open_bed(path("n.bed")) as bed:
         same((bed.shape, bed.iid_count, bed.sid_count), ((3, 2), 3, 2), "the counts of the files")
-        want = {"fid": ["f1", "f1", "f2"], "iid": ["i1", "i2", "\u00ef3"], "father": ["0", "i1", "0"], "mother": ["0", "0", "i2"],
-                "sex": [1, 2, 0], "pheno": ["-9", "1.5", "0"], "chromosome": ["1", "X"], "sid": ["s1", "s2"], "cm_position": [0, 1.25],
-                "bp_position": [100, -7], "allele_1": ["A", "G"], "allele_2": ["C", "AT"]}
+        want = {"fid": ["f1", "f1", "f2"], "iid": ["i1", "i2", "\u00ef3"], "father": ["0", "i1", "0"],
+                "mother": ["0", "0", "i2"], "sex": [1, 2, 0], "pheno": ["-9", "1.5", "0"], "chromosome": ["1", "X"],
+                "sid": ["s1", "s2"], "cm_position": [0, 1.25], "bp_position": [100, -7], "allele_1": ["A", "G"],
+                "allele_2": ["C", "AT"]}
         for name, values in want.items():
             same(getattr(bed, name).tolist(), values, name)
         same({name: values.tolist() for name, values in bed.properties.items()}, want, "all names")
@@ -428,12 +442,13 @@ def test_names():
         raised((ValueError,), bed.property_item, "colour")
         same(bed.read().shape, (3, 2), "what is read by the counts of the files")
     with open_bed(path("n.bed"), properties={"iid": ["a", "b", "c"], "sex": None, "sid": ["p", "q"]}) as bed:
-        same((bed.iid.tolist(), bed.sex, bed.fid.tolist(), bed.sid.tolist()), (["a", "b", "c"], None, ["f1", "f1", "f2"], ["p", "q"]), "names given")
+        same((bed.iid.tolist(), bed.sex, bed.sid.tolist()), (["a", "b", "c"], None, ["p", "q"]), "names given")
+        same(bed.fid.tolist(), ["f1", "f1", "f2"], "the others of the file")
     raised((ValueError,), open_bed, path("n.bed"), properties={"iid": ["a", "b", "c"], "sex": [1]})
     raised((ValueError,), open_bed, path("n.bed"), 2, properties={"iid": ["a", "b", "c"]})
     raised((ValueError,), open_bed, path("n.bed"), properties={"colour": ["a"]})
     with open_bed(path("n.bed"), 4, 2) as bed:
-        same(str(raised((ValueError,), lambda: bed.iid)), fam + " has 3 values, not 4", "another count than the file's in words")
+        same(str(raised((ValueError,), lambda: bed.iid)), fam + " has 3 values, not 4", "another count in words")
     os.rename(fam, path("other.fam"))
     os.rename(bim, path("other.bim"))
     with open_bed(path("n.bed")) as bed:
@@ -444,7 +459,8 @@ def test_names():
     e = raised((ValueError,), lambda: open_bed(path("n.bed")).iid)
     same(str(e), fam + ": line 1 has 5 fields, not 6", "a short line in words")
     saved("n.fam", b"f i 0 0 1 0\n" * 2 + b"f i 0 0 m 0\n")
-    same(str(raised((ValueError,), lambda: open_bed(path("n.bed")).iid)).startswith(fam + ": line 3: "), True, "a bad number in words")
+    e = raised((ValueError,), lambda: open_bed(path("n.bed")).iid)
+    same(str(e).startswith(fam + ": line 3: "), True, "a bad number in words")
     saved("n.fam", b"")
     same(open_bed(path("n.bed")).iid_count, 0, "a .fam without lines")
 
@@ -477,13 +493,14 @@ def test_writing():
             with open_bed(path("w.bed"), count_A1=flag) as bed:
                 same(bed.shape, (iids, sids), "the shape written")
                 alike(bed.read(dtype="int8"), calls, "what was written, read")
-    same(sorted(name for name in os.listdir(directory.name) if name.startswith("w.")), ["w.bed", "w.bim", "w.fam"], "the files written")
+    files = sorted(name for name in os.listdir(directory.name) if name.startswith("w."))
+    same(files, ["w.bed", "w.bim", "w.fam"], "the files written")
     to_bed(path("w.bed"), [[0, 1, np.nan], [2, 2, 0]])
     same(bytes_of(path("w.fam")), b"0 iid1 0 0 0 0\n0 iid2 0 0 0 0\n", "the .fam by default")
     same(bytes_of(path("w.bim")), b"".join(b"0\tsid%d\t0\t0\tA1\tA2\n" % n for n in (1, 2, 3)), "the .bim by default")
-    names = {"fid": ["f", "g"], "iid": ["a", "b"], "father": ["c", "0"], "mother": ["0", "d"], "sex": [1, 2], "pheno": ["-9", "x"],
-             "chromosome": [1, 2, "X"], "sid": ["s", "t", "u"], "cm_position": [0.5, 100, 1e-7], "bp_position": [1, 2, -3],
-             "allele_1": ["A", "C", "G"], "allele_2": ["T", "G", "AT"]}
+    names = {"fid": ["f", "g"], "iid": ["a", "b"], "father": ["c", "0"], "mother": ["0", "d"], "sex": [1, 2],
+             "pheno": ["-9", "x"], "chromosome": [1, 2, "X"], "sid": ["s", "t", "u"], "cm_position": [0.5, 100, 1e-7],
+             "bp_position": [1, 2, -3], "allele_1": ["A", "C", "G"], "allele_2": ["T", "G", "AT"]}
     to_bed(path("w.bed"), np.zeros((2, 3)), names, fam_filepath=path("v.fam"), bim_filepath=path("v.bim"))
     with open_bed(path("w.bed"), fam_filepath=path("v.fam"), bim_filepath=path("v.bim")) as bed:
         for name, values in names.items():
@@ -515,12 +532,14 @@ def test_refused_writing():
         raised((ValueError,), to_bed, path("k.bed"), wrong)
     for wrong in (np.zeros((3, 2), bool), np.zeros((3, 2), complex), [["0"]], np.zeros((3, 2), np.longdouble)):
         raised((TypeError,), to_bed, path("k.bed"), wrong)
-    for wrong in ({"iid": ["a"]}, {"colour": ["a"]}, {"iid": ["a b", "c", "d"]}, {"sid": ["", "t"]}, {"sid": [["s", "t"]]}, {"sex": ["m"] * 3}):
+    for wrong in ({"iid": ["a"]}, {"colour": ["a"]}, {"iid": ["a b", "c", "d"]}, {"sid": ["", "t"]}, {"sid": [["s", "t"]]},
+                  {"sex": ["m"] * 3}):
         raised((ValueError,), to_bed, path("k.bed"), np.zeros((3, 2)), wrong)
         unchanged()
     raised((FileNotFoundError,), to_bed, path("nowhere/k.bed"), np.zeros((3, 2)))
     # a limit on the size of files stands for a full disk
-    code = ("import resource, sys, numpy; from mungkelas import to_bed; resource.setrlimit(resource.RLIMIT_FSIZE, (4000, 4000))\n"
+    code = ("import resource, sys, numpy; from mungkelas import to_bed\n"
+            "resource.setrlimit(resource.RLIMIT_FSIZE, (4000, 4000))\n"
             "try: to_bed(sys.argv[1], numpy.zeros((100, 200), 'int8'))\nexcept OSError as e: print(e.errno)")
     ran = subprocess.run([sys.executable, "-c", code, path("k.bed")], stdout=subprocess.PIPE, check=True)
     same(ran.stdout, b"27\n", "a file that is too large for its place")
@@ -540,13 +559,29 @@ def test_thread_count():
     all_of_them = len(os.sched_getaffinity(0))
     for name in ("MUNGKELAS_NUM_THREADS", "NUM_THREADS"):
         os.environ.pop(name, None)
-    same((parts.thread_count(None), parts.thread_count(0), parts.thread_count(None, 3, 4)), (all_of_them, all_of_them, 3), "threads")
+    same((parts.thread_count(None), parts.thread_count(0)), (all_of_them, all_of_them), "all processors")
+    same(parts.thread_count(None, 3, 4), 3, "threads")
     os.environ["NUM_THREADS"] = "5"
     same((parts.thread_count(None), parts.thread_count(2)), (5, 2), "threads of the environment")
     os.environ["MUNGKELAS_NUM_THREADS"] = "6"
     same(parts.thread_count(None), 6, "threads of the environment")
 
 
+def test_readme():
+    """The example of the README prints what stands below it."""
+    here = os.path.dirname(os.path.abspath(__file__))
+    with open(os.path.join(here, "..", "README.md"), encoding="utf-8") as file:
+        code, printed = re.search("```python\n(.*?)```\n\nprints\n\n```\n(.*?)```", file.read(), re.S).groups()
+    said = io.StringIO()
+    before = os.getcwd()
+    os.chdir(os.path.join(here, "..", "..", ".."))
+    with contextlib.redirect_stdout(said):
+        exec(code, {})
+    os.chdir(before)
+    same(said.getvalue(), printed, "the example of the README")
+
+
+test_readme()
 test_reading()
 test_defaults()
 test_large()

@@ -1,5 +1,5 @@
-"""Tests mungkelas.core with no NumPy: that it declares what the header does, every call on the worked examples, drawn files beside an
-unpacking in plain Python, every refusal, and what may be lent."""
+"""Tests mungkelas.core with no NumPy: that it declares what the header does, every call on the worked examples, drawn
+files beside an unpacking in plain Python, every refusal, and what may be lent."""
 import ctypes
 import math
 import mmap
@@ -163,10 +163,11 @@ def test_standardising():
     same(floats(val), [0, 1, 2, 1, "NaN", "NaN"], "values that are not to be changed")
     core.impute_and_zero_mean_snps_f64(val, 3, 2, True, True, True, stats)
     same(val.tolist(), [-1, 0, 1, 0, 0, 0], "values by lent statistics")
-    refused(13, 1, 0, core.impute_and_zero_mean_snps_f64, array("d", [0, 2, NAN, NAN]), 2, 2, False, True, False, stats)
-    refused(14, 0, 0, core.impute_and_zero_mean_snps_f64, array("d", [math.inf, -math.inf]), 2, 1, False, True, False, stats[:size])
-    refused(15, 0, 0, core.impute_and_zero_mean_snps_f64, val, 3, 3, False, True, False, stats)
-    refused(17, 0, 0, core.impute_and_zero_mean_snps_f64, val, 3, 2, False, True, False, stats[1:])
+    standardise, infinite = core.impute_and_zero_mean_snps_f64, array("d", [math.inf, -math.inf])
+    refused(13, 1, 0, standardise, array("d", [0, 2, NAN, NAN]), 2, 2, False, True, False, stats)
+    refused(14, 0, 0, standardise, infinite, 2, 1, False, True, False, stats[:size])
+    refused(15, 0, 0, standardise, val, 3, 3, False, True, False, stats)
+    refused(17, 0, 0, standardise, val, 3, 2, False, True, False, stats[1:])
     for order in (False, True):
         val, one = array("d", [9, 9]), array("d", [9] * size)
         core.read_standardised_f64(F, 5, 2, True, [0, 3], [0], order, val, one)
@@ -239,7 +240,8 @@ def call_at(file, iids, sids, animal, marker):
 
 def test_drawn():
     for _ in range(300):
-        mode, iids, sids, flag, order = draw.randrange(2), draw.randrange(10), draw.randrange(10), draw.randrange(2), draw.randrange(2)
+        mode, flag, order = draw.randrange(2), draw.randrange(2), draw.randrange(2)
+        iids, sids = draw.randrange(10), draw.randrange(10)
         file = drawn_file(mode, iids, sids)
         animals = [draw.randrange(-iids, iids) for _ in range(draw.randrange(7))] if iids else []
         markers = [draw.randrange(-sids, sids) for _ in range(draw.randrange(7))] if sids else []
@@ -280,7 +282,8 @@ def test_lending():
     shut = memoryview(array("b", b"\x09")).toreadonly()
     for wrong in (array("B", b"\x09"), array("h", [9]), b"\x09", (ctypes.c_double * 1)(), shut):
         raised(((TypeError, BufferError),), core.read_i8, F, 5, 2, True, *lists, 0, False, wrong)
-    for wrong in (array("f", [0]), array("q", [0]), bytes(8), memoryview(bytearray(17))[1:9].cast("d"), memoryview(array("d", [0] * 4))[::2]):
+    unaligned, apart = memoryview(bytearray(17))[1:9].cast("d"), memoryview(array("d", [0] * 4))[::2]
+    for wrong in (array("f", [0]), array("q", [0]), bytes(8), unaligned, apart):
         raised(((TypeError, BufferError),), core.read_f64, F, 5, 2, True, *lists, 0, False, wrong)
     raised((BufferError,), core.index_all, 1, memoryview(array("q", [9])).toreadonly())
     for wrong in (array("i", [0]), array("d", [0]), ["0"], [0.0], 0, b"\x00"):
@@ -313,17 +316,18 @@ def test_exceptions():
 
 def test_loading():
     def run(code, **variables):
-        ran = subprocess.run([sys.executable, "-c", code], env={**os.environ, **variables}, stdout=subprocess.PIPE, stderr=subprocess.STDOUT)
+        ran = subprocess.run([sys.executable, "-c", code], env={**os.environ, **variables}, stdout=subprocess.PIPE,
+                             stderr=subprocess.STDOUT)
         return ran.stdout.decode().strip().split("\n")[-1]
 
     no_numpy = "import sys; sys.modules['numpy'] = None; import mungkelas.core; print('open_bed' in dir(mungkelas)); "
     same(run(no_numpy), "True", "the calls without NumPy")
-    same(run(no_numpy + "mungkelas.open_bed").startswith(("ImportError", "ModuleNotFoundError")), True, "open_bed without NumPy")
+    said = run(no_numpy + "mungkelas.open_bed")
+    same(said.startswith(("ImportError", "ModuleNotFoundError")), True, "open_bed without NumPy")
     same(run("import mungkelas; mungkelas.closed_bed").startswith("AttributeError"), True, "a name that is not there")
-    absent = run("import mungkelas.core", MUNGKELAS_LIBRARY="/nowhere/libmungkelas.so")
-    same(absent.startswith("ImportError: no library of Mungkelas as /nowhere/libmungkelas.so"), True, "an absent library")
-    other = run("import mungkelas.core", MUNGKELAS_LIBRARY="libc.so.6")
-    same(other.startswith("ImportError: no library of Mungkelas as libc.so.6"), True, "another library")
+    for name in ("/nowhere/libmungkelas.so", "libc.so.6"):
+        said = run("import mungkelas.core", MUNGKELAS_LIBRARY=name)
+        same(said.startswith("ImportError: no library of Mungkelas as " + name), True, "an absent or another library")
 
 
 test_header()
