@@ -48,14 +48,14 @@ def read(path, fields, wanted):
     places = [(list(fields).index(name), column, kinds[fields[name][0]]) for name, column in columns.items()]
     with open(path, "rb") as file:
         for number, line in enumerate(file, 1):
-            words = line.decode().split()
-            if len(words) != 6:
-                raise ValueError("{}: line {} has {} fields, not 6".format(path, number, len(words)))
             try:
+                words = line.decode().split()
+                if len(words) != 6:
+                    raise ValueError("{} fields, not 6".format(len(words)))
                 for place, column, kind in places:
                     column.append(kind(words[place]))
             except ValueError as e:
-                raise ValueError("{}: line {}: {}".format(path, number, e)) from None
+                raise ValueError("{}, line {}: {}".format(path, number, e)) from None
     return {name: np.array(column, fields[name][0]) for name, column in columns.items()}
 
 

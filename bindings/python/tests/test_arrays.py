@@ -17,7 +17,8 @@ from mungkelas import BedError, core, open_bed, parts, to_bed
 draw = np.random.RandomState(20240229)
 DTYPES = ("int8", "float32", "float64")
 MISSING = -127
-directory = tempfile.TemporaryDirectory()
+MEMORY = "/dev/shm"  # files in memory, so that no test waits for a disk
+directory = tempfile.TemporaryDirectory(dir=MEMORY if os.access(MEMORY, os.W_OK) else None)
 
 
 def path(name):
@@ -455,12 +456,11 @@ def test_names():
         raised((FileNotFoundError,), lambda: bed.shape)
     with open_bed(path("n.bed"), fam_filepath=path("other.fam"), bim_filepath=path("other.bim")) as bed:
         same((bed.shape, bed.iid[0]), ((3, 2), "i1"), "names elsewhere")
-    saved("n.fam", b"f i 0 0 1\n")
-    e = raised((ValueError,), lambda: open_bed(path("n.bed")).iid)
-    same(str(e), fam + ": line 1 has 5 fields, not 6", "a short line in words")
-    saved("n.fam", b"f i 0 0 1 0\n" * 2 + b"f i 0 0 m 0\n")
-    e = raised((ValueError,), lambda: open_bed(path("n.bed")).iid)
-    same(str(e).startswith(fam + ": line 3: "), True, "a bad number in words")
+    for line, words in ((b"f i 0 0 1", "5 fields, not 6"), (b"", "0 fields, not 6"), (b"f i 0 0 m 0", "invalid literal"),
+                        (b"f \xff 0 0 1 0", "'utf-8'")):
+        saved("n.fam", b"f i 0 0 1 0\n" * 2 + line + b"\n")
+        e = raised((ValueError,), lambda: open_bed(path("n.bed")).iid)
+        same(str(e).startswith("{}, line 3: {}".format(fam, words)), True, "a bad line in words")
     saved("n.fam", b"")
     same(open_bed(path("n.bed")).iid_count, 0, "a .fam without lines")
 
