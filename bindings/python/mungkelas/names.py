@@ -26,12 +26,15 @@ def count_lines(path):
 
 def given(properties, fields):
     """The properties given for these fields, as arrays of one axis; None stays: this field is not wanted."""
-    arrays = {}
-    for name, value in properties.items():
-        if name in fields:
-            arrays[name] = None if value is None else np.asarray(value, fields[name][0])
-            if value is not None and arrays[name].ndim != 1:
-                raise ValueError("property {} has {} axes".format(name, arrays[name].ndim))
+    arrays = {name: value for name, value in properties.items() if name in fields}
+    for name, value in arrays.items():
+        if value is not None:
+            value, kind = np.asarray(value), fields[name][0]
+            arrays[name] = value.astype(kind)
+            if value.ndim != 1:
+                raise ValueError("property {} has {} axes, not 1".format(name, value.ndim))
+            if kind is np.int32 and value.dtype.kind in "iuf" and (arrays[name] != value).any():
+                raise ValueError("property {} has a value that is no int32".format(name))
     return arrays
 
 

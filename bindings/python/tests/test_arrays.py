@@ -533,7 +533,7 @@ def test_refused_writing():
     for wrong in (np.zeros((3, 2), bool), np.zeros((3, 2), complex), [["0"]], np.zeros((3, 2), np.longdouble)):
         raised((TypeError,), to_bed, path("k.bed"), wrong)
     for wrong in ({"iid": ["a"]}, {"colour": ["a"]}, {"iid": ["a b", "c", "d"]}, {"sid": ["", "t"]}, {"sid": [["s", "t"]]},
-                  {"sex": ["m"] * 3}):
+                  {"sex": ["m"] * 3}, {"bp_position": [0, 2**40]}, {"bp_position": [0, 0.5]}):
         raised((ValueError,), to_bed, path("k.bed"), np.zeros((3, 2)), wrong)
         unchanged()
     raised((FileNotFoundError,), to_bed, path("nowhere/k.bed"), np.zeros((3, 2)))
