@@ -8,6 +8,7 @@ import subprocess
 import sys
 import tempfile
 import threading
+import time
 
 import numpy as np
 from checking import done, raised, same
@@ -331,7 +332,18 @@ def test_progress():
             if done:
                 raise KeyError("stop")
 
-        raised((KeyError,), bed.read, num_threads=2, progress=stop)
+        class Slow(Seen):
+            """From the second call on each takes a while, so that a reading is stopped before they are all made."""
+
+            def __enter__(self):
+                super().__enter__()
+                kept = core.read_i8
+                core.read_i8 = lambda *arguments: (time.sleep(0.2 if self.calls else 0), kept(*arguments))
+                return self
+
+        with Cut(40, 1), Slow("read_i8") as seen:
+            raised((KeyError,), bed.read, dtype="int8", num_threads=2, progress=stop)
+        same(len(seen.calls) < 30, True, "the parts left when a reading is stopped")
         told = []
         bed.read(([], []), progress=lambda *numbers: told.append(numbers))
         same(told, [(0, 0)], "progress of nothing")
