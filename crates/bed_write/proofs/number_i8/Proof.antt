@@ -1,5 +1,5 @@
 -- `number_i8`: the choices in order are the code.
-use mathlib.Core.Path.{refl, sym, ap, _∙_}
+use mathlib.Core.Path.{refl, sym, ap}
 use mathlib.Core.Bool.{Bool, cond}
 use native.Mathlib.Omega.{arith}
 use Rattle.genotype.specs.Value.{i8, sameInt}
