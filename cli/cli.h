@@ -80,6 +80,8 @@ struct herd {
 /* Ends the program if the core refuses the file or a list. Lists are made for read and standardise alone. */
 struct herd open_herd(const struct options *options);
 void close_herd(struct herd *herd);
+/* Ends the program if the path is one of the files that are read. */
+void spare_own_files(const struct herd *herd, const char *path);
 
 /* ---- words.c ---- */
 

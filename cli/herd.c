@@ -2,6 +2,7 @@
 #include <stdio.h>
 #include <stdlib.h>
 #include <string.h>
+#include <sys/stat.h>
 
 #include "cli.h"
 
@@ -74,6 +75,15 @@ struct herd open_herd(const struct options *o) {
         accept(&h, NULL, 0, h.sids, h.sid_len);
     }
     return h;
+}
+
+void spare_own_files(const struct herd *h, const char *path) {
+    const struct file *own[] = {&h->bed, &h->fam, &h->bim};
+    struct stat here, there;
+    if (stat(path, &here)) return;
+    for (size_t i = 0; i < sizeof own / sizeof *own; i++)
+        if (own[i]->path && !stat(own[i]->path, &there) && here.st_dev == there.st_dev && here.st_ino == there.st_ino)
+            fail("%s: this is read, and is not written over", path);
 }
 
 void close_herd(struct herd *h) {

@@ -3,6 +3,7 @@
 #include <errno.h>
 #include <fcntl.h>
 #include <signal.h>
+#include <stdatomic.h>
 #include <stdio.h>
 #include <stdlib.h>
 #include <string.h>
@@ -35,7 +36,9 @@ static void interrupted(int number) {
 
 static void lost_page(int number) {
     static const char words[] = "mungkelas: a mapped file was cut short by someone else, or its disk failed\n";
+    static atomic_flag once = ATOMIC_FLAG_INIT;
     (void)number;
+    while (atomic_flag_test_and_set(&once)) pause(); /* another thread says it */
     remove_parts();
     ssize_t said = write(STDERR_FILENO, words, sizeof words - 1);
     (void)said;
@@ -59,21 +62,31 @@ void catch_signals(void) {
     if (atexit(remove_parts)) fail("no memory");
 }
 
+/* Holds the signals that end a run back, or lets them through. */
+static void hold_signals(int how) {
+    sigset_t held;
+    sigemptyset(&held);
+    for (size_t i = 0; i < sizeof ending / sizeof *ending; i++) sigaddset(&held, ending[i]);
+    if (sigprocmask(how, &held, NULL)) fail("signals cannot be held: %s", strerror(errno));
+}
+
 uint8_t *make_output(const char *path, size_t len) {
     struct output *o = &outputs[made];
     struct stat opened, named;
     if (!stat(path, &named) && !S_ISREG(named.st_mode)) fail("%s: this is no plain file, and is not written over", path);
     *o = (struct output){.path = joined(path, ""), .part = joined(path, ".part"), .len = len};
+    hold_signals(SIG_BLOCK);
     o->fd = open(o->part, O_RDWR | O_CREAT | O_CLOEXEC | O_NOFOLLOW, 0666);
     if (o->fd < 0) fail("%s: %s", o->part, strerror(errno));
     /* One run at a time: else the lock is another's, or what was opened has got its own name meanwhile. */
-    if (flock(o->fd, LOCK_EX | LOCK_NB))
-        fail("%s: %s", o->part, errno == EWOULDBLOCK ? "another run is writing it" : strerror(errno));
+    if (flock(o->fd, LOCK_EX | LOCK_NB)) fail("%s: %s", o->part, errno == EWOULDBLOCK ? "another run is writing it" : strerror(errno));
     if (fstat(o->fd, &opened) || stat(o->part, &named)) fail("%s: %s", o->part, strerror(errno));
     if (opened.st_dev != named.st_dev || opened.st_ino != named.st_ino) fail("%s: another run has just written it", o->part);
     made++;
+    hold_signals(SIG_UNBLOCK);
     if (ftruncate(o->fd, 0)) fail("%s: %s", o->part, strerror(errno));
-    int error = posix_fallocate(o->fd, 0, (off_t)len);
+    int error;
+    while ((error = posix_fallocate(o->fd, 0, (off_t)len)) == EINTR) {}
     if (error) fail("%s: %zu bytes cannot be reserved: %s", o->part, len, strerror(error));
     void *at = mmap(NULL, len, PROT_READ | PROT_WRITE, MAP_SHARED, o->fd, 0);
     if (at == MAP_FAILED) fail("%s: %s", o->part, strerror(errno));
@@ -84,10 +97,7 @@ void keep_outputs(void) {
     int count = made;
     for (int i = 0; i < count; i++)
         if (munmap(outputs[i].at, outputs[i].len) || fsync(outputs[i].fd)) fail("%s: %s", outputs[i].part, strerror(errno));
-    sigset_t held;
-    sigemptyset(&held);
-    for (size_t i = 0; i < sizeof ending / sizeof *ending; i++) sigaddset(&held, ending[i]);
-    if (sigprocmask(SIG_BLOCK, &held, NULL)) fail("signals cannot be held: %s", strerror(errno));
+    hold_signals(SIG_BLOCK);
     for (int i = count; i-- > 0;) {
         if (!rename(outputs[i].part, outputs[i].path)) continue;
         int error = errno;
@@ -95,7 +105,7 @@ void keep_outputs(void) {
         fail("%s: cannot be renamed %s: %s", outputs[i].part, outputs[i].path, strerror(error));
     }
     made = 0;
-    if (sigprocmask(SIG_UNBLOCK, &held, NULL)) fail("signals cannot be let through: %s", strerror(errno));
+    hold_signals(SIG_UNBLOCK);
     for (int i = 0; i < count; i++) {
         if (close(outputs[i].fd)) fail("%s: %s", outputs[i].path, strerror(errno));
         free(outputs[i].path), free(outputs[i].part);

@@ -30,6 +30,7 @@ static bed_answer read_part(void *with, size_t start, size_t lines, size_t threa
 void read_matrix(const struct herd *h) {
     const struct options *o = h->options;
     size_t size = o->f64 ? sizeof(double) : sizeof(int8_t);
+    spare_own_files(h, o->out);
     uint8_t *out = make_output(o->out, NPY_HEADER + h->iid_len * h->sid_len * size);
     write_npy_header(out, o->f64 ? "<f8" : "|i1", !o->animal_order, h->iid_len, h->sid_len);
     struct reading reading = {h, out + NPY_HEADER};

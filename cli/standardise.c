@@ -96,6 +96,7 @@ void standardise(const struct herd *h) {
     const struct options *o = h->options;
     char *path = stats_path(o->out);
     size_t numbers = h->sid_len * BED_STATS_PER_MARKER;
+    spare_own_files(h, o->out), spare_own_files(h, path);
     uint8_t *val = make_output(o->out, NPY_HEADER + h->iid_len * h->sid_len * sizeof(double));
     uint8_t *stats = make_output(path, NPY_HEADER + numbers * sizeof(double));
     write_npy_header(val, "<f8", !o->animal_order, h->iid_len, h->sid_len);
