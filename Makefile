@@ -17,7 +17,7 @@ static := target/staticlib/libmungkelas.a
 shared := target/lib/libmungkelas.so.$(version)
 command := target/cli/mungkelas
 objects := $(patsubst cli/%.c,target/cli/%.o,$(wildcard cli/*.c))
-places = include lib lib/pkgconfig bin share/man/man1 share/doc/mungkelas
+places := include lib lib/pkgconfig bin share/man/man1 share/doc/mungkelas
 docs := README.md CHANGELOG.md LICENSE NOTICE
 
 .DELETE_ON_ERROR:
@@ -31,8 +31,8 @@ $(static): always
 
 $(shared): $(static) mungkelas.map $(header)
 	mkdir -p $(@D)
-	$(CC) -shared -o $@ -Wl,-soname,libmungkelas.so.$(major) -Wl,--version-script=mungkelas.map -Wl,-z,defs,-z,relro,-z,now,-z,noexecstack $(LDFLAGS) \
-	  -Wl,--whole-archive $(static) -Wl,--no-whole-archive
+	$(CC) -shared -o $@ -Wl,-soname,libmungkelas.so.$(major) -Wl,--version-script=mungkelas.map -Wl,-z,defs,-z,text,-z,relro,-z,now,-z,noexecstack \
+	  $(LDFLAGS) -Wl,--whole-archive $(static) -Wl,--no-whole-archive
 	ln -sf $(@F) target/lib/libmungkelas.so.$(major)
 	ln -sf $(@F) target/lib/libmungkelas.so
 
@@ -43,23 +43,22 @@ target/cli/%.o: cli/%.c cli/cli.h $(header) Makefile
 $(command): $(objects) $(static)
 	$(CC) -pthread $(CFLAGS) $(LDFLAGS) -o $@ $^
 
-target/mungkelas.pc: mungkelas.pc.in $(header) always
-	sed -e 's|@PREFIX@|$(PREFIX)|' -e 's|@VERSION@|$(version)|' $< >$@
-
 check: all
 	tests/run
 	tests/shared
 	tests/installed
 	tests/command
 
-install: all target/mungkelas.pc
+# What is built is installed as it stands, so that this can be done by another user than who built it.
+install: $(if $(wildcard $(command)),,all)
 	for place in $(places); do $(INSTALL) -d "$(DESTDIR)$(PREFIX)/$$place" || exit 1; done
 	$(INSTALL) -m 644 $(header) "$(DESTDIR)$(PREFIX)/include/"
 	$(INSTALL) -m 644 $(static) "$(DESTDIR)$(PREFIX)/lib/"
 	$(INSTALL) -m 755 $(shared) "$(DESTDIR)$(PREFIX)/lib/"
 	ln -sf $(notdir $(shared)) "$(DESTDIR)$(PREFIX)/lib/libmungkelas.so.$(major)"
 	ln -sf libmungkelas.so.$(major) "$(DESTDIR)$(PREFIX)/lib/libmungkelas.so"
-	$(INSTALL) -m 644 target/mungkelas.pc "$(DESTDIR)$(PREFIX)/lib/pkgconfig/"
+	sed -e 's|@PREFIX@|$(PREFIX)|' -e 's|@VERSION@|$(version)|' mungkelas.pc.in >"$(DESTDIR)$(PREFIX)/lib/pkgconfig/mungkelas.pc"
+	chmod 644 "$(DESTDIR)$(PREFIX)/lib/pkgconfig/mungkelas.pc"
 	$(INSTALL) -m 755 $(command) "$(DESTDIR)$(PREFIX)/bin/"
 	$(INSTALL) -m 644 cli/mungkelas.1 "$(DESTDIR)$(PREFIX)/share/man/man1/"
 	$(INSTALL) -m 644 $(docs) "$(DESTDIR)$(PREFIX)/share/doc/mungkelas/"
@@ -70,4 +69,4 @@ uninstall:
 	-rmdir "$(DESTDIR)$(PREFIX)/share/doc/mungkelas"
 
 clean:
-	rm -rf target/cli target/lib target/tests target/mungkelas.pc
+	rm -rf target/cli target/lib target/tests

@@ -127,7 +127,7 @@ struct options read_arguments(int argc, char **argv) {
     size_t s = 0;
     while (s <= CANONICAL && strcmp(words[0], subcommands[s])) s++;
     if (s > CANONICAL) misused("%s is no subcommand", words[0]);
-    options.subcommand = s;
+    options.subcommand = (enum subcommand)s;
     if (count == 1) misused("%s: no PREFIX is given", words[0]);
     for (enum option i = 0; i < OPTIONS; i++)
         if (given[i] && !(table[i].of & IN(s))) misused("%s takes no %s", words[0], table[i].name);

@@ -17,6 +17,7 @@ void canonical(const struct herd *h) {
     if (a.number) refuse(h, a);
     keep_outputs();
     if (!o->quiet)
-        printf("%s: %zu %s by %zu %s, mode 1, %zu bytes\n", path, COUNTED(h->animals, "animal", "animals"), COUNTED(h->markers, "marker", "markers"), len);
+        printf("%s: %zu %s by %zu %s, mode 1, %zu bytes\n", path, COUNTED(h->animals, "animal", "animals"), COUNTED(h->markers, "marker", "markers"),
+               len);
     free(path);
 }

@@ -10,19 +10,19 @@ struct pads {
     size_t highest; /* the highest place of one */
 };
 
-/* Pads are read as items: a file has the same length for every number of items that fills its blocks as far. A code that is not 0 is a value that is not 0
- * where the second allele is counted. */
+/* Pads are read as items: blocks are as wide for room items as for these. Where the second allele is counted, a code is 0 exactly if its value is 0. */
 static struct pads find_pads(const struct herd *h, size_t items, size_t blocks, size_t room) {
     struct pads found = {0, 0};
     int64_t places[3], list[BLOCKS_AT_A_TIME];
     int8_t val[3 * BLOCKS_AT_A_TIME];
+    struct bytes bed = h->bed.bytes;
     size_t pads = room - items;
     for (size_t p = 0; p < pads; p++) places[p] = (int64_t)(items + p);
     for (size_t start = 0; pads && start < blocks; start += BLOCKS_AT_A_TIME) {
         size_t n = blocks - start < BLOCKS_AT_A_TIME ? blocks - start : BLOCKS_AT_A_TIME;
         for (size_t b = 0; b < n; b++) list[b] = (int64_t)(start + b);
-        bed_answer a = h->mode_1 ? bed_read_i8(h->bed.bytes.at, h->bed.bytes.len, room, blocks, false, places, pads, list, n, -1, false, val, pads * n)
-                                 : bed_read_i8(h->bed.bytes.at, h->bed.bytes.len, blocks, room, false, list, n, places, pads, -1, true, val, pads * n);
+        bed_answer a = h->mode_1 ? bed_read_i8(bed.at, bed.len, room, blocks, false, places, pads, list, n, -1, false, val, pads * n)
+                                 : bed_read_i8(bed.at, bed.len, blocks, room, false, list, n, places, pads, -1, true, val, pads * n);
         if (a.number) refuse(h, a);
         for (size_t b = 0; b < n; b++) {
             bool set = false;

@@ -60,7 +60,7 @@ void keep_outputs(void);
 
 /* A blank line does not count. */
 size_t count_lines(struct bytes text);
-/* Sets marks[i] to mark for each line i of a .fam or .bim that the list names. Answers how many names are in no line; *names is how many there are. */
+/* Sets marks[i] to mark for each line i of a .fam or .bim that the list names. Answers how many of its *names names are in no line. */
 size_t mark_animals(struct bytes fam, struct bytes list, uint8_t *marks, uint8_t mark, size_t *names);
 size_t mark_markers(struct bytes bim, struct bytes list, uint8_t *marks, uint8_t mark, size_t *names);
 /* The name in the next line of a .bim, which is taken off; of length 0 if there is none. */

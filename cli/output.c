@@ -53,7 +53,7 @@ static void on(int number, void (*handler)(int), int flags) {
     if (sigaction(number, &then, NULL)) fail("signal %d: %s", number, strerror(errno));
 }
 
-static const int ending[] = {SIGINT, SIGTERM, SIGHUP, SIGQUIT};
+static const int ending[] = {SIGINT, SIGTERM, SIGHUP, SIGQUIT, SIGPIPE};
 
 void catch_signals(void) {
     for (size_t i = 0; i < sizeof ending / sizeof *ending; i++) on(ending[i], interrupted, (int)SA_RESETHAND | SA_NODEFER);

@@ -67,8 +67,10 @@ bed_answer run_parts(const struct run *run) {
     pthread_t *threads = room_for(run->threads, sizeof *threads);
     size_t started = 1; /* this thread is the first */
     for (size_t t = 0; t < run->threads; t++) workers[t] = (struct worker){&s, t};
+    size_t wanted = run->lines / run->lines_a_part + 1;
+    if (wanted > run->threads) wanted = run->threads;
     /* A thread that cannot be had is done without. */
-    while (started < run->threads && started * run->lines_a_part < run->lines && !pthread_create(&threads[started], NULL, work, &workers[started])) started++;
+    while (started < wanted && !pthread_create(&threads[started], NULL, work, &workers[started])) started++;
     work(&workers[0]);
     for (size_t t = 1; t < started; t++) check_lock(pthread_join(threads[t], NULL));
     if (s.shown) fprintf(stderr, "\r%*s\r", (int)strlen(run->doing) + 6, "");

@@ -35,8 +35,8 @@ void read_matrix(const struct herd *h) {
     write_npy_header(out, o->f64 ? "<f8" : "|i1", !o->animal_order, h->iid_len, h->sid_len);
     struct reading reading = {h, out + NPY_HEADER};
     size_t lines = o->animal_order ? h->iid_len : h->sid_len, line_bytes = (o->animal_order ? h->sid_len : h->iid_len) * size;
-    bed_answer a = run_parts(&(struct run){"reading", o->quiet, lines, lines_a_part(lines, line_bytes, h->mode_1 == o->animal_order, o->threads), o->threads,
-                                           read_part, &reading});
+    size_t a_part = lines_a_part(lines, line_bytes, h->mode_1 == o->animal_order, o->threads);
+    bed_answer a = run_parts(&(struct run){"reading", o->quiet, lines, a_part, o->threads, read_part, &reading});
     if (a.number) refuse(h, a);
     keep_outputs();
     if (!o->quiet)

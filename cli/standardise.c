@@ -1,6 +1,7 @@
-/* standardise: the standardised values and the statistics as two NumPy arrays. A marker's statistics are found from all its animals: in marker order each
- * part of the markers is one joined call; in animal order the statistics are found first, by parts of the markers, and then applied by parts of the
- * animals. */
+/* standardise: the standardised values and the statistics as two NumPy arrays. A marker's statistics are found from all its animals: in marker
+ * order each part of the markers is one joined call; in animal order the statistics are found first, by parts of the markers, and then applied
+ * by parts of the animals. */
+#include <errno.h>
 #include <math.h>
 #include <stdio.h>
 #include <stdlib.h>
@@ -28,8 +29,8 @@ static bed_answer find_part(void *with, size_t start, size_t lines, size_t threa
     const struct standardising *s = with;
     const struct herd *h = s->herd;
     double *val = s->room + thread * s->room_len;
-    bed_answer a = bed_read_f64(h->bed.bytes.at, h->bed.bytes.len, h->animals, h->markers, h->options->is_a1_counted, h->iids, h->iid_len, h->sids + start,
-                                lines, NAN, false, val, lines * h->iid_len);
+    bed_answer a = bed_read_f64(h->bed.bytes.at, h->bed.bytes.len, h->animals, h->markers, h->options->is_a1_counted, h->iids, h->iid_len,
+                                h->sids + start, lines, NAN, false, val, lines * h->iid_len);
     if (a.number) return a;
     return bed_impute_and_zero_mean_snps_f64(val, lines * h->iid_len, h->iid_len, lines, false, false, false, s->stats + start * BED_STATS_PER_MARKER,
                                              lines * BED_STATS_PER_MARKER);
@@ -43,7 +44,8 @@ static bed_answer apply_part(void *with, size_t start, size_t lines, size_t thre
     bed_answer a = bed_read_f64(h->bed.bytes.at, h->bed.bytes.len, h->animals, h->markers, h->options->is_a1_counted, h->iids + start, lines, h->sids,
                                 h->sid_len, NAN, true, val, lines * h->sid_len);
     if (a.number) return a;
-    return bed_impute_and_zero_mean_snps_f64(val, lines * h->sid_len, lines, h->sid_len, true, true, true, s->stats, h->sid_len * BED_STATS_PER_MARKER);
+    return bed_impute_and_zero_mean_snps_f64(val, lines * h->sid_len, lines, h->sid_len, true, true, true, s->stats,
+                                             h->sid_len * BED_STATS_PER_MARKER);
 }
 
 /* A marker that is refused keeps the NaN that its statistics were made of. */
@@ -54,8 +56,8 @@ static noreturn void refuse_markers(const struct standardising *s) {
     const struct herd *h = s->herd;
     size_t count = 0;
     for (size_t m = 0; m < h->sid_len; m++) count += is_refused(s, m);
-    fprintf(stderr, "mungkelas: refused, %d: %s: %zu of %zu %s no call in the %zu %s read; standard output names %s\n", BED_NO_INDIVIDUALS, h->bed.path, count,
-            h->sid_len, count == 1 ? "markers has" : "markers have", COUNTED(h->iid_len, "animal", "animals"), count == 1 ? "it" : "them");
+    fprintf(stderr, "mungkelas: refused, %d: %s: %zu of %zu markers %s no call in the %zu %s read; standard output names %s\n", BED_NO_INDIVIDUALS,
+            h->bed.path, count, h->sid_len, count == 1 ? "has" : "have", COUNTED(h->iid_len, "animal", "animals"), count == 1 ? "it" : "them");
     struct bytes bim = h->bim.bytes, name = {NULL, 0};
     size_t named = 0; /* lines of the .bim that are gone through */
     for (size_t m = 0; m < h->sid_len; m++) {
@@ -65,6 +67,7 @@ static noreturn void refuse_markers(const struct standardising *s) {
         if (name.len) printf("%.*s\n", (int)name.len, (const char *)name.at);
         else printf("marker %zu, counted from 0\n", marker);
     }
+    if (fflush(stdout)) fail("standard output: %s", strerror(errno));
     exit(1);
 }
 

@@ -1,4 +1,5 @@
-"""The command on files: every subcommand, option and refusal, compared with an unpacking that is written out here. The last line says how many checks passed.
+"""The command on files: every subcommand, option and refusal, compared with an unpacking that is written out here. The last line says how many
+checks passed.
 
     command.py PROGRAM FAULTS      FAULTS is the library made of tests/faults.c
 """
@@ -115,8 +116,8 @@ def load(path):
     table = [[values[c * rows + r if about["fortran_order"] else r * columns + c] for c in range(columns)] for r in range(rows)]
     if numpy:
         array = numpy.load(path)
-        same((array.shape, array.dtype.str, array.flags.f_contiguous or not about["fortran_order"]), ((rows, columns), about["descr"], True), path + ": by NumPy")
-        same([[bits(x) for x in row] for row in array.tolist()], [[bits(x) for x in row] for row in table], path + ": the values by NumPy")
+        same((array.shape, array.dtype.str), ((rows, columns), about["descr"]), path + ": by NumPy")
+        same(as_bits(array.tolist()), as_bits(table), path + ": the values by NumPy")
     return about, table
 
 
@@ -206,6 +207,21 @@ def test_across():
         clear()
 
 
+def test_at_once():
+    """Enough work for threads to run at the same time."""
+    animals, markers = 3000, 1200
+    put("herd.bed", b"\x6c\x1b\1" + drawn.randbytes(animals // 4 * markers))
+    for order in "F", "C":
+        for subcommand in "read", "standardise":
+            for threads in 1, 2, 3:
+                done(f"at once: {subcommand} {order}", subcommand, "herd", "-o", f"out{threads}.npy", "--animals", animals, "--markers", markers,
+                     "--order", order, "--threads", threads, "--quiet")
+            for threads in 2, 3:
+                same(get(f"out{threads}.npy") == get("out1.npy"), True, f"at once: {subcommand} {order}: {threads} threads as one")
+        for threads in 2, 3:
+            same(get(f"out{threads}.stats.npy") == get("out1.stats.npy"), True, f"at once: {order}: {threads} threads, statistics")
+
+
 def test_standardise():
     codes = draw(23, 14)
     for row in codes:
@@ -265,6 +281,14 @@ def test_no_calls():
     same(run("standardise", "herd", "-o", "out.npy", "--extract", "extract", "--keep", "keep"), (1, "m8\n", message), "13: one marker, one animal")
     out = "".join(f"marker {m}, counted from 0\n" for m in empty)
     same(run("standardise", "herd", "-o", "out.npy", "--markers", "40")[:2], (1, out), "13: no names")
+    with open("/dev/full", "w") as full:
+        got = subprocess.run([program, "standardise", "herd", "-o", "out.npy"], stdout=full, stderr=subprocess.PIPE)
+        same((got.returncode, got.stderr.splitlines()[-1]), (2, b"mungkelas: standard output: No space left on device"), "13: standard output is full")
+    own, other = os.pipe()
+    os.close(own)
+    got = subprocess.run([program, "standardise", "herd", "-o", "out.npy"], stdout=other, stderr=subprocess.DEVNULL)
+    os.close(other)
+    same((got.returncode, left()), (-signal.SIGPIPE, []), "13: nobody reads the names")
     put("keep", "nobody\n")
     same(run("standardise", "herd", "-o", "out.npy", "--keep", "keep", "--quiet")[:2], (1, "".join(f"m{m}\n" for m in range(40))), "13: no animals")
     same(left(), [], "13: nothing is written")
@@ -347,12 +371,15 @@ def test_refusals():
             (b"\x6c\x1b\2" + good[3:], [], 3, "herd.bed has 02 as its third byte, the mode; 00 or 01 is expected"),
             (good, ["--animals", 2**63 - 1, "--markers", 8], 4,
              f"herd.bed has 9 bytes; a file with {2**63 - 1} animals (--animals) and 8 markers (--markers) would have more than 2^64 - 1"),
-            (good, ["--animals", 2**63], 18, f"herd.bed: {2**63} animals (--animals) and 3 markers (herd.bim): a count is at most 2^63 - 1"),
-            (good, ["--markers", 2**64 - 1], 18, f"herd.bed: 5 animals (herd.fam) and {2**64 - 1} markers (--markers): a count is at most 2^63 - 1")):
+            (good, ["--animals", 2**63], 18,
+             f"herd.bed: {2**63} animals (--animals) and 3 markers (herd.bim): a count is at most 2^63 - 1"),
+            (good, ["--markers", 2**64 - 1], 18,
+             f"herd.bed: 5 animals (herd.fam) and {2**64 - 1} markers (--markers): a count is at most 2^63 - 1")):
         put("herd.bed", bed)
         put("out.npy", "as it was")
         put("out.bed", "as it was")
-        for words in ["check", "herd"], ["read", "herd", "-o", "out.npy"], ["standardise", "herd", "-o", "out.npy"], ["canonical", "herd", "-o", "out"]:
+        for words in (["check", "herd"], ["read", "herd", "-o", "out.npy"], ["standardise", "herd", "-o", "out.npy"],
+                      ["canonical", "herd", "-o", "out"]):
             same(run(*words, *more), (1, "", f"mungkelas: refused, {number}: {message}\n"), f"{words[0]}: {message}")
         same((left(), get("out.npy"), get("out.bed")), (["out.bed", "out.npy"], b"as it was", b"as it was"), message)
 
@@ -371,7 +398,8 @@ def test_check():
         said = f"herd.bed: accepted: mode {mode} (a block is {block}), {length} bytes\n"
         said += f"{name(animals, 'animal', 'animals')} (herd.fam), {name(markers, 'marker', 'markers')} (herd.bim)\n"
         same(run("check", "herd"), (0, said + words + "\n", ""), f"check {mode} {animals} {markers} {pad}")
-        same(run("check", "herd", "--quiet"), (0, "" if words == "no pad is set" else words + "\n", ""), f"check --quiet {mode} {animals} {markers} {pad}")
+        words = "" if words == "no pad is set" else words + "\n"
+        same(run("check", "herd", "--quiet"), (0, words, ""), f"check --quiet {mode} {animals} {markers} {pad}")
     # A .fam file that has lost lines: only the blocks with a call above 0 there show it.
     codes = [[3, 3, 3], [3, 3, 3], [3, 3, 3], [3, 3, 3], [0, 0, 0], [0, 2, 0], [1, 0, 0]]
     write("herd", codes, 1)
@@ -384,7 +412,8 @@ def test_check():
     many = draw(5000, 1)
     write("herd", many, 0, pad=0)  # more blocks than are looked at at once; the last alone has a pad
     put("herd.bed", get("herd.bed")[:-1] + bytes([get("herd.bed")[-1] | 0x10]))
-    same(run("check", "herd", "--quiet")[1], "pads are set in 1 of 5000 blocks: the file seems to be of 3 to 4 markers, and herd.bim has 1 line\n", "check: the last block")
+    words = "pads are set in 1 of 5000 blocks: the file seems to be of 3 to 4 markers, and herd.bim has 1 line\n"
+    same(run("check", "herd", "--quiet")[1], words, "check: the last block")
     put("herd.bed", b"\x6c\x1b\1")
     same(run("check", "herd", "--animals", 2**63 - 1, "--markers", 0)[0], 0, "check: no blocks")
 
@@ -399,7 +428,8 @@ def test_canonical():
                 for threads in 1, 2, 3:
                     what = f"canonical {animals} {markers} mode {mode} pads {pad}"
                     out = done(what, "canonical", "herd", "-o", "out", "--threads", threads)
-                    same(out, f"out.bed: {name(animals, 'animal', 'animals')} by {name(markers, 'marker', 'markers')}, mode 1, {len(expected)} bytes\n", what)
+                    shape = f"{name(animals, 'animal', 'animals')} by {name(markers, 'marker', 'markers')}"
+                    same(out, f"out.bed: {shape}, mode 1, {len(expected)} bytes\n", what)
                     same(get("out.bed"), expected, what)
     done("canonical: in place", "canonical", "herd", "-o", "herd.bed", "--quiet")
     same(get("herd.bed"), expected, "canonical: in place")
@@ -518,18 +548,22 @@ def test_faults():
                 same(run(*words, fault=f"posix_fallocate {n} error {errno.ENOSPC}"), (2, "", message), f"{subcommand}: a full disk")
                 after("a full disk")
                 for call in "fsync", "ftruncate", "munmap":
-                    same(run(*words, fault=f"{call} {n} error {errno.EIO}"), (2, "", f"mungkelas: {f}.part: Input/output error\n"), f"{subcommand}: {call}")
+                    message = f"mungkelas: {f}.part: Input/output error\n"
+                    same(run(*words, fault=f"{call} {n} error {errno.EIO}"), (2, "", message), f"{subcommand}: {call}")
                     after(call)
-                same(run(*words, fault=f"flock {n} error {errno.ENOLCK}"), (2, "", f"mungkelas: {f}.part: No locks available\n"), f"{subcommand}: flock")
+                message = f"mungkelas: {f}.part: No locks available\n"
+                same(run(*words, fault=f"flock {n} error {errno.ENOLCK}"), (2, "", message), f"{subcommand}: flock")
                 os.remove(f + ".part")  # it may be another run's, so that it is left
                 after("flock")
-                same(run(*words, fault=f"mmap {n + 3} error {errno.ENOMEM}"), (2, "", f"mungkelas: {f}.part: Cannot allocate memory\n"), f"{subcommand}: mmap")
+                message = f"mungkelas: {f}.part: Cannot allocate memory\n"
+                same(run(*words, fault=f"mmap {n + 3} error {errno.ENOMEM}"), (2, "", message), f"{subcommand}: mmap")
                 after("mmap")
                 for number in signal.SIGINT, signal.SIGTERM, signal.SIGHUP, signal.SIGQUIT:
                     for call in "posix_fallocate", "fsync":
                         same(run(*words, fault=f"{call} {n} signal {number}"), (-number, "", ""), f"{subcommand}: signal {number} at {call}")
                         after(f"signal {number} at {call}")
-            same(run(*words, fault=f"mmap 1 error {errno.ENOMEM}"), (2, "", "mungkelas: herd.bed: Cannot allocate memory\n"), f"{subcommand}: mmap")
+            message = "mungkelas: herd.bed: Cannot allocate memory\n"
+            same(run(*words, fault=f"mmap 1 error {errno.ENOMEM}"), (2, "", message), f"{subcommand}: mmap")
             shutil.copy("herd.bed", "herd.saved")
             message = "mungkelas: a mapped file was cut short by someone else, or its disk failed\n"
             same(run(*words, fault="posix_fallocate 1 cut herd.bed"), (2, "", message), f"{subcommand}: a file that is cut short")
@@ -544,8 +578,10 @@ def test_faults():
         # A signal waits until all outputs have their names.
         same(run(*words, fault=f"rename 1 signal {signal.SIGTERM}"), (-signal.SIGTERM, "", ""), f"{subcommand}: a signal at the end")
         same(left(), sorted(names[:outputs]), f"{subcommand}: a signal at the end")
-        same(run(*words, "--quiet", fault=f"posix_fallocate 1 signal {signal.SIGINT}", ignored=signal.SIGINT), (0, "", ""), f"{subcommand}: a signal that is ignored")
-    done("threads that cannot be had", "standardise", "herd", "-o", "out1.npy", "--threads", "3", "--quiet", fault=f"pthread_create 1 error {errno.EAGAIN}")
+        same(run(*words, "--quiet", fault=f"posix_fallocate 1 signal {signal.SIGINT}", ignored=signal.SIGINT), (0, "", ""),
+             f"{subcommand}: a signal that is ignored")
+    done("threads that cannot be had", "standardise", "herd", "-o", "out1.npy", "--threads", "3", "--quiet",
+         fault=f"pthread_create 1 error {errno.EAGAIN}")
     done("threads", "standardise", "herd", "-o", "out2.npy", "--threads", "3", "--quiet")
     same(get("out1.npy") == get("out2.npy"), True, "threads that cannot be had")
 
@@ -556,11 +592,11 @@ def test_small_disk():
     write("herd", draw(400, 300, 0.1), 1)
     words = ["read", os.path.abspath("herd"), "-o", "disk/out.npy"]
     script = 'mount -t tmpfs -o size=64k tmpfs disk 2>/dev/null || exit 99; "$@"; status=$?; ls -A disk; df --output=used disk | tail -n 1; exit $status'
-    for inside in [], ["unshare", "-rm"]:
-        got = subprocess.run([*inside, *(["unshare", "-m"] if not inside else []), "sh", "-c", script, "sh", program, *words], capture_output=True)
-        if got.returncode not in (1, 99):
+    for inside in ["unshare", "-m"], ["unshare", "-rm"]:
+        got = subprocess.run([*inside, "sh", "-c", script, "sh", program, *words], capture_output=True)
+        if got.returncode == 2:
             break
-    if got.returncode in (1, 99) or b"unshare" in got.stderr:
+    if got.returncode == 99 or b"unshare" in got.stderr:
         print("no file system may be mounted here: a limit on the size of files and a failing call stand for the full disk")
     else:
         same((got.returncode, got.stdout.split(), got.stderr),
@@ -574,15 +610,18 @@ def test_interrupted():
     with open("herd.bed", "wb") as f:
         f.write(b"\x6c\x1b\1")
         f.truncate(3 + animals // 4 * markers)
+    words = [program, "read", "herd", "-o", "out.npy", "--animals", str(animals), "--markers", str(markers), "--order", "C", "--threads", "2"]
     for number in signal.SIGINT, signal.SIGTERM:
-        run_ = subprocess.Popen([program, "read", "herd", "-o", "out.npy", "--animals", str(animals), "--markers", str(markers), "--order", "C", "--threads", "2"],
-                                stdout=subprocess.PIPE, stderr=subprocess.PIPE)
-        end = time.monotonic() + 20
-        while not (os.path.exists("out.npy.part") and os.stat("out.npy.part").st_size) and run_.poll() is None and time.monotonic() < end:
-            time.sleep(0.0005)
-        run_.send_signal(number)
-        out, err = run_.communicate(timeout=30)
-        same((run_.returncode, out, err), (-number, b"", b""), f"interrupted by {number}")
+        for _ in range(20):  # a run may end before the signal is sent
+            going = subprocess.Popen(words, stdout=subprocess.PIPE, stderr=subprocess.PIPE)
+            while not (os.path.exists("out.npy.part") and os.stat("out.npy.part").st_size) and going.poll() is None:
+                time.sleep(0.0005)
+            going.send_signal(number)
+            out, err = going.communicate(timeout=30)
+            if going.returncode:
+                break
+            clear()
+        same((going.returncode, out, err), (-number, b"", b""), f"interrupted by {number}")
         same(left(), [], f"interrupted by {number}")
 
 
@@ -606,7 +645,8 @@ def test_progress():
         for subcommand, doing in ("read", ["reading"]), ("standardise", ["standardising"] if order == "F" else ["statistics", "standardising"]):
             words = [subcommand, "herd", "-o", "out.npy", "--order", order, "--threads", "2"]
             status, said = on_terminal(*words)
-            same((status, [d for d in ("reading", "statistics", "standardising") if f"\r{d}: 100%" in said]), (0, doing), f"{subcommand} {order}: progress")
+            seen = [d for d in ("reading", "statistics", "standardising") if f"\r{d}: 100%" in said]
+            same((status, seen), (0, doing), f"{subcommand} {order}: progress")
             same(re.sub(r"\r[a-z]+: \d+%|\r *\r", "", said), "", f"{subcommand} {order}: nothing but progress")
             same(on_terminal(*words, "--quiet"), (0, ""), f"{subcommand} {order} --quiet: no progress")
 
@@ -629,5 +669,7 @@ for test in [value for key, value in sorted(globals().items()) if key.startswith
         os.chdir(place)
         test()
         os.chdir(root)
-print(f"the command: {passed} checks passed" + (f", {failed} FAILED" if failed else "") + ("" if numpy else "; NumPy is not here, so .npy files are read by hand alone"))
+if not numpy:
+    print("NumPy is not here: .npy files are read by hand alone")
+print(f"the command: {passed} checks passed" + (f", {failed} FAILED" if failed else ""))
 sys.exit(1 if failed else 0)

@@ -1,5 +1,5 @@
-/* Stands before libc in the tests of the command. FAULT is "CALL N error NUMBER", "CALL N signal NUMBER" or "CALL N cut FILE": when CALL is made for the N-th
- * time it fails with that error, the program gets that signal, or FILE is cut to nothing. */
+/* Stands before libc in the tests of the command. FAULT is "CALL N error NUMBER", "CALL N signal NUMBER" or "CALL N cut FILE": when CALL is made
+ * for the N-th time it fails with that error, the program gets that signal, or FILE is cut to nothing. */
 #define _GNU_SOURCE
 #include <dlfcn.h>
 #include <errno.h>
