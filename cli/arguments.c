@@ -131,7 +131,7 @@ struct options read_arguments(int argc, char **argv) {
     if (count == 1) misused("%s: no PREFIX is given", words[0]);
     for (enum option i = 0; i < OPTIONS; i++)
         if (given[i] && !(table[i].of & IN(s))) misused("%s takes no %s", words[0], table[i].name);
-    if (!options.out && s != CHECK) misused("%s: no -o OUT is given", words[0]);
+    if (s != CHECK && (!options.out || !*options.out)) misused("%s: no -o OUT is given", words[0]);
 
     options.f64 = s == STANDARDISE;
     if (given[DTYPE]) options.f64 = second(DTYPE, given[DTYPE], "i8", "f64");

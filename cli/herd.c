@@ -6,16 +6,12 @@
 
 #include "cli.h"
 
-/* The places that are marked, as a list. */
-static int64_t *list_of_marks(const uint8_t *marks, size_t count, size_t *len) {
+/* The places that are marked, as a list; all of count places if marks is null. */
+static int64_t *list_of(const struct herd *h, const uint8_t *marks, size_t count, size_t *len) {
     int64_t *list = room_for(count, sizeof *list);
-    *len = (size_t)bed_index_bool(count, marks, count, list, count).first;
-    return list;
-}
-
-static int64_t *list_of_all(size_t count, size_t *len) {
-    int64_t *list = room_for(count, sizeof *list);
-    *len = (size_t)bed_index_all(count, list, count).first;
+    bed_answer a = marks ? bed_index_bool(count, marks, count, list, count) : bed_index_all(count, list, count);
+    if (a.number) refuse(h, a);
+    *len = (size_t)a.first;
     return list;
 }
 
@@ -30,24 +26,14 @@ static void mark_listed(const struct options *o, marking *by, const struct file 
 
 static void make_lists(struct herd *h) {
     const struct options *o = h->options;
-    if (o->keep) {
-        uint8_t *marks = room_for(h->animals, 1);
-        mark_listed(o, mark_animals, &h->fam, o->keep, marks, 1);
-        h->iids = list_of_marks(marks, h->animals, &h->iid_len);
-        free(marks);
-    } else {
-        h->iids = list_of_all(h->animals, &h->iid_len);
-    }
-    if (o->extract || o->exclude) {
-        uint8_t *marks = room_for(h->markers, 1);
-        if (o->extract) mark_listed(o, mark_markers, &h->bim, o->extract, marks, 1);
-        else memset(marks, 1, h->markers);
-        if (o->exclude) mark_listed(o, mark_markers, &h->bim, o->exclude, marks, 0);
-        h->sids = list_of_marks(marks, h->markers, &h->sid_len);
-        free(marks);
-    } else {
-        h->sids = list_of_all(h->markers, &h->sid_len);
-    }
+    uint8_t *animals = o->keep ? room_for(h->animals, 1) : NULL, *markers = o->extract || o->exclude ? room_for(h->markers, 1) : NULL;
+    if (o->keep) mark_listed(o, mark_animals, &h->fam, o->keep, animals, 1);
+    if (o->extract) mark_listed(o, mark_markers, &h->bim, o->extract, markers, 1);
+    if (!o->extract && o->exclude) memset(markers, 1, h->markers);
+    if (o->exclude) mark_listed(o, mark_markers, &h->bim, o->exclude, markers, 0);
+    h->iids = list_of(h, animals, h->animals, &h->iid_len);
+    h->sids = list_of(h, markers, h->markers, &h->sid_len);
+    free(animals), free(markers);
 }
 
 /* A reading of no value: what the core says of the file and of the lists. */

@@ -15,6 +15,9 @@ try:
 except ImportError:
     numpy = None
 
+for number in signal.SIGINT, signal.SIGTERM, signal.SIGHUP, signal.SIGQUIT:
+    signal.signal(number, signal.SIG_DFL)  # a shell has what runs beside it ignore some
+
 passed = failed = 0
 drawn = random.Random(29)
 
@@ -283,7 +286,8 @@ def test_no_calls():
     same(run("standardise", "herd", "-o", "out.npy", "--markers", "40")[:2], (1, out), "13: no names")
     with open("/dev/full", "w") as full:
         got = subprocess.run([program, "standardise", "herd", "-o", "out.npy"], stdout=full, stderr=subprocess.PIPE)
-        same((got.returncode, got.stderr.splitlines()[-1]), (2, b"mungkelas: standard output: No space left on device"), "13: standard output is full")
+        message = b"mungkelas: standard output: No space left on device"
+        same((got.returncode, got.stderr.splitlines()[-1]), (2, message), "13: standard output is full")
     own, other = os.pipe()
     os.close(own)
     got = subprocess.run([program, "standardise", "herd", "-o", "out.npy"], stdout=other, stderr=subprocess.DEVNULL)
@@ -447,6 +451,7 @@ def test_usage():
             (["check", "herd", "flock"], "flock is one word too many"),
             (["read", "herd"], "read: no -o OUT is given"),
             (["standardise", "herd"], "standardise: no -o OUT is given"),
+            (["read", "herd", "-o", ""], "read: no -o OUT is given"),
             (["canonical", "herd"], "canonical: no -o OUT is given"),
             (read + ["--colour"], "--colour is no option"),
             (read + ["--quiet=1"], "--quiet=1 is no option"),
@@ -553,7 +558,8 @@ def test_faults():
                     after(call)
                 message = f"mungkelas: {f}.part: No locks available\n"
                 same(run(*words, fault=f"flock {n} error {errno.ENOLCK}"), (2, "", message), f"{subcommand}: flock")
-                os.remove(f + ".part")  # it may be another run's, so that it is left
+                same(f + ".part" in left(), True, f"{subcommand}: flock: the file may be another run's, so that it is left")
+                os.remove(f + ".part")
                 after("flock")
                 message = f"mungkelas: {f}.part: Cannot allocate memory\n"
                 same(run(*words, fault=f"mmap {n + 3} error {errno.ENOMEM}"), (2, "", message), f"{subcommand}: mmap")
