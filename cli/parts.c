@@ -67,8 +67,7 @@ bed_answer run_parts(const struct run *run) {
     pthread_t *threads = room_for(run->threads, sizeof *threads);
     size_t started = 1; /* this thread is the first */
     for (size_t t = 0; t < run->threads; t++) workers[t] = (struct worker){&s, t};
-    size_t wanted = run->lines / run->lines_a_part + 1;
-    if (wanted > run->threads) wanted = run->threads;
+    size_t parts = run->lines / run->lines_a_part + (run->lines % run->lines_a_part != 0), wanted = parts < run->threads ? parts : run->threads;
     /* A thread that cannot be had is done without. */
     while (started < wanted && !pthread_create(&threads[started], NULL, work, &workers[started])) started++;
     work(&workers[0]);

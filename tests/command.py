@@ -210,6 +210,19 @@ def test_across():
         clear()
 
 
+def test_threads():
+    """How many threads are begun beside the first: as many as are asked for, and no more than there are parts. A signal shows whether one is."""
+    for mode, order, animals, markers, threads, begun in (
+            (1, "F", 20, 600, 1, 0), (1, "F", 20, 600, 2, 1), (1, "F", 20, 600, 3, 2), (0, "C", 600, 20, 3, 2), (1, "F", 20, 2, 3, 1),
+            (1, "C", 512, 20, 3, 0), (1, "C", 600, 20, 3, 1), (1, "C", 1100, 20, 2, 1), (1, "C", 1100, 20, 3, 2), (0, "F", 20, 1100, 3, 2)):
+        write("herd", draw(animals, markers, 0.1), mode)
+        words = ["read", "herd", "-o", "out.npy", "--order", order, "--threads", threads, "--quiet"]
+        what = f"threads: mode {mode} {order} {animals} {markers} {threads}"
+        if begun:
+            same(run(*words, fault=f"pthread_create {begun} signal {signal.SIGTERM}")[0], -signal.SIGTERM, what + ": begun")
+        same(run(*words, fault=f"pthread_create {begun + 1} signal {signal.SIGTERM}")[0], 0, what + ": no more")
+
+
 def test_at_once():
     """Enough work for threads to run at the same time."""
     animals, markers = 3000, 1200
