@@ -630,10 +630,18 @@ def test_interrupted():
         f.write(b"\x6c\x1b\1")
         f.truncate(3 + animals // 4 * markers)
     words = [program, "read", "herd", "-o", "out.npy", "--animals", str(animals), "--markers", str(markers), "--order", "C", "--threads", "2"]
+
+    def size(path):
+        try:
+            return os.stat(path).st_size
+        except FileNotFoundError:
+            return 0
+
     for number in signal.SIGINT, signal.SIGTERM:
         for _ in range(20):  # a run may end before the signal is sent
             going = subprocess.Popen(words, stdout=subprocess.PIPE, stderr=subprocess.PIPE)
-            while not (os.path.exists("out.npy.part") and os.stat("out.npy.part").st_size) and going.poll() is None:
+            end = time.monotonic() + 20
+            while not size("out.npy.part") and going.poll() is None and time.monotonic() < end:
                 time.sleep(0.0005)
             going.send_signal(number)
             out, err = going.communicate(timeout=30)
