@@ -28,6 +28,14 @@
 #include <stddef.h>
 #include <stdint.h>
 
+/* The version; it stands here alone. MAJOR rises with every change that breaks a caller (CHANGELOG.md). */
+#define MUNGKELAS_VERSION_MAJOR 0
+#define MUNGKELAS_VERSION_MINOR 1
+#define MUNGKELAS_VERSION_PATCH 0
+#define MUNGKELAS_TEXT_(a, b, c) #a "." #b "." #c
+#define MUNGKELAS_TEXT(a, b, c) MUNGKELAS_TEXT_(a, b, c)
+#define MUNGKELAS_VERSION MUNGKELAS_TEXT(MUNGKELAS_VERSION_MAJOR, MUNGKELAS_VERSION_MINOR, MUNGKELAS_VERSION_PATCH)
+
 #ifdef __cplusplus
 extern "C" {
 #endif
