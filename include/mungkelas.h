@@ -28,6 +28,14 @@
 #include <stddef.h>
 #include <stdint.h>
 
+/* The version; it stands here alone. MAJOR rises with every change that breaks a caller (CHANGELOG.md). */
+#define MUNGKELAS_VERSION_MAJOR 0
+#define MUNGKELAS_VERSION_MINOR 1
+#define MUNGKELAS_VERSION_PATCH 0
+#define MUNGKELAS_TEXT_(a, b, c) #a "." #b "." #c
+#define MUNGKELAS_TEXT(a, b, c) MUNGKELAS_TEXT_(a, b, c)
+#define MUNGKELAS_VERSION MUNGKELAS_TEXT(MUNGKELAS_VERSION_MAJOR, MUNGKELAS_VERSION_MINOR, MUNGKELAS_VERSION_PATCH)
+
 #ifdef __cplusplus
 extern "C" {
 #endif
@@ -98,8 +106,7 @@ bed_answer bed_canonical(const uint8_t *file, size_t file_len, size_t iid_count,
 /* ---- packing and writing ---- */
 
 /* Reads in; writes out: one marker's values packed, four a byte, low bits first, pads zero.
- * Refusals: 16 (out_len is not the block width of in_len), 7 (first: the animal). At 7 the bytes before the refused group of four are
- * new, the others old. */
+ * Refusals: 16 (out_len is not the block width of in_len), 7 (first: the animal). */
 bed_answer bed_encode1_i8(const int8_t *in, size_t in_len, uint8_t *out, size_t out_len, bool is_a1_counted, int8_t missing);
 bed_answer bed_encode1_f64(const double *in, size_t in_len, uint8_t *out, size_t out_len, bool is_a1_counted, double missing);
 

@@ -327,10 +327,9 @@ static void packing(bool narrow) {
         }
         memset(out, 0xAA, 32), memset(want, 0xAA, 32);
         bed_answer a = out_len != width_of(n) ? answer(16, 0, 0) : bad < n ? answer(7, (int64_t)bad, 0) : answer(0, 0, 0);
-        if (a.number != 16) {
-            size_t until = bad < n ? bad / 4 * 4 : n;
-            memset(want, 0, width_of(until));
-            for (size_t k = 0; k < until; k++) want[k / 4] |= (uint8_t)(coded(in[k], flag, missing) << (2 * (k % 4)));
+        if (a.number == 0) {
+            memset(want, 0, width_of(n));
+            for (size_t k = 0; k < n; k++) want[k / 4] |= (uint8_t)(coded(in[k], flag, missing) << (2 * (k % 4)));
         }
         same(narrow ? bed_encode1_i8(small, n, out, out_len, flag, (int8_t)missing) : bed_encode1_f64(in, n, out, out_len, flag, missing), a);
         if (memcmp(out, want, 32)) fail("a byte");

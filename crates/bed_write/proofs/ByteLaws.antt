@@ -2,8 +2,8 @@
 use mathlib.Core.Path.{_≡_, refl, sym, ap, subst, _∙_}
 use mathlib.Core.Bool.{Bool, true, false, cond}
 use mathlib.Core.List.{List}
-use Prim.Native.Nat.{ℕ, suc, _+_, _-_, _*_, _<_}
-use native.Mathlib.Nat.{mul-one}
+use mathlib.Core.Option.{Option}
+use Prim.Native.Nat.{ℕ, suc, _+_, _-_, _<_}
 use native.Mathlib.Omega.{arith}
 use borrow.Author.Tests.{eq-eqb, ne-eqb, eqb-true, le-ltb, ltb-true}
 use lib.Dec.{T, eqb}
@@ -14,12 +14,13 @@ use lib.Signed.{mag, ltZ, nonNeg}
 use mir.Syntax.{w8, w64}
 use mir.Val.{Fits, SFits, ofZ, toZ}
 use mir.ValLaws.{toZ-ofZ}
+use Rattle.genotype.specs.Answer.{Answer}
 use Rattle.genotype.specs.Value.{i8, sameInt, codeOf}
-use Rattle.genotype.proofs.SignedLaws.{sameInt-refl}
+use Rattle.genotype.proofs.SignedLaws.{sameInt-refl, sameInt-eq}
 use Rattle.genotype.proofs.Tests.{by-test}
 use Rattle.genotype.proofs.ValueLaws.{zero-code, one-code, two-code, missing-code, number-bad}
-use Rattle.genotype.specs.Answer.{Answer}
 use Rattle.bed_write.specs.Packing.{placeCode, encodeAnswer, encodeBuffer}
+use Rattle.bed_write.specs.Writing.{valueCode, firstBadCall}
 use Rattle.bed_write.specs.Inner.{orFour, byteIndex, CodesOfBytes, byTable}
 use Rattle.bed_write.proofs.FirstLaws.{code-found, code-lacking}
 use Rattle.genotype.proofs.Tabulate.{getD-inside}
@@ -37,17 +38,17 @@ front (negsuc k) h = absurd (let z : _≡_ {A = Bool} true false = h in let q : 
 
 -- a signed number that is known to be m ≥ 0, cast to an unsigned one
 module _ (x : ℤ) (m : ℕ) (e : x ≡ pos m) (h : m < 128) where
-  held : toZ w8 (ofZ w8 x) ≡ pos m
-  held = ap (λ (y : ℤ). toZ w8 (ofZ w8 y)) e ∙ toZ-ofZ w8 (pos m) (record { sfits = h })
+  told : toZ w8 (ofZ w8 x) ≡ pos m
+  told = ap (λ (y : ℤ). toZ w8 (ofZ w8 y)) e ∙ toZ-ofZ w8 (pos m) (record { sfits = h })
 
   pub casts : T (nonNeg (toZ w8 (ofZ w8 x))) × Fits w64 (natAbs (toZ w8 (ofZ w8 x)))
   casts = (
-    subst (λ (y : ℤ). T (nonNeg y)) (sym held) tt,
-    subst (λ (y : ℤ). Fits w64 (natAbs y)) (sym held) (record { fits = omega arith }),
+    subst (λ (y : ℤ). T (nonNeg y)) (sym told) tt,
+    subst (λ (y : ℤ). Fits w64 (natAbs y)) (sym told) (record { fits = omega arith }),
   )
 
   pub cast-is : natAbs (toZ w8 (ofZ w8 x)) ≡ m
-  cast-is = ap natAbs held
+  cast-is = ap natAbs told
 
 module _ (z : ℤ) (f : SFits w8 z) where
   back : toZ w8 (ofZ w8 z) ≡ z
@@ -91,6 +92,20 @@ same-index (negsuc m) (pos n) h g = sym (ne-eqb (128 + m) n (λ e. omega arith))
 same-index (negsuc m) (negsuc n) h g = by-test (eqb m n)
     (λ e. e ∙ sym (eq-eqb (128 + m) (128 + n) (ap (λ (x : ℕ). 128 + x) (eqb-true m n e))))
     (λ e. e ∙ sym (ne-eqb (128 + m) (128 + n) (λ q. let r : m ≡ n = omega arith in let z : _≡_ {A = Bool} false true = sym e ∙ eq-eqb m n r in let y : _≡_ {A = ℕ} 0 1 = cc in omega arith)))
+
+-- and exactly if their bits are
+same-bits : (a b : ℤ) → SFits w8 a → SFits w8 b → eqb (ofZ w8 a) (ofZ w8 b) ≡ sameInt a b
+same-bits a b f g = by-test (sameInt a b)
+    (λ e. eq-eqb (ofZ w8 a) (ofZ w8 b) (ap (ofZ w8) (sameInt-eq a b e)) ∙ sym e)
+    (λ e. ne-eqb (ofZ w8 a) (ofZ w8 b) (λ q.
+    let r : a ≡ b = sym (toZ-ofZ w8 a f) ∙ ap (toZ w8) q ∙ toZ-ofZ w8 b g in
+    let t : _≡_ {A = Bool} true false = sym (sameInt-refl a) ∙ ap (sameInt a) r ∙ e in
+    let z : _≡_ {A = ℕ} 0 1 = cc in
+    omega arith) ∙ sym e)
+
+-- a choice by the machine's test
+pub tested : (a b : ℤ) → SFits w8 a → SFits w8 b → (r x y : ℕ) → r ≡ cond (eqb (ofZ w8 a) (ofZ w8 b)) x y → r ≡ cond (sameInt a b) x y
+tested a b f g r x y e = e ∙ ap (λ (t : Bool). cond t x y) (same-bits a b f g)
 
 -- ---- the table: 4 everywhere, then missing, then 2, 1 and 0
 module _ (flag : Bool) (missing : ℤ) (hm : mag missing < 128) (at two zer : ℕ) (ea : at ≡ byteIndex missing) (e2 : two ≡ cond flag 0 3) (e0 : zer ≡ cond flag 3 0) where
@@ -165,22 +180,35 @@ pub number-held : (table : List ℕ) (vals : List ℤ) (k r : ℕ) → mag (getD
 unfolding byTable
 number-held table vals k r f e = e ∙ ap (λ (v : ℤ). getD table (byteIndex v) 0) (toZ-ofZ w8 (getD vals k (pos 0)) (record { sfits = f }))
 
--- k places after the start, as a walk of stride 1 finds it
-pub same-place :
-    (flag : Bool) (missing : ℤ) (table : List ℕ) (vals : List ℤ) (start k : ℕ) → CodesOfBytes flag missing table → start + k < length vals
-    → mag (getD vals (start + k * 1) (pos 0)) < 128 → byTable table vals (start + k * 1) ≡ orFour (placeCode i8 flag missing vals (start + k))
-same-place flag missing table vals start k t h f =
-    by-table flag missing table vals (start + k * 1) t (omega arith) f ∙ ap (λ (x : ℕ). orFour (placeCode i8 flag missing vals (start + x))) (mul-one k)
+pub code-held : (flag : Bool) (missing v : ℤ) (r : ℕ) → mag v < 128 → r ≡ orFour (codeOf i8 flag missing (toZ w8 (ofZ w8 v))) → r ≡ orFour (codeOf i8 flag missing v)
+code-held flag missing v r f e = e ∙ ap (λ (x : ℤ). orFour (codeOf i8 flag missing x)) (toZ-ofZ w8 v (record { sfits = f }))
+
+pub good-held :
+    (flag : Bool) (missing v : ℤ) (r : ℕ) → mag v < 128
+    → ((m : ℤ) → orFour (codeOf i8 flag m (toZ w8 (ofZ w8 v))) < 4 → r ≡ orFour (codeOf i8 flag m (toZ w8 (ofZ w8 v))))
+    → orFour (codeOf i8 flag missing v) < 4 → r ≡ orFour (codeOf i8 flag missing v)
+good-held flag missing v r f h =
+    subst (λ (x : ℤ). orFour (codeOf i8 flag missing x) < 4 → r ≡ orFour (codeOf i8 flag missing x)) (toZ-ofZ w8 v (record { sfits = f })) (h missing)
 
 -- what is said of `missing` as the machine holds it
-pub held-answer :
-    (missing : ℤ) → SFits w8 missing → (answer : Answer) (flag : Bool) (vals : List ℤ) (out old : List ℕ)
-    → (answer ≡ encodeAnswer (length vals) (placeCode i8 flag (toZ w8 (ofZ w8 missing)) vals) (length old)) × (out ≡ encodeBuffer (length vals) (placeCode i8 flag (toZ w8 (ofZ w8 missing)) vals) old)
-    → (answer ≡ encodeAnswer (length vals) (placeCode i8 flag missing vals) (length old)) × (out ≡ encodeBuffer (length vals) (placeCode i8 flag missing vals) old)
-held-answer missing f answer flag vals out old h =
-    subst
-    (λ (z : ℤ). (answer ≡ encodeAnswer (length vals) (placeCode i8 flag z vals) (length old)) × (out ≡ encodeBuffer (length vals) (placeCode i8 flag z vals) old))
-    (toZ-ofZ w8 missing f) h
+abbrev pub held : ℤ → ℤ
+held z = toZ w8 (ofZ w8 z)
 
-pub held-table : (flag : Bool) (missing : ℤ) (table : List ℕ) → SFits w8 missing → CodesOfBytes flag (toZ w8 (ofZ w8 missing)) table → CodesOfBytes flag missing table
-held-table flag missing table f t = subst (λ (z : ℤ). CodesOfBytes flag z table) (toZ-ofZ w8 missing f) t
+module _ (missing : ℤ) (f : SFits w8 missing) where
+  pub as-held : (P : ℤ → Type 0) → P missing → P (held missing)
+  as-held P h = subst P (sym (toZ-ofZ w8 missing f)) h
+
+  pub as-given : (P : ℤ → Type 0) → P (held missing) → P missing
+  as-given P h = subst P (toZ-ofZ w8 missing f) h
+
+  pub held-answer :
+      (flag : Bool) (vals : List ℤ) (old : List ℕ) {answer : Answer} {out : List ℕ}
+      → (answer ≡ encodeAnswer (length vals) (placeCode i8 flag (held missing) vals) (length old)) × (out ≡ encodeBuffer (length vals) (placeCode i8 flag (held missing) vals) old)
+      → (answer ≡ encodeAnswer (length vals) (placeCode i8 flag missing vals) (length old)) × (out ≡ encodeBuffer (length vals) (placeCode i8 flag missing vals) old)
+  held-answer flag vals old {answer} {out} e =
+      as-given (λ m. (answer ≡ encodeAnswer (length vals) (placeCode i8 flag m vals) (length old)) × (out ≡ encodeBuffer (length vals) (placeCode i8 flag m vals) old)) e
+
+  pub held-found :
+      (flag order : Bool) (iids sids : ℕ) (val : List ℤ) {found : Option (ℕ × ℕ)}
+      → found ≡ firstBadCall iids sids (valueCode i8 flag (held missing) order iids sids val) → found ≡ firstBadCall iids sids (valueCode i8 flag missing order iids sids val)
+  held-found flag order iids sids val {found} e = as-given (λ m. found ≡ firstBadCall iids sids (valueCode i8 flag m order iids sids val)) e

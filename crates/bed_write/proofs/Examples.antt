@@ -12,10 +12,10 @@ use Rattle.genotype.specs.Answer.{refused}
 use Rattle.genotype.specs.Block.{blockWidth, checkSize}
 use Rattle.genotype.specs.Matrix.{matrixPlace}
 use Rattle.genotype.specs.Value.{i8, float, sameInt, sameOrNan, codeOf}
-use Rattle.bed_write.specs.Packing.{placeCode, orElse, firstOf, ifBad, firstBadAnimal, checkAnimal, encodeAnswer}
-use Rattle.bed_write.specs.First.{IsFoundFirst, IsFirstBad, IsFirstBadCall}
+use Rattle.bed_write.specs.Packing.{placeCode, orElse, firstOf, ifBad, firstBadAnimal, checkAnimal, encodeAnswer, encodeBuffer}
+use Rattle.bed_write.specs.First.{IsFoundFirst, IsFirstBad, IsFirstBadCall, animalOf}
 use Rattle.bed_write.specs.Writing.{valueCode, firstBadCall, checkCall, checkBuffers, writeAnswer}
-use Rattle.bed_write.proofs.Theorems.{first-is-least, first-is-none, first-bad-animal, first-bad-call}
+use Rattle.bed_write.proofs.Theorems.{first-is-least, first-is-none, first-bad-animal, first-bad-call, refused-unchanged, one-marker-first-bad}
 
 -- 3 is none of 0, 1, 2 and −127: animal 1, and as a matrix of two animals and two markers animal 1 at marker 0 or animal 0 at marker 1
 abbrev pub withThree : List ℤ
@@ -70,6 +70,22 @@ pub nan-not-written : (flag : Bool) → writeAnswer 2 2 (valueCode float flag mi
 unfolding writeAnswer checkBuffers checkSize checkCall firstBadCall firstOf orElse ifBad valueCode placeCode matrixPlace codeOf sameOrNan eq blockWidth
 nan-not-written true = refl
 nan-not-written false = refl
+
+-- 3 stands in the second group of four: 7 with animal 5, and the first byte is the old one too
+abbrev secondGroup : List ℤ
+secondGroup = pos 0 ∷ pos 1 ∷ pos 2 ∷ pos 2 ∷ pos 0 ∷ pos 3 ∷ pos 1 ∷ []
+
+second-refused : encodeAnswer 7 (placeCode i8 true (negsuc 126) secondGroup) 2 ≡ refused 7 (pos 5 ∷ [])
+unfolding encodeAnswer checkAnimal firstBadAnimal firstOf orElse ifBad placeCode codeOf sameOrNan sameInt blockWidth
+second-refused = refl
+
+pub second-unchanged : encodeBuffer 7 (placeCode i8 true (negsuc 126) secondGroup) (0xAA ∷ 0xBB ∷ []) ≡ 0xAA ∷ 0xBB ∷ []
+second-unchanged = refused-unchanged 7 (placeCode i8 true (negsuc 126) secondGroup) (0xAA ∷ 0xBB ∷ []) 7 (pos 5 ∷ []) second-refused
+
+-- the writer's search over one marker, in either order
+pub second-searched : (order : Bool) → animalOf (firstBadCall 7 1 (valueCode i8 true (negsuc 126) order 7 1 secondGroup)) ≡ some 5
+unfolding firstBadAnimal firstOf orElse ifBad placeCode codeOf sameOrNan sameInt
+second-searched order = one-marker-first-bad i8 true (negsuc 126) order 7 secondGroup
 
 -- ---- what is found first, of places at which something is found from 1 on
 abbrev from1 : ℕ → Option ℕ

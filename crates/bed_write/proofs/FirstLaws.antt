@@ -70,6 +70,12 @@ unfolding ifBad orZero
 not-bad (some c) x e = refl
 not-bad none x e = absurd (let q : _≡_ {A = ℕ} 0 1 = cc in omega arith)
 
+-- a value that is not bad has a code
+pub code-known : {A : Type 0} (o : Option ℕ) (x : A) → ((c : ℕ) → o ≡ some c → c < 4) → ifBad o x ≡ none → orFour o < 4
+unfolding ifBad orFour
+code-known (some c) x h e = h c refl
+code-known none x h e = absurd (let q : _≡_ {A = ℕ} 0 1 = cc in omega arith)
+
 pub zero-four : (o : Option ℕ) → orFour o < 4 → orFour o ≡ orZero o
 unfolding orFour orZero
 zero-four (some c) h = refl

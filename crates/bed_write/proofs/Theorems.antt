@@ -1,12 +1,20 @@
--- "first" is the least place: 7 carries "the first one's animal, in the whole-file writer its marker too".
+-- Refusal 7: "first" is the least place, 7 carries "the first one's animal, in the whole-file writer its marker too", and no byte changes.
 use mathlib.Core.Path.{_≡_, refl, ap, subst, _∙_}
+use mathlib.Core.Bool.{Bool, true, false}
+use mathlib.Core.List.{List}
 use mathlib.Core.Option.{Option, some, none}
 use Prim.Native.Nat.{ℕ, zero, suc, _<_}
 use native.Mathlib.Omega.{arith}
-use Rattle.bed_write.specs.Packing.{orElse, firstOf, ifBad, firstBadAnimal}
-use Rattle.bed_write.specs.First.{IsFoundFirst, HasCode, IsFirstBad, IsFirstBadCall}
-use Rattle.bed_write.specs.Writing.{firstBadCall}
-use Rattle.bed_write.proofs.FirstLaws.{first-none, first-some, first-all}
+use lib.IntN.{ℤ}
+use lib.ListN.{length}
+use Rattle.genotype.specs.Answer.{refused, isDone}
+use Rattle.genotype.specs.Matrix.{matrixPlace}
+use Rattle.genotype.specs.Value.{Width}
+use Rattle.genotype.proofs.AnswerLaws.{old-if-not}
+use Rattle.bed_write.specs.Packing.{placeCode, packedCodes, orElse, firstOf, ifBad, firstBadAnimal, encodeAnswer, encodeBuffer}
+use Rattle.bed_write.specs.First.{IsFoundFirst, HasCode, IsFirstBad, IsFirstBadCall, animalOf}
+use Rattle.bed_write.specs.Writing.{valueCode, firstBadCall}
+use Rattle.bed_write.proofs.FirstLaws.{first-none, first-some, first-all, first-ext}
 
 least : {A : Type 0} (n : ℕ) (found : ℕ → Option A) (x : A) → firstOf n found ≡ some x → IsFoundFirst A n found x
 unfolding firstOf
@@ -87,3 +95,37 @@ module _ (iids sids : ℕ) (code : ℕ → ℕ → Option ℕ) where
         (λ i hi. first-none iids (at i) (λ j hj. good-none (code j i) (j, i) (b .lower-markers-good j i hj hi)))
         (first-some iids (at m) a (a, m) (f .inside) (λ j h. good-none (code j m) (j, m) (f .lower-good j h)) (bad-some (code a m) (a, m) (f .is-bad))),
   )
+
+-- ---- "`encode1` shall leave the buffer unchanged at 7" (document 02): at 7 as at 16, every byte is the old one
+pub refused-unchanged : (n : ℕ) (code : ℕ → Option ℕ) (old : List ℕ) (number : ℕ) (carried : List ℤ) → encodeAnswer n code (length old) ≡ refused number carried → encodeBuffer n code old ≡ old
+unfolding encodeBuffer
+refused-unchanged n code old number carried e = old-if-not (encodeAnswer n code (length old)) (packedCodes n code) old (ap isDone e)
+
+-- ---- one marker: the whole-file writer's search finds the animal that packing looks for, in either order
+at-one : (order : Bool) (n a : ℕ) → matrixPlace order n 1 a 0 ≡ a
+unfolding matrixPlace
+at-one true n a = omega arith
+at-one false n a = omega arith
+
+only-animal : (n : ℕ) (o : ℕ → Option ℕ) (x : ℕ → ℕ) → animalOf (firstOf n (λ k. ifBad (o k) (x k, 0))) ≡ firstOf n (λ k. ifBad (o k) (x k))
+unfolding firstOf ifBad orElse
+only-animal zero o x = refl
+only-animal (suc n) o x = go (o 0) (only-animal n (λ k. o (suc k)) (λ k. x (suc k)))
+  where
+    go : (p : Option ℕ)
+        → animalOf (firstOf n (λ k. ifBad (o (suc k)) (x (suc k), 0))) ≡ firstOf n (λ k. ifBad (o (suc k)) (x (suc k)))
+        → animalOf (orElse (ifBad p (x 0, 0)) (firstOf n (λ k. ifBad (o (suc k)) (x (suc k), 0)))) ≡ orElse (ifBad p (x 0)) (firstOf n (λ k. ifBad (o (suc k)) (x (suc k))))
+    go (some c) later = later
+    go none later = refl
+
+pub one-marker-first-bad : (w : Width) (flag : Bool) (missing : w .Value) (order : Bool) (n : ℕ) (val : List (w .Value))
+    → animalOf (firstBadCall n 1 (valueCode w flag missing order n 1 val)) ≡ firstBadAnimal n (placeCode w flag missing val)
+unfolding firstBadCall firstBadAnimal firstOf orElse valueCode
+one-marker-first-bad w flag missing order n val =
+    ap animalOf (last (firstOf n (λ a. ifBad (placeCode w flag missing val (matrixPlace order n 1 a 0)) (a, 0))))
+    ∙ only-animal n (λ a. placeCode w flag missing val (matrixPlace order n 1 a 0)) (λ a. a)
+    ∙ first-ext n _ _ (λ a h. ap (λ (k : ℕ). ifBad (placeCode w flag missing val k) a) (at-one order n a))
+  where
+    last : (o : Option (ℕ × ℕ)) → orElse o none ≡ o
+    last (some x) = refl
+    last none = refl

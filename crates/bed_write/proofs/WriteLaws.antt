@@ -13,7 +13,7 @@ use lib.IntN.{ℤ, pos}
 use lib.Ieee.{Float}
 use lib.ListN.{length, getD}
 use lib.Signed.{mag}
-use Rattle.genotype.specs.Value.{Width, i8, float}
+use Rattle.genotype.specs.Value.{Width, i8, float, codeOf}
 use Rattle.genotype.specs.Answer.{Answer, done, refused, check, countLimit, isDone}
 use Rattle.genotype.specs.Block.{blockWidth, fileLength, checkSize, divAnswer}
 use Rattle.genotype.specs.Code.{packedByte}
@@ -23,10 +23,10 @@ use Rattle.genotype.proofs.AnswerLaws.{Stage, lets, refuses, check-stage, then-
 use Rattle.genotype.proofs.MatrixLaws.{place-below}
 use Rattle.genotype.proofs.Tests.{by-lt}
 use Rattle.genotype.proofs.Widths.{Sized, width-given, size-stage}
-use Rattle.bed_write.specs.Packing.{orZero, firstOf, ifBad}
+use Rattle.bed_write.specs.Packing.{placeCode, orZero, firstOf, ifBad}
 use Rattle.bed_write.specs.Writing.{valueCode, firstBadCall, checkCall, checkBuffers, writeAnswer, bedFile, writeBuffer}
 use Rattle.bed_write.specs.Inner.{orFour, CodesOfBytes, byTable, byTests, inGroup, Four, ifOver, firstOver, placed}
-use Rattle.bed_write.proofs.FirstLaws.{first-none, first-some, first-all, first-ext, bad-none, bad-some, zero-four, place-coded}
+use Rattle.bed_write.proofs.FirstLaws.{first-none, first-some, first-all, first-ext, bad-none, bad-some, zero-four, place-coded, code-read}
 use Rattle.bed_write.proofs.ByteLaws.{by-table}
 use Rattle.bed_write.proofs.GroupLaws.{good-four, group-byte}
 use Rattle.bed_write.proofs.BedLaws.{bed-ext}
@@ -153,33 +153,53 @@ module _ (iids sids : ℕ) (number : ℕ → ℕ → ℕ) where
             (λ h. over-none (number a m) (call a m) h ∙ sym (bad-none (code a m) (call a m) (subst (λ (x : ℕ). x < 4) (same a m ha hm) h)))
             (λ h. over-some (number a m) (call a m) (omega arith) ∙ sym (bad-some (code a m) (call a m) (coded a m) (subst (λ (x : ℕ). 3 < x) (same a m ha hm) (omega arith))))
 
-    -- ---- the writer, by what was found
-    module _ (valLength : ℕ) (old : List ℕ) (d : done [] ≡ checkBuffers iids sids valLength (length old) (done [])) where
-      heard-later : (later : Answer) → checkBuffers iids sids valLength (length old) later ≡ later
-      heard-later = heard (buffers-stage iids sids valLength (length old)) [] (sym (ap isDone d))
+    -- where no call is bad
+    module _ (e : none ≡ firstBadCall iids sids code) where
+      pub none-called : firstOver iids sids number ≡ none
+      none-called = over-bad ∙ sym e
 
-      pub write-bad :
-          (a m : ℕ) → some (call a m) ≡ firstOver iids sids number
-          → (refused 7 (pos a ∷ pos m ∷ []) ≡ writeAnswer iids sids code valLength (length old)) × (old ≡ writeBuffer iids sids code valLength old)
-      unfolding writeAnswer writeBuffer checkCall
-      write-bad a m e =
-          let q : writeAnswer iids sids code valLength (length old) ≡ refused 7 (pos a ∷ pos m ∷ []) =
-          heard-later _ ∙ ap (λ o. checkCall o (done [])) (sym (e ∙ over-bad)) in
-          (sym q, sym (old-if-not _ _ old (ap isDone q)))
+      pub same-file : bedFile iids sids number ≡ bedFile iids sids (λ a m. orZero (code a m))
+      same-file =
+          bed-ext iids sids number (λ a m. orZero (code a m))
+          (λ a m ha hm. let s = same a m ha hm in s ∙ zero-four (code a m) (subst (λ (x : ℕ). x < 4) s (none-over none-called a m ha hm)))
 
-      pub write-done :
-          none ≡ firstOver iids sids number → (out : List ℕ) → out ≡ bedFile iids sids number
-          → (done [] ≡ writeAnswer iids sids code valLength (length old)) × (out ≡ writeBuffer iids sids code valLength old)
-      unfolding writeAnswer writeBuffer checkCall
-      write-done e out o =
-          let q : writeAnswer iids sids code valLength (length old) ≡ done [] =
-          heard-later _ ∙ ap (λ o. checkCall o (done [])) (sym (e ∙ over-bad)) in (
-            sym q,
-            o
-                ∙ bed-ext iids sids number (λ a m. orZero (code a m))
-                (λ a m ha hm. let s = same a m ha hm in s ∙ zero-four (code a m) (subst (λ (x : ℕ). x < 4) s (none-over (sym e) a m ha hm)))
-                ∙ sym (new-if-done _ _ old (ap isDone q)),
-          )
+-- ---- the search, by the codes of the calls
+module _ (iids sids : ℕ) (code : ℕ → ℕ → Option ℕ) (coded : (a m c : ℕ) → code a m ≡ some c → c < 4) where
+  abbrev pub GoodCodes : ℕ → Type 0
+  GoodCodes m = GoodMarker iids sids (λ a m. orFour (code a m)) m
+
+  found : firstOver iids sids (λ a m. orFour (code a m)) ≡ firstBadCall iids sids code
+  found = over-bad iids sids (λ a m. orFour (code a m)) code coded (λ a m ha hm. refl)
+
+  pub called-none : (marker : ℕ) → sids ≤ marker → ((m : ℕ) → m < marker → GoodCodes m) → none ≡ firstBadCall iids sids code
+  called-none marker h g = found-none iids sids (λ a m. orFour (code a m)) marker h g ∙ found
+
+  pub called-at :
+      (marker animal : ℕ) → marker < sids → animal < iids → ((m : ℕ) → m < marker → GoodCodes m) → ((a : ℕ) → a < animal → orFour (code a marker) < 4)
+      → 3 < orFour (code animal marker) → some (call animal marker) ≡ firstBadCall iids sids code
+  called-at marker animal hm ha before here b = found-at iids sids (λ a m. orFour (code a m)) marker animal hm ha before here b ∙ found
+
+-- ---- the writer, by what was found
+module _ (iids sids : ℕ) (code : ℕ → ℕ → Option ℕ) (valLength : ℕ) (old : List ℕ) (d : done [] ≡ checkBuffers iids sids valLength (length old) (done [])) where
+  heard-later : (later : Answer) → checkBuffers iids sids valLength (length old) later ≡ later
+  heard-later = heard (buffers-stage iids sids valLength (length old)) [] (sym (ap isDone d))
+
+  pub write-bad :
+      (a m : ℕ) → some (call a m) ≡ firstBadCall iids sids code
+      → (refused 7 (pos a ∷ pos m ∷ []) ≡ writeAnswer iids sids code valLength (length old)) × (old ≡ writeBuffer iids sids code valLength old)
+  unfolding writeAnswer writeBuffer checkCall
+  write-bad a m e =
+      let q : writeAnswer iids sids code valLength (length old) ≡ refused 7 (pos a ∷ pos m ∷ []) =
+      heard-later _ ∙ ap (λ o. checkCall o (done [])) (sym e) in
+      (sym q, sym (old-if-not _ _ old (ap isDone q)))
+
+  pub write-done :
+      none ≡ firstBadCall iids sids code → (out : List ℕ) → out ≡ bedFile iids sids (λ a m. orZero (code a m))
+      → (done [] ≡ writeAnswer iids sids code valLength (length old)) × (out ≡ writeBuffer iids sids code valLength old)
+  unfolding writeAnswer writeBuffer checkCall
+  write-done e out o =
+      let q : writeAnswer iids sids code valLength (length old) ≡ done [] = heard-later _ ∙ ap (λ o. checkCall o (done [])) (sym e) in
+      (sym q, o ∙ sym (new-if-done _ _ old (ap isDone q)))
 
 -- where the buffers are refused
 refused-stays : {F : Answer → Answer} → Stage F → (a later : Answer) → a ≡ F (done []) → isDone a ≡ false → a ≡ F later
@@ -205,14 +225,24 @@ pub none-counted : (number : ℕ → ℕ) (i bad n : ℕ) → (bad ≡ 0 → (k 
 none-counted number i bad n before e z k l =
     by-lt k i (λ b. before (omega arith) k b) (λ b. let q : i ≡ k = omega arith in subst (λ (j : ℕ). number j < 4) q (let h : n < 4 = omega arith in omega arith))
 
+-- ---- the code of a value of a matrix is a code
+pub value-coded :
+    (w : Width) (flag : Bool) (missing : w .Value) (order : Bool) (iids sids : ℕ) (val : List (w .Value)) (a m c : ℕ)
+    → valueCode w flag missing order iids sids val a m ≡ some c → c < 4
+unfolding valueCode
+value-coded w flag missing order iids sids val a m c e = place-coded w flag missing val (matrixPlace order iids sids a m) c e
+
+-- no value at any place is bad
+pub all-good :
+    (w : Width) (flag : Bool) (missing : w .Value) (order : Bool) (iids sids : ℕ) (val : List (w .Value)) → iids * sids ≡ length val
+    → ((k : ℕ) → k < length val → orFour (placeCode w flag missing val k) < 4) → none ≡ firstBadCall iids sids (valueCode w flag missing order iids sids val)
+unfolding valueCode
+all-good w flag missing order iids sids val e g =
+    called-none iids sids (valueCode w flag missing order iids sids val) (value-coded w flag missing order iids sids val) sids (le-refl sids)
+    (λ m hm a ha. let p : matrixPlace order iids sids a m < iids * sids = place-below iids sids a m ha hm order in g (matrixPlace order iids sids a m) (omega arith))
+
 -- ---- a matrix whose numbers are found by place
 module _ (number : ℕ → ℕ) (order : Bool) (iids sids : ℕ) where
-  pub all-good : (len worst : ℕ) → iids * sids ≡ len → ((k : ℕ) → k < len → number k ≤ worst) → worst < 4 → none ≡ firstOver iids sids (placed number order iids sids)
-  unfolding placed
-  all-good len worst e g h =
-      found-none iids sids (placed number order iids sids) sids (le-refl sids)
-      (λ m hm a ha. let p : matrixPlace order iids sids a m < iids * sids = place-below iids sids a m ha hm order in let q = g (matrixPlace order iids sids a m) (omega arith) in omega arith)
-
   module _ (m b stride start : ℕ) (hm : m < sids) (hb : 4 * b < iids) (es : stride ≡ cond order sids 1) (st : start ≡ matrixPlace order iids sids (4 * b) m) where
     -- animal 4 × b + k stands k strides after the start
     pub walk : (k : ℕ) → start + k * stride ≡ matrixPlace order iids sids (4 * b + k) m
@@ -254,10 +284,14 @@ module _ (number : ℕ → ℕ) (order : Bool) (iids sids : ℕ) where
       unfolding orZero
       matrix-byte v e = group-byte iids code b (λ j. number (start + j * stride)) same c0 c1 c2 c3 q v e matrix-codes
 
--- the number that was found at the place of an animal and a marker
-pub found-number : (number : ℕ → ℕ) (order : Bool) (iids sids a m at r : ℕ) → at ≡ matrixPlace order iids sids a m → r ≡ number at → r ≡ placed number order iids sids a m
-unfolding placed
-found-number number order iids sids a m at r e f = f ∙ ap number e
+-- the number of the value that was read at the place of an animal and a marker
+module _ (w : Width) (flag : Bool) (missing : w .Value) (order : Bool) (iids sids : ℕ) (val : List (w .Value)) (long : iids * sids ≡ length val) (a m at : ℕ) (ha : a < iids) (hm : m < sids) (e : at ≡ matrixPlace order iids sids a m) where
+  pub read-inside : at < length val
+  read-inside = let p : matrixPlace order iids sids a m < iids * sids = place-below iids sids a m ha hm order in omega arith
+
+  pub read-number : (d : w .Value) (r : ℕ) → r ≡ orFour (codeOf w flag missing (getD val at d)) → r ≡ orFour (valueCode w flag missing order iids sids val a m)
+  unfolding valueCode
+  read-number d r f = code-read w flag missing val at d r read-inside f ∙ ap (λ (k : ℕ). orFour (placeCode w flag missing val k)) e
 
 -- ---- what is known where the buffers are right
 pub record Passed (iids sids valLength outLength : ℕ) (a : Answer) : Type 0 where
@@ -282,15 +316,9 @@ passed iids sids valLength outLength a e t =
     record { is-done = e ∙ h; pass = sym h; product = eqb-true (iids * sids) valLength (d3 .0); out-long = eqb-true outLength (fileLength iids sids) (d4 .0); iids-fit = d0 .0; sids-fit = d1 .0; file-fits = leb-true (fileLength iids sids) (2 ^ 64 - 1) (d2 .0) }
 
 -- ---- the numbers of a matrix are those of its codes
-pub value-coded :
-    (w : Width) (flag : Bool) (missing : w .Value) (order : Bool) (iids sids : ℕ) (val : List (w .Value)) (a m c : ℕ)
-    → valueCode w flag missing order iids sids val a m ≡ some c → c < 4
-unfolding valueCode
-value-coded w flag missing order iids sids val a m c e = place-coded w flag missing val (matrixPlace order iids sids a m) c e
-
 pub float-same :
     (flag : Bool) (missing : Float) (order : Bool) (iids sids : ℕ) (val : List Float) (a m : ℕ) → a < iids → m < sids
-    → placed (byTests flag missing val) order iids sids a m ≡ orFour (valueCode float flag missing order iids sids val a m)
+    → placed (byTests float flag missing val) order iids sids a m ≡ orFour (valueCode float flag missing order iids sids val a m)
 unfolding placed valueCode
 float-same flag missing order iids sids val a m ha hm = refl
 

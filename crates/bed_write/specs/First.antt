@@ -25,3 +25,8 @@ pub record IsFirstBadCall (iids sids : ℕ) (code : ℕ → ℕ → Option ℕ) 
   pub marker-inside : m < sids
   pub first-animal : IsFirstBad iids (λ j. code j m) a
   pub lower-markers-good : (j k : ℕ) → j < iids → k < m → HasCode (code j k)
+
+-- the animal of a call that is found
+abbrev pub animalOf : Option (ℕ × ℕ) → Option ℕ
+animalOf (some (animal, marker)) = some animal
+animalOf none = none

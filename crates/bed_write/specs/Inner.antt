@@ -3,14 +3,13 @@ use mathlib.Core.Path.{_≡_}
 use mathlib.Core.Bool.{Bool, cond}
 use mathlib.Core.List.{List}
 use mathlib.Core.Option.{Option, some, none}
-use Prim.Native.Nat.{ℕ, _+_, _<_, _≤_}
+use Prim.Native.Nat.{ℕ, _+_, _<_}
 use lib.Dec.{ltb}
 use lib.IntN.{ℤ, pos, negsuc}
 use lib.ListN.{getD}
 use lib.Signed.{mag}
-use lib.Ieee.{Float}
 use Rattle.genotype.specs.Matrix.{matrixPlace}
-use Rattle.genotype.specs.Value.{i8, float, codeOf}
+use Rattle.genotype.specs.Value.{Width, i8, codeOf}
 use Rattle.bed_write.specs.Packing.{placeCode, firstOf}
 
 -- a code, and 4 where there is none
@@ -42,12 +41,6 @@ pub record Four (f : ℕ → ℕ) (c0 c1 c2 c3 : ℕ) : Type 0 where
   pub at-2 : c2 ≡ f 2
   pub at-3 : c3 ≡ f 3
 
--- r is the first of four that is no code, or 4
-pub record FirstOfFour (cs : List ℕ) (r : ℕ) : Type 0 where
-  pub within : r ≤ 4
-  pub before : (k : ℕ) → k < r → getD cs k 0 < 4
-  pub here : r < 4 → 3 < getD cs r 0
-
 -- a number that is no code, and this is found
 unfoldable pub ifOver : {A : Type 0} → ℕ → A → Option A
 ifOver number place = cond (ltb number 4) none (some place)
@@ -57,8 +50,8 @@ unfoldable pub firstOver : ℕ → ℕ → (ℕ → ℕ → ℕ) → Option (ℕ
 firstOver iids sids number = firstOf sids (λ m. firstOf iids (λ a. ifOver (number a m) (a, m)))
 
 -- the number of the value at a place of a list, by tests
-abbrev pub byTests : Bool → Float → List Float → ℕ → ℕ
-byTests flag missing vals k = orFour (placeCode float flag missing vals k)
+abbrev pub byTests : (w : Width) → Bool → w .Value → List (w .Value) → ℕ → ℕ
+byTests w flag missing vals k = orFour (placeCode w flag missing vals k)
 
 -- the number of animal a at marker m of a matrix, by that of each place
 unfoldable pub placed : (ℕ → ℕ) → Bool → ℕ → ℕ → ℕ → ℕ → ℕ

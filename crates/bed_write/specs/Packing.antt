@@ -1,12 +1,12 @@
 -- Packing one marker's values: their codes, the first bad one, and what `encode1` answers and leaves.
-use mathlib.Core.Bool.{Bool, cond}
-use mathlib.Core.List.{List, [], _∷_, _++_}
+use mathlib.Core.Bool.{Bool}
+use mathlib.Core.List.{List, [], _∷_}
 use mathlib.Core.Option.{Option, some, none}
-use Prim.Native.Nat.{ℕ, zero, suc, _/_}
+use Prim.Native.Nat.{ℕ, zero, suc}
 use lib.Dec.{eqb}
 use lib.IntN.{pos}
-use lib.ListN.{length, getD, take, drop}
-use Rattle.genotype.specs.Answer.{Answer, done, refused, check}
+use lib.ListN.{length, getD}
+use Rattle.genotype.specs.Answer.{Answer, done, refused, check, ifDone}
 use Rattle.genotype.specs.Block.{blockWidth}
 use Rattle.genotype.specs.Code.{packed}
 use Rattle.genotype.specs.Lists.{tabulate}
@@ -54,11 +54,6 @@ unfoldable pub encodeAnswer : ℕ → (ℕ → Option ℕ) → ℕ → Answer
 unfolding check checkAnimal
 encodeAnswer n code outLength = check (eqb outLength (blockWidth n)) 16 (checkAnimal (firstBadAnimal n code) (done []))
 
--- "at 7 the bytes before the refused group of four are new, the others old"
-unfoldable pub newBefore : Option ℕ → List ℕ → List ℕ → List ℕ
-newBefore none new old = new
-newBefore (some animal) new old = take (animal / 4) new ++ drop (animal / 4) old
-
--- the later packed buffer of `encode1`; at 16 it is unchanged
+-- the later packed buffer of `encode1`: "`encode1` shall leave the buffer unchanged at 7" (document 02), as every refusal does
 unfoldable pub encodeBuffer : ℕ → (ℕ → Option ℕ) → List ℕ → List ℕ
-encodeBuffer n code old = cond (eqb (length old) (blockWidth n)) (newBefore (firstBadAnimal n code) (packedCodes n code) old) old
+encodeBuffer n code old = ifDone (encodeAnswer n code (length old)) (packedCodes n code) old

@@ -1,15 +1,14 @@
 // Packing values into blocks, and writing a .bed file into lent bytes.
 ghost use mathlib.Core.Path.{_≡_};
-ghost use mathlib.Core.List.{[], _∷_};
 ghost use Prim.Native.Nat.{ℕ, _+_, _*_, _<_};
 ghost use mathlib.Core.Bool.{cond};
-ghost use lib.IntN.{pos};
+ghost use lib.IntN.{ℤ, pos};
 ghost use lib.Signed.{mag};
 ghost use lib.ListN.{length, getD};
 ghost use lib.Ieee.{Float};
 ghost use Rattle.bed_write.specs.Packing.{placeCode};
-ghost use Rattle.genotype.specs.Value.{float, codeOf};
-ghost use Rattle.bed_write.specs.Inner.{orFour, byteIndex, CodesOfBytes, byTable, byTests, inGroup, Four, FirstOfFour};
+ghost use Rattle.genotype.specs.Value.{i8, float, codeOf};
+ghost use Rattle.bed_write.specs.Inner.{orFour, byteIndex, CodesOfBytes, byTable, byTests, inGroup, Four};
 
 pub mod encode;
 pub mod write;
@@ -90,6 +89,15 @@ fn choose(test: bool, yes: usize, no: usize) -> usize
     k * yes + (1 - k) * no
 }
 
+// The same in bytes.
+fn choose_u8(test: bool, yes: u8, no: u8) -> u8
+    requires { ⌜ (yes < 5) × (no < 5) ⌝ }
+    ensures { λ r. ⌜ (r ≡ cond test yes no) × (r < 5) ⌝ }
+{
+    let k = test as u8;
+    k * yes + (1 - k) * no
+}
+
 // The code of a value, or 4, as wide as the value, so that several can be made at once. Only a NaN is not equal to itself.
 fn number_f64(value: f64, is_a1_counted: bool, missing: f64) -> usize
     ensures { λ r. ⌜ (r ≡ orFour (codeOf float «is_a1_counted» missing value)) × (r < 5) ⌝ }
@@ -106,6 +114,15 @@ fn code_f64(value: f64, is_a1_counted: bool, missing: f64) -> u8
     ensures { λ r. ⌜ r ≡ orFour (codeOf float «is_a1_counted» missing value) ⌝ }
 {
     narrow(number_f64(value, is_a1_counted, missing))
+}
+
+fn number_i8(value: i8, is_a1_counted: bool, missing: i8) -> u8
+    ensures { λ r. ⌜ r ≡ orFour (codeOf i8 «is_a1_counted» missing value) ⌝ }
+{
+    let absent = choose_u8(value == missing, 1, 4);
+    let two = choose_u8(value == 2, code_of_two(is_a1_counted), absent);
+    let one = choose_u8(value == 1, 2, two);
+    choose_u8(value == 0, code_of_zero(is_a1_counted), one)
 }
 
 // The code of place k of the group of values that stand `stride` apart from `start` on, of which `left` are there.
@@ -132,45 +149,6 @@ fn group_i8(val: &[i8], start: usize, stride: usize, left: usize, table: &[u8; 2
     Group { c0, c1, c2, c3 }
 }
 
-// The code of place k of the group of values that stand `stride` apart from `start` on, of which `left` are there.
-fn held_f64(
-    val: &[f64],
-    start: usize,
-    stride: usize,
-    left: usize,
-    k: usize,
-    is_a1_counted: bool,
-    missing: f64,
-) -> u8
-    requires { ⌜ (k < left → start + k * stride < length (now val)) ⌝ }
-    ensures { λ r. ⌜ r ≡ inGroup left (λ j. orFour (placeCode float «is_a1_counted» missing (now (val .entry)) (start + j * stride))) k ⌝ }
-{
-    if k < left {
-        let at = start + k * stride;
-        return code_f64(val[at], is_a1_counted, missing);
-    }
-    PAD
-}
-
-// The codes of a whole group.
-fn group_f64(
-    val: &[f64],
-    start: usize,
-    stride: usize,
-    left: usize,
-    is_a1_counted: bool,
-    missing: f64,
-) -> Group
-    requires { ⌜ ((k : ℕ) → k < left → k < 4 → start + k * stride < length (now val)) ⌝ }
-    ensures { λ r. ⌜ Four (inGroup left (λ j. orFour (placeCode float «is_a1_counted» missing (now (val .entry)) (start + j * stride)))) (r .c0) (r .c1) (r .c2) (r .c3) ⌝ }
-{
-    let c0 = held_f64(val, start, stride, left, 0, is_a1_counted, missing);
-    let c1 = held_f64(val, start, stride, left, 1, is_a1_counted, missing);
-    let c2 = held_f64(val, start, stride, left, 2, is_a1_counted, missing);
-    let c3 = held_f64(val, start, stride, left, 3, is_a1_counted, missing);
-    Group { c0, c1, c2, c3 }
-}
-
 // The code of a value that is known not to be bad: what is none of 0, 1, 2 is missing.
 fn good_code_f64(value: f64, is_a1_counted: bool) -> u8
     ensures { λ r. ⌜ ((missing : Float) → orFour (codeOf float «is_a1_counted» missing value) < 4 → r ≡ orFour (codeOf float «is_a1_counted» missing value)) ⌝ }
@@ -178,6 +156,14 @@ fn good_code_f64(value: f64, is_a1_counted: bool) -> u8
     let two = choose(value == 2.0, wide(code_of_two(is_a1_counted)), 1);
     let one = choose(value == 1.0, 2, two);
     narrow(choose(value == 0.0, wide(code_of_zero(is_a1_counted)), one))
+}
+
+fn good_code_i8(value: i8, is_a1_counted: bool) -> u8
+    ensures { λ r. ⌜ ((missing : ℤ) → orFour (codeOf i8 «is_a1_counted» missing value) < 4 → r ≡ orFour (codeOf i8 «is_a1_counted» missing value)) ⌝ }
+{
+    let two = choose_u8(value == 2, code_of_two(is_a1_counted), 1);
+    let one = choose_u8(value == 1, 2, two);
+    choose_u8(value == 0, code_of_zero(is_a1_counted), one)
 }
 
 // The code of place k of a group, and the codes of a whole group, of values that are known not to be bad.
@@ -190,7 +176,7 @@ fn held_good_f64(
     is_a1_counted: bool,
 ) -> u8
     requires { ⌜ (k < left → start + k * stride < length (now val)) ⌝ }
-    ensures { λ r. ⌜ ((missing : Float) → (k < left → byTests «is_a1_counted» missing (now (val .entry)) (start + k * stride) < 4) → r ≡ inGroup left (λ j. orFour (placeCode float «is_a1_counted» missing (now (val .entry)) (start + j * stride))) k) ⌝ }
+    ensures { λ r. ⌜ ((missing : Float) → (k < left → byTests float «is_a1_counted» missing (now (val .entry)) (start + k * stride) < 4) → r ≡ inGroup left (λ j. orFour (placeCode float «is_a1_counted» missing (now (val .entry)) (start + j * stride))) k) ⌝ }
 {
     if k < left {
         let at = start + k * stride;
@@ -207,7 +193,7 @@ fn group_good_f64(
     is_a1_counted: bool,
 ) -> Group
     requires { ⌜ ((k : ℕ) → k < left → k < 4 → start + k * stride < length (now val)) ⌝ }
-    ensures { λ r. ⌜ ((missing : Float) → ((k : ℕ) → k < left → k < 4 → byTests «is_a1_counted» missing (now (val .entry)) (start + k * stride) < 4) → Four (inGroup left (λ j. orFour (placeCode float «is_a1_counted» missing (now (val .entry)) (start + j * stride)))) (r .c0) (r .c1) (r .c2) (r .c3)) ⌝ }
+    ensures { λ r. ⌜ ((missing : Float) → ((k : ℕ) → k < left → k < 4 → byTests float «is_a1_counted» missing (now (val .entry)) (start + k * stride) < 4) → Four (inGroup left (λ j. orFour (placeCode float «is_a1_counted» missing (now (val .entry)) (start + j * stride)))) (r .c0) (r .c1) (r .c2) (r .c3)) ⌝ }
 {
     let c0 = held_good_f64(val, start, stride, left, 0, is_a1_counted);
     let c1 = held_good_f64(val, start, stride, left, 1, is_a1_counted);
@@ -216,23 +202,33 @@ fn group_good_f64(
     Group { c0, c1, c2, c3 }
 }
 
-// The first of the four that is bad, or 4.
-fn first_bad_of(g: Group) -> usize
-    ensures { λ r. ⌜ FirstOfFour (g .c0 ∷ g .c1 ∷ g .c2 ∷ g .c3 ∷ []) r ⌝ }
+fn held_good_i8(
+    val: &[i8],
+    start: usize,
+    stride: usize,
+    left: usize,
+    k: usize,
+    is_a1_counted: bool,
+) -> u8
+    requires { ⌜ (k < left → start + k * stride < length (now val)) ⌝ }
+    ensures { λ r. ⌜ ((missing : ℤ) → (k < left → byTests i8 «is_a1_counted» missing (now (val .entry)) (start + k * stride) < 4) → r ≡ inGroup left (λ j. orFour (placeCode i8 «is_a1_counted» missing (now (val .entry)) (start + j * stride))) k) ⌝ }
 {
-    if g.c0 > 3 {
-        return 0;
+    if k < left {
+        let at = start + k * stride;
+        return good_code_i8(val[at], is_a1_counted);
     }
-    if g.c1 > 3 {
-        return 1;
-    }
-    if g.c2 > 3 {
-        return 2;
-    }
-    if g.c3 > 3 {
-        return 3;
-    }
-    4
+    PAD
+}
+
+fn group_good_i8(val: &[i8], start: usize, stride: usize, left: usize, is_a1_counted: bool) -> Group
+    requires { ⌜ ((k : ℕ) → k < left → k < 4 → start + k * stride < length (now val)) ⌝ }
+    ensures { λ r. ⌜ ((missing : ℤ) → ((k : ℕ) → k < left → k < 4 → byTests i8 «is_a1_counted» missing (now (val .entry)) (start + k * stride) < 4) → Four (inGroup left (λ j. orFour (placeCode i8 «is_a1_counted» missing (now (val .entry)) (start + j * stride)))) (r .c0) (r .c1) (r .c2) (r .c3)) ⌝ }
+{
+    let c0 = held_good_i8(val, start, stride, left, 0, is_a1_counted);
+    let c1 = held_good_i8(val, start, stride, left, 1, is_a1_counted);
+    let c2 = held_good_i8(val, start, stride, left, 2, is_a1_counted);
+    let c3 = held_good_i8(val, start, stride, left, 3, is_a1_counted);
+    Group { c0, c1, c2, c3 }
 }
 
 // The byte of four codes, the first in the low bits.

@@ -1,28 +1,29 @@
--- A block that was filled, read back.
+-- A block that was filled, read back; and one that was not.
 use mathlib.Core.Path.{_≡_, refl, sym, ap, subst, _∙_}
 use mathlib.Core.Bool.{Bool, true}
 use mathlib.Core.List.{List, []}
 use mathlib.Core.Option.{Option, some, none}
 use Prim.Native.Nat.{ℕ, _≤_, _<_}
 use native.Mathlib.Omega.{arith}
-use borrow.Author.Tests.{eq-eqb, eqb-true}
+use borrow.Author.Tests.{eqb-true}
 use lib.Dec.{eqb}
+use lib.IntN.{ℤ}
 use lib.ListN.{length, getD, List·getD-eq-default}
-use Rattle.genotype.specs.Answer.{done, isDone, countLimit}
+use Rattle.genotype.specs.Answer.{done, refused, isDone, countLimit}
 use Rattle.genotype.specs.Block.{blockWidth}
 use Rattle.genotype.specs.Code.{itemCode}
 use Rattle.genotype.specs.Lists.{tabulate}
 use Rattle.genotype.specs.Value.{Width, sameOrNan, valueOf}
-use Rattle.genotype.proofs.AnswerLaws.{check-done, count-done, new-if-done}
+use Rattle.genotype.proofs.AnswerLaws.{check-done, count-done, new-if-done, old-if-not}
 use Rattle.genotype.proofs.CodeLaws.{Codes, packed-code}
 use Rattle.genotype.proofs.Tabulate.{length-tabulate, getD-tabulate}
 use Rattle.genotype.proofs.Tests.{by-lt}
 use Rattle.genotype.proofs.ValueLaws.{decode-encode}
-use Rattle.bed_write.specs.Packing.{placeCode, orZero, packedCodes, ifBad, firstBadAnimal, checkAnimal, newBefore, encodeBuffer}
+use Rattle.bed_write.specs.Packing.{placeCode, orZero, packedCodes, ifBad, firstBadAnimal, checkAnimal}
 use Rattle.bed_write.proofs.EncodeLaws.{block-length}
 use Rattle.bed_write.proofs.FirstLaws.{first-all, not-bad, zero-below, place-coded}
-use Rattle.block.specs.Blocks.{checkBytes, checkColumn, packAnswer, packBuffer, decodeAnswer, columnOf, decodeBuffer}
-use Rattle.block.proofs.CheckLaws.{column-passes, decode-done}
+use Rattle.block.specs.Blocks.{checkBytes, packAnswer, packBuffer, decodeAnswer, columnOf, decodeBuffer}
+use Rattle.block.proofs.CheckLaws.{decode-done}
 
 no-animal : (o : Option ℕ) → isDone (checkAnimal o (done [])) ≡ true → o ≡ none
 unfolding checkAnimal
@@ -50,12 +51,14 @@ packable iids valLength code byteCount d =
     }
 
 -- the bytes that packing leaves where it is done
-module _ (iids valLength : ℕ) (code : ℕ → Option ℕ) (old : List ℕ) (p : Packable iids valLength code (length old)) where
-  filled : packBuffer iids valLength code old ≡ packedCodes iids code
-  unfolding packBuffer encodeBuffer newBefore
-  filled =
-      new-if-done (checkColumn iids valLength (done [])) (encodeBuffer iids code old) old (ap isDone (column-passes iids valLength (done []) (p .fits) (p .values)))
-      ∙ simp (eq-eqb (length old) (blockWidth iids) (p .bytes), p .no-bad)
+filled : (iids valLength : ℕ) (code : ℕ → Option ℕ) (old : List ℕ) → isDone (packAnswer iids valLength code (length old)) ≡ true → packBuffer iids valLength code old ≡ packedCodes iids code
+unfolding packBuffer
+filled iids valLength code old d = new-if-done (packAnswer iids valLength code (length old)) (packedCodes iids code) old d
+
+-- "`encode1` shall leave the buffer unchanged at 7, and the callers that rely on it follow" (document 02): a refused packing leaves every byte of the block
+pub refused-unchanged : (iids valLength : ℕ) (code : ℕ → Option ℕ) (old : List ℕ) (number : ℕ) (carried : List ℤ) → packAnswer iids valLength code (length old) ≡ refused number carried → packBuffer iids valLength code old ≡ old
+unfolding packBuffer
+refused-unchanged iids valLength code old number carried e = old-if-not (packAnswer iids valLength code (length old)) (packedCodes iids code) old (ap isDone e)
 
 -- the code of each animal in a packed block
 module _ (iids : ℕ) (code : ℕ → Option ℕ) (small : (k : ℕ) → orZero (code k) < 4) where
@@ -85,7 +88,7 @@ module _ (w : Width) (flag : Bool) (missing : w .Value) (iids : ℕ) (val : List
   decoded : decodeAnswer (length new) iids (length out) ≡ done []
   decoded =
       decode-done (length new) iids (length out) (p .fits) l (blockWidth iids) refl
-      (ap length (filled iids (length val) code old p) ∙ block-length iids code)
+      (ap length (filled iids (length val) code old d) ∙ block-length iids code)
 
   small : (k : ℕ) → orZero (code k) < 4
   small k = zero-below (code k) (place-coded w flag missing val k)
@@ -95,7 +98,7 @@ module _ (w : Width) (flag : Bool) (missing : w .Value) (iids : ℕ) (val : List
   value-back k h =
       ap (λ x. getD x k missing) (new-if-done (decodeAnswer (length new) iids (length out)) (columnOf w flag missing new iids) out (ap isDone decoded))
       ∙ getD-tabulate iids (λ a. valueOf w flag missing (itemCode new a)) k missing h
-      ∙ ap (valueOf w flag missing) (ap (λ (bytes : List ℕ). itemCode bytes k) (filled iids (length val) code old p) ∙ code-back iids code small k h)
+      ∙ ap (valueOf w flag missing) (ap (λ (bytes : List ℕ). itemCode bytes k) (filled iids (length val) code old d) ∙ code-back iids code small k h)
 
   has-code : (k : ℕ) → k < iids → code k ≡ some (orZero (code k))
   unfolding firstBadAnimal

@@ -13,7 +13,7 @@ use Rattle.genotype.specs.Code.{itemCode}
 use Rattle.genotype.specs.Entry.{firstBad}
 use Rattle.genotype.specs.Lists.{tabulate}
 use Rattle.genotype.specs.Value.{Width, valueOf}
-use Rattle.bed_write.specs.Packing.{firstBadAnimal, checkAnimal, encodeBuffer}
+use Rattle.bed_write.specs.Packing.{packedCodes, firstBadAnimal, checkAnimal}
 
 -- 16: "packed buffer has the wrong length": a block has as many bytes as its animal count's block width
 unfoldable pub checkBytes : ℕ → ℕ → Answer → Answer
@@ -53,6 +53,6 @@ unfolding checkCount checkBytes check checkAnimal
 packAnswer iids valLength code byteCount =
     checkCount iids (checkBytes byteCount iids (check (eqb valLength iids) 15 (checkAnimal (firstBadAnimal iids code) (done []))))
 
--- the later bytes of packing: at 18 and 15 unchanged, else what `encode1` leaves
+-- the later bytes of packing, which every refusal leaves unchanged
 unfoldable pub packBuffer : ℕ → ℕ → (ℕ → Option ℕ) → List ℕ → List ℕ
-packBuffer iids valLength code old = ifDone (checkColumn iids valLength (done [])) (encodeBuffer iids code old) old
+packBuffer iids valLength code old = ifDone (packAnswer iids valLength code (length old)) (packedCodes iids code) old

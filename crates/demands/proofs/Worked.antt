@@ -17,7 +17,7 @@ use Rattle.bed_read.specs.Reading.{checkLists, readAnswer, readCode, codesRead,
 use Rattle.bed_file.proofs.FileLaws.{accepted}
 use Rattle.canonical.specs.Canonical.{fileOrder, canonicalFile, canonicalAnswer, canonicalBuffer}
 use Rattle.bed_write.specs.Writing.{joined, bedFile}
-use Rattle.bed_write.specs.Packing.{placeCode, orZero, packedCodes, orElse, firstOf, ifBad, firstBadAnimal, newBefore, encodeBuffer}
+use Rattle.bed_write.specs.Packing.{placeCode, orZero, packedCodes, orElse, firstOf, ifBad, firstBadAnimal, checkAnimal, encodeAnswer, encodeBuffer}
 use Rattle.demands.specs.Demand.{IsAccepted}
 use Rattle.demands.specs.SmallHerds.{SmallHerds}
 
@@ -29,7 +29,7 @@ pub small-herds : SmallHerds
 unfolding canonicalBuffer canonicalAnswer canonicalFile bedFile joined readBuffer readAnswer ifDone acceptAnswer isMode1 items blocks blockWidth checkLists firstBad isGood means
     valuesRead codesRead matrix tabulate readCode callCode codeIn block itemCode codeAt valueOf values fileOrder
     entryAnswer divAnswer indexBuffer indexAnswer checkIndex checkSlice checkEnd checkCount check listAnswer listBuffer indexList sliceList stepped backward distances numbersBelow sliceEnd fromCount
-    encodeBuffer placeCode codeOf sameInt sameOrNan orZero packedCodes packed packedByte orElse firstOf ifBad firstBadAnimal newBefore
+    encodeBuffer placeCode codeOf sameInt sameOrNan orZero packedCodes packed packedByte orElse firstOf ifBad firstBadAnimal encodeAnswer checkAnimal
 small-herds = record {
   read-F = λ w missing. refl;
   read-F2 = λ w missing. refl;

@@ -243,6 +243,15 @@ fn block_again(bytes: &mut [u8], values: &[f64]) {
     say_answer_bytes(pack_number(again), bytes);
 }
 
+fn block_kept(bytes: &mut [u8]) {
+    let column = [2i8, 0, 1, 0, 3];
+    let kept = block::encode_block_i8(bytes, 5, &column, true, -127);
+    say(
+        b"document 02, a bad value in the second group of four is 7, and the block keeps 27 00: saw answer",
+    );
+    say_answer_bytes(pack_number(kept), bytes);
+}
+
 fn block_lengths(bytes: &mut [u8], values: &[f64]) {
     let short = block::encode_block_f64(bytes, 6, values, false, 9.0);
     say(b"document 01, a value buffer that is not the count is 15, 5 values for 6 animals: saw");
@@ -261,6 +270,7 @@ fn one_block() {
     let mut values = [7.0; 5];
     block_f64(&bytes, &mut values);
     block_again(&mut bytes, &values);
+    block_kept(&mut bytes);
     block_lengths(&mut bytes, &values);
 }
 

@@ -221,6 +221,7 @@ pub fn by_hand() -> Vec<Case> {
             write("write_f64", vec![3], 1, 1, NAN, 3);
         }
     }
+    add("encode1_i8", vec![B(vec![0, 0, 0, 0, 3]), old8(2), N(0), N(0)]);
     add("encode1_i8", vec![B(vec![]), old8(0), N(0), N(0x81)]);
     add("encode1_i8", vec![B(vec![]), old8(1), N(0), N(0x81)]);
 

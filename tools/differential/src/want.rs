@@ -236,14 +236,20 @@ fn read<T: Copy + PartialEq + BedVal + ToBits>(c: &Case, folder: &Folder, mut va
     Want { named: before_6.then_some(BEFORE_6), ..original(said, vec![bits(&val)]) }
 }
 
+/// At 7 only the refusal is the original's: it has packed the groups of four before the bad value, and document 02 leaves every byte as it was.
 fn encode<T: BedVal>(c: &Case, input: Vec<T>, missing: T) -> Want {
     let mut out = c.u8s(1);
     let said = guarded(|| ask_encode(&input, &mut out, c.flag(2), missing));
-    let said = said.map(|s| match s.number {
-        7 => Said { first: first_bad(&input, c.flag(2), missing).expect("a bad value") as i64, ..s },
-        _ => s,
-    });
-    original(said, vec![u8_bits(&out)])
+    match said {
+        Some(s) if s.number == 7 => {
+            let s = Said { first: first_bad(&input, c.flag(2), missing).expect("a bad value") as i64, ..s };
+            match out == c.u8s(1) {
+                true => original(Some(s), c.before()),
+                false => document(did(said), outcome(s, c.before()), "7 of encode1: the bytes before the refused group are new"),
+            }
+        }
+        _ => original(said, vec![u8_bits(&out)]),
+    }
 }
 
 /// The place of the first value that the original packs alone only with a refusal: what 7 carries is added.

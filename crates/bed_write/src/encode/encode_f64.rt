@@ -2,10 +2,33 @@
 ghost use mathlib.Core.Path.{_≡_};
 ghost use lib.ListN.{length};
 ghost use Rattle.genotype.specs.Value.{float};
-ghost use Rattle.bed_write.specs.Packing.{placeCode, encodeAnswer, encodeBuffer};
+ghost use Rattle.bed_write.specs.Packing.{placeCode, packedCodes, firstBadAnimal, encodeAnswer, encodeBuffer};
+ghost use Rattle.genotype.specs.Block.{blockWidth};
+ghost use mathlib.Core.Option.{none};
 ghost use Rattle.bed_write.specs.Says.{encodeSays};
 use super::EncodeAnswer;
-use genotype::entries::IidIndex;
+use crate::write::BadCall;
+
+// Packs one marker's values, none of which is bad: the groups of four that are full, then the one that is not.
+pub(crate) fn pack_f64(column: &[f64], is_a1_counted: bool, missing: f64, out: &mut [u8])
+    requires { ⌜ (length (now out) ≡ blockWidth (length (now column))) × (firstBadAnimal (length (now column)) (placeCode float «is_a1_counted» missing (now column)) ≡ none) ⌝ }
+    ensures { λ _. ⌜ now (out .exit) ≡ packedCodes (length (now (column .entry))) (placeCode float «is_a1_counted» missing (now (column .entry))) ⌝ }
+{
+    let full = column.len() / 4;
+    let mut b = 0;
+    while b < full {
+        let start = 4 * b;
+        let g = crate::group_good_f64(column, start, 1, 4, is_a1_counted);
+        out[b] = crate::byte_of(g);
+        b += 1;
+    }
+    if b < out.len() {
+        let start = 4 * b;
+        let left = column.len() - start;
+        let g = crate::group_good_f64(column, start, 1, left, is_a1_counted);
+        out[b] = crate::byte_of(g);
+    }
+}
 
 // Packs one marker's values, four a byte.
 pub fn encode1_f64(
@@ -16,21 +39,21 @@ pub fn encode1_f64(
 ) -> EncodeAnswer
     ensures { λ r. ⌜ (encodeSays r ≡ encodeAnswer (length (now («in_vector» .entry))) (placeCode float «is_a1_counted» missing (now («in_vector» .entry))) (length (now («out_vector» .entry)))) × (now («out_vector» .exit) ≡ encodeBuffer (length (now («in_vector» .entry))) (placeCode float «is_a1_counted» missing (now («in_vector» .entry))) (now («out_vector» .entry))) ⌝ }
 {
-    if out_vector.len() != genotype::blocks::block_width(in_vector.len()) {
+    let iid_count = in_vector.len();
+    if out_vector.len() != genotype::blocks::block_width(iid_count) {
         return EncodeAnswer::EncodingLength;
     }
-    let mut b = 0;
-    while b < out_vector.len() {
-        let start = 4 * b;
-        let left = in_vector.len() - start;
-        let g = crate::group_f64(in_vector, start, 1, left, is_a1_counted, missing);
-        let bad = crate::first_bad_of(g);
-        if bad < 4 {
-            let animal = start + bad;
-            return EncodeAnswer::BadValue(IidIndex(animal));
-        }
-        out_vector[b] = crate::byte_of(g);
-        b += 1;
+    let bad = crate::write::write_f64::search_f64(
+        in_vector,
+        iid_count,
+        1,
+        false,
+        is_a1_counted,
+        missing,
+    );
+    if let BadCall::At(animal, _) = bad {
+        return EncodeAnswer::BadValue(animal);
     }
+    pack_f64(in_vector, is_a1_counted, missing, out_vector);
     EncodeAnswer::Done
 }

@@ -8,7 +8,7 @@ ghost use Rattle.genotype.specs.Block.{blockWidth};
 ghost use Rattle.genotype.specs.Code.{packedByte};
 ghost use Rattle.genotype.specs.Lists.{tabulate};
 ghost use Rattle.genotype.specs.Value.{float};
-ghost use Rattle.bed_write.specs.Writing.{valueCode, writeAnswer, bedFile, writeBuffer};
+ghost use Rattle.bed_write.specs.Writing.{valueCode, firstBadCall, writeAnswer, bedFile, writeBuffer};
 ghost use Rattle.bed_write.specs.Inner.{byTests, firstOver, placed};
 ghost use Rattle.bed_write.specs.Says.{writeSays, badSays};
 use super::BadCall;
@@ -18,7 +18,7 @@ use genotype::entries::SidIndex;
 
 // How many values are bad, along the grain.
 fn bad_count_f64(val: &[f64], is_a1_counted: bool, missing: f64) -> usize
-    ensures { λ r. ⌜ (r ≡ 0 → (k : ℕ) → k < length (now (val .entry)) → byTests «is_a1_counted» missing (now (val .entry)) k < 4) ⌝ }
+    ensures { λ r. ⌜ (r ≡ 0 → (k : ℕ) → k < length (now (val .entry)) → byTests float «is_a1_counted» missing (now (val .entry)) k < 4) ⌝ }
 {
     let mut bad = 0;
     let mut i = 0;
@@ -38,7 +38,7 @@ fn first_bad_f64(
     missing: f64,
 ) -> BadCall
     requires { ⌜ «iid_count» * «sid_count» ≡ length (now val) ⌝ }
-    ensures { λ r. ⌜ badSays r ≡ firstOver «iid_count» «sid_count» (placed (byTests «is_a1_counted» missing (now (val .entry))) «animal_order» «iid_count» «sid_count») ⌝ }
+    ensures { λ r. ⌜ badSays r ≡ firstBadCall «iid_count» «sid_count» (valueCode float «is_a1_counted» missing «animal_order» «iid_count» «sid_count» (now (val .entry))) ⌝ }
 {
     let mut marker = 0;
     let found = 'markers: loop {
@@ -65,7 +65,7 @@ fn first_bad_f64(
 }
 
 // The same, found at once where no value is bad.
-fn search_f64(
+pub(crate) fn search_f64(
     val: &[f64],
     iid_count: usize,
     sid_count: usize,
@@ -74,7 +74,7 @@ fn search_f64(
     missing: f64,
 ) -> BadCall
     requires { ⌜ «iid_count» * «sid_count» ≡ length (now val) ⌝ }
-    ensures { λ r. ⌜ (badSays r ≡ firstOver «iid_count» «sid_count» (placed (byTests «is_a1_counted» missing (now (val .entry))) «animal_order» «iid_count» «sid_count»)) ⌝ }
+    ensures { λ r. ⌜ badSays r ≡ firstBadCall «iid_count» «sid_count» (valueCode float «is_a1_counted» missing «animal_order» «iid_count» «sid_count» (now (val .entry))) ⌝ }
 {
     if bad_count_f64(val, is_a1_counted, missing) == 0 {
         return BadCall::Nothing;
@@ -101,8 +101,8 @@ fn byte_at_f64(
     is_a1_counted: bool,
     missing: f64,
 ) -> u8
-    requires { ⌜ («iid_count» * «sid_count» ≡ length (now val)) × (stride ≡ cond «animal_order» «sid_count» 1) × (m < «sid_count») × (4 * b < «iid_count») × (firstOver «iid_count» «sid_count» (placed (byTests «is_a1_counted» missing (now val)) «animal_order» «iid_count» «sid_count») ≡ none) ⌝ }
-    ensures { λ r. ⌜ r ≡ packedByte (tabulate «iid_count» (λ a. placed (byTests «is_a1_counted» missing (now (val .entry))) «animal_order» «iid_count» «sid_count» a m)) b ⌝ }
+    requires { ⌜ («iid_count» * «sid_count» ≡ length (now val)) × (stride ≡ cond «animal_order» «sid_count» 1) × (m < «sid_count») × (4 * b < «iid_count») × (firstOver «iid_count» «sid_count» (placed (byTests float «is_a1_counted» missing (now val)) «animal_order» «iid_count» «sid_count») ≡ none) ⌝ }
+    ensures { λ r. ⌜ r ≡ packedByte (tabulate «iid_count» (λ a. placed (byTests float «is_a1_counted» missing (now (val .entry))) «animal_order» «iid_count» «sid_count» a m)) b ⌝ }
 {
     let first = 4 * b;
     let left = iid_count - first;
@@ -128,8 +128,8 @@ fn write_file_f64(
     missing: f64,
     out: &mut [u8],
 )
-    requires { ⌜ («iid_count» * «sid_count» ≡ length (now val)) × (width ≡ blockWidth «iid_count») × (length (now out) ≡ 3 + width * «sid_count») × (firstOver «iid_count» «sid_count» (placed (byTests «is_a1_counted» missing (now val)) «animal_order» «iid_count» «sid_count») ≡ none) ⌝ }
-    ensures { λ _. ⌜ now (out .exit) ≡ bedFile «iid_count» «sid_count» (placed (byTests «is_a1_counted» missing (now (val .entry))) «animal_order» «iid_count» «sid_count») ⌝ }
+    requires { ⌜ («iid_count» * «sid_count» ≡ length (now val)) × (width ≡ blockWidth «iid_count») × (length (now out) ≡ 3 + width * «sid_count») × (firstOver «iid_count» «sid_count» (placed (byTests float «is_a1_counted» missing (now val)) «animal_order» «iid_count» «sid_count») ≡ none) ⌝ }
+    ensures { λ _. ⌜ now (out .exit) ≡ bedFile «iid_count» «sid_count» (placed (byTests float «is_a1_counted» missing (now (val .entry))) «animal_order» «iid_count» «sid_count») ⌝ }
 {
     out[0] = 0x6C;
     out[1] = 0x1B;

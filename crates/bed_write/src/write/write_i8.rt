@@ -10,8 +10,8 @@ ghost use Rattle.genotype.specs.Block.{blockWidth};
 ghost use Rattle.genotype.specs.Code.{packedByte};
 ghost use Rattle.genotype.specs.Lists.{tabulate};
 ghost use Rattle.genotype.specs.Value.{i8};
-ghost use Rattle.bed_write.specs.Writing.{valueCode, writeAnswer, bedFile, writeBuffer};
-ghost use Rattle.bed_write.specs.Inner.{byTable, firstOver, placed};
+ghost use Rattle.bed_write.specs.Writing.{valueCode, firstBadCall, writeAnswer, bedFile, writeBuffer};
+ghost use Rattle.bed_write.specs.Inner.{byTests, byTable, firstOver, placed};
 ghost use Rattle.bed_write.specs.Says.{writeSays, badSays};
 use super::BadCall;
 use super::WriteAnswer;
@@ -19,13 +19,13 @@ use genotype::entries::IidIndex;
 use genotype::entries::SidIndex;
 
 // The largest number of all values, along the grain: below 4 if none is bad.
-fn worst_i8(val: &[i8], table: &[u8; 256]) -> u8
-    ensures { λ r. ⌜ ((k : ℕ) → k < length (now (val .entry)) → ((byTable (now (table .entry)) (now (val .entry)) k ≤ r) × (mag (getD (now (val .entry)) k (pos 0)) < 128))) ⌝ }
+fn worst_i8(val: &[i8], is_a1_counted: bool, missing: i8) -> u8
+    ensures { λ r. ⌜ ((k : ℕ) → k < length (now (val .entry)) → ((byTests i8 «is_a1_counted» missing (now (val .entry)) k ≤ r) × (mag (getD (now (val .entry)) k (pos 0)) < 128))) ⌝ }
 {
     let mut worst = 0;
     let mut i = 0;
     while i < val.len() {
-        worst = super::worse(worst, crate::code_i8(val[i], table));
+        worst = super::worse(worst, crate::number_i8(val[i], is_a1_counted, missing));
         i += 1;
     }
     worst
@@ -36,10 +36,11 @@ fn first_bad_i8(
     iid_count: usize,
     sid_count: usize,
     animal_order: bool,
-    table: &[u8; 256],
+    is_a1_counted: bool,
+    missing: i8,
 ) -> BadCall
     requires { ⌜ «iid_count» * «sid_count» ≡ length (now val) ⌝ }
-    ensures { λ r. ⌜ badSays r ≡ firstOver «iid_count» «sid_count» (placed (byTable (now (table .entry)) (now (val .entry))) «animal_order» «iid_count» «sid_count») ⌝ }
+    ensures { λ r. ⌜ badSays r ≡ firstBadCall «iid_count» «sid_count» (valueCode i8 «is_a1_counted» missing «animal_order» «iid_count» «sid_count» (now (val .entry))) ⌝ }
 {
     let mut marker = 0;
     let found = 'markers: loop {
@@ -55,7 +56,7 @@ fn first_bad_i8(
                 IidIndex(animal),
                 SidIndex(marker),
             );
-            if crate::code_i8(val[at], table) > 3 {
+            if crate::number_i8(val[at], is_a1_counted, missing) > 3 {
                 break 'markers BadCall::At(IidIndex(animal), SidIndex(marker));
             }
             animal += 1;
@@ -66,20 +67,28 @@ fn first_bad_i8(
 }
 
 // The same, found at once where no value is bad.
-fn search_i8(
+pub(crate) fn search_i8(
     val: &[i8],
     iid_count: usize,
     sid_count: usize,
     animal_order: bool,
-    table: &[u8; 256],
+    is_a1_counted: bool,
+    missing: i8,
 ) -> BadCall
     requires { ⌜ «iid_count» * «sid_count» ≡ length (now val) ⌝ }
-    ensures { λ r. ⌜ (badSays r ≡ firstOver «iid_count» «sid_count» (placed (byTable (now (table .entry)) (now (val .entry))) «animal_order» «iid_count» «sid_count»)) × ((k : ℕ) → k < length (now (val .entry)) → mag (getD (now (val .entry)) k (pos 0)) < 128) ⌝ }
+    ensures { λ r. ⌜ (badSays r ≡ firstBadCall «iid_count» «sid_count» (valueCode i8 «is_a1_counted» missing «animal_order» «iid_count» «sid_count» (now (val .entry)))) × ((k : ℕ) → k < length (now (val .entry)) → mag (getD (now (val .entry)) k (pos 0)) < 128) ⌝ }
 {
-    if worst_i8(val, table) < 4 {
+    if worst_i8(val, is_a1_counted, missing) < 4 {
         return BadCall::Nothing;
     }
-    first_bad_i8(val, iid_count, sid_count, animal_order, table)
+    first_bad_i8(
+        val,
+        iid_count,
+        sid_count,
+        animal_order,
+        is_a1_counted,
+        missing,
+    )
 }
 
 // Byte b of the packed block of marker m, of a matrix without bad values.
@@ -160,11 +169,18 @@ pub fn write_val_i8(
 {
     let checked = super::check_write(iid_count, sid_count, val.len(), out.len());
     if super::is_done(checked) {
-        let table = crate::code_table(is_a1_counted, missing);
-        let bad = search_i8(val, iid_count, sid_count, animal_order, &table);
+        let bad = search_i8(
+            val,
+            iid_count,
+            sid_count,
+            animal_order,
+            is_a1_counted,
+            missing,
+        );
         if let BadCall::At(animal, marker) = bad {
             return WriteAnswer::BadValue(animal, marker);
         }
+        let table = crate::code_table(is_a1_counted, missing);
         let width = genotype::blocks::block_width(iid_count);
         write_file_i8(val, iid_count, sid_count, animal_order, width, &table, out);
     }

@@ -42,7 +42,7 @@ returns-4 c =
     let s = c .before .before .before .before .before .before .before .before .before .before .before in
     pack-encoded (s .args .iid-count) (length (s .args .in-vector .now)) (placeCode i8 (s .args .is-a1-counted) (s .args .missing) (s .args .in-vector .now)) (s .args .bytes .now)
     (c .before .before .before .before .before .before .before .before .before .if1 .left) _ (c .before .before .before .before .before .before .before .before .block-width .ensures) (c .before .before .before .before .before .before .before .if2 .left) (c .before .before .before .before .before .before .if3 .left) _ _
-    (held-answer (s .args .missing) (s .fits .missing) _ (s .args .is-a1-counted) (s .args .in-vector .now) _ (s .args .bytes .now) (sym (ap encodeSays (c .enum-told .given .1)) ∙ c .before .before .before .before .encode1-i8 .ensures .0, c .before .before .before .before .encode1-i8 .ensures .1))
+    (held-answer (s .args .missing) (s .fits .missing) (s .args .is-a1-counted) (s .args .in-vector .now) (s .args .bytes .now) (sym (ap encodeSays (c .enum-told .given .1)) ∙ c .before .before .before .before .encode1-i8 .ensures .0, c .before .before .before .before .encode1-i8 .ensures .1))
 
 same-length-2 : tie.Need-same-length-2
 same-length-2 c = search needs
@@ -52,7 +52,7 @@ returns-5 c =
     let s = c .before .before .before .before .before .before .before .before .before .before .before in
     pack-encoded (s .args .iid-count) (length (s .args .in-vector .now)) (placeCode i8 (s .args .is-a1-counted) (s .args .missing) (s .args .in-vector .now)) (s .args .bytes .now)
     (c .before .before .before .before .before .before .before .before .before .if1 .left) _ (c .before .before .before .before .before .before .before .before .block-width .ensures) (c .before .before .before .before .before .before .before .if2 .left) (c .before .before .before .before .before .before .if3 .left) _ _
-    (held-answer (s .args .missing) (s .fits .missing) _ (s .args .is-a1-counted) (s .args .in-vector .now) _ (s .args .bytes .now) (sym (ap encodeSays (c .enum-told2 .given .1)) ∙ c .before .before .before .before .encode1-i8 .ensures .0, c .before .before .before .before .encode1-i8 .ensures .1))
+    (held-answer (s .args .missing) (s .fits .missing) (s .args .is-a1-counted) (s .args .in-vector .now) (s .args .bytes .now) (sym (ap encodeSays (c .enum-told2 .given .1)) ∙ c .before .before .before .before .encode1-i8 .ensures .0, c .before .before .before .before .encode1-i8 .ensures .1))
 
 same-length-3 : tie.Need-same-length-3
 same-length-3 c = search needs
@@ -62,7 +62,7 @@ returns-6 c =
     let s = c .before .before .before .before .before .before .before .before .before .before .before .before in
     pack-encoded (s .args .iid-count) (length (s .args .in-vector .now)) (placeCode i8 (s .args .is-a1-counted) (s .args .missing) (s .args .in-vector .now)) (s .args .bytes .now)
     (c .before .before .before .before .before .before .before .before .before .before .if1 .left) _ (c .before .before .before .before .before .before .before .before .before .block-width .ensures) (c .before .before .before .before .before .before .before .before .if2 .left) (c .before .before .before .before .before .before .before .if3 .left) _ _
-    (held-answer (s .args .missing) (s .fits .missing) _ (s .args .is-a1-counted) (s .args .in-vector .now) _ (s .args .bytes .now) (sym (ap encodeSays (c .before .animal .given .1)) ∙ c .before .before .before .before .before .encode1-i8 .ensures .0, c .before .before .before .before .before .encode1-i8 .ensures .1))
+    (held-answer (s .args .missing) (s .fits .missing) (s .args .is-a1-counted) (s .args .in-vector .now) (s .args .bytes .now) (sym (ap encodeSays (c .before .animal .given .1)) ∙ c .before .before .before .before .before .encode1-i8 .ensures .0, c .before .before .before .before .before .encode1-i8 .ensures .1))
 
 pub pack1-i8-spec : {M : Type 1} → statement M
 pack1-i8-spec =

@@ -1,101 +1,66 @@
--- `encode1_i8`: each turn makes one byte new.
-use mathlib.Core.Path.{sym, _∙_}
-use Prim.Native.Nat.{_+_, _-_, _*_}
-use native.Mathlib.Omega.{arith}
-use borrow.Author.Needs.{needs}
+-- `encode1_i8`: the length, then the first bad value, then the bytes.
+use mathlib.Core.Path.{sym, ap, _∙_}
+use mathlib.Core.Bool.{false}
 use lib.ListN.{length}
 use Rattle.genotype.specs.Value.{i8}
 use Rattle.bed_write.specs.Packing.{placeCode}
-use Rattle.bed_write.proofs.FirstLaws.{place-coded}
-use Rattle.bed_write.proofs.EncodeLaws.{Encoded, encoded-none, encoded-length, start-below, turn-codes, turn-again, turn-bad, encode-done, encode-length}
-use mir.Syntax.{w8}
-use mir.Val.{ofZ, toZ}
-use Rattle.bed_write.specs.Inner.{byTable}
-use Rattle.bed_write.proofs.ByteLaws.{same-place, held-answer}
+use Rattle.bed_write.specs.First.{animalOf}
+use Rattle.bed_write.specs.Says.{badSays}
+use Rattle.bed_write.proofs.ByteLaws.{held, held-answer}
+use Rattle.bed_write.proofs.EncodeLaws.{encode-length, encode-bad, encode-done}
+use Rattle.bed_write.proofs.Theorems.{one-marker-first-bad}
+use borrow.Author.Needs.{needs}
 use Rattle.bed_write.proofs.encode.encode_i8.encode1_i8.Statement.{statement}
 use Rattle.bed_write.proofs.encode.encode_i8.encode1_i8.Tie as tie
 
-abbrev Inv-loop : tie.InvT-loop
-Inv-loop in-vector out-vector₀ is-a1-counted missing table b₀ out-vector b = Encoded (length in-vector) (placeCode i8 is-a1-counted (toZ w8 missing) in-vector) out-vector₀ out-vector b
-
-abbrev μ-loop : tie.MeasureT-loop
-μ-loop in-vector out-vector₀ is-a1-counted missing table b₀ out-vector b = length out-vector₀ - b
-
-block-width-requires : tie.Need-block-width-requires Inv-loop μ-loop
+block-width-requires : tie.Need-block-width-requires
 block-width-requires c κs = search needs
 
-returns : tie.Need-returns Inv-loop μ-loop
+returns : tie.Need-returns
 returns c = encode-length _ _ _ (λ e. c .if1 .taken (e ∙ sym (c .before .block-width .ensures)))
 
-code-table-requires : tie.Need-code-table-requires Inv-loop μ-loop
-code-table-requires c κs = search needs
+search-i8-requires : tie.Need-search-i8-requires
+search-i8-requires c κs = search needs
 
-loop-holds : tie.Need-loop-holds Inv-loop μ-loop
-loop-holds c = encoded-none (length (c .before .before .before .before .args .in-vector .now)) (placeCode i8 (c .before .before .before .before .args .is-a1-counted) (toZ w8 (ofZ w8 (c .before .before .before .before .args .missing))) (c .before .before .before .before .args .in-vector .now)) (c .before .before .before .before .args .out-vector .now) (c .before .if1 .left ∙ c .before .before .block-width .ensures)
+enum-known-bad : tie.Need-enum-known-bad
+enum-known-bad c = search needs
 
-mul-start : tie.Need-mul-start Inv-loop μ-loop
-mul-start c = omega (arith, start-below (length (c .before .before .before .before .before .before .args .in-vector .now)) (placeCode i8 (c .before .before .before .before .before .before .args .is-a1-counted) (toZ w8 (ofZ w8 (c .before .before .before .before .before .before .args .missing))) (c .before .before .before .before .before .before .args .in-vector .now)) (c .before .before .before .before .before .before .args .out-vector .now) _ _ (c .before .loop .inv) (c .loop-test .taken))
+returns-2 : tie.Need-returns-2
+returns-2 c =
+    let s = c .before .before .before .before .before .before .before in
+    let a = s .args in
+    held-answer (a .missing) (s .fits .missing) (a .is-a1-counted) (a .in-vector .now) (a .out-vector .now)
+    (encode-bad (length (a .in-vector .now)) (placeCode i8 (a .is-a1-counted) (held (a .missing)) (a .in-vector .now)) (a .out-vector .now) (c .before .before .before .before .if1 .left ∙ c .before .before .before .before .before .block-width .ensures) _ (ap animalOf (sym (ap badSays (c .before .bad .given .1)) ∙ c .before .before .before .search-i8 .ensures .0) ∙ one-marker-first-bad i8 (a .is-a1-counted) (held (a .missing)) false _ (a .in-vector .now)))
 
-sub-left : tie.Need-sub-left Inv-loop μ-loop
-sub-left c = let h = start-below (length (c .before .before .before .before .before .before .args .in-vector .now)) (placeCode i8 (c .before .before .before .before .before .before .args .is-a1-counted) (toZ w8 (ofZ w8 (c .before .before .before .before .before .before .args .missing))) (c .before .before .before .before .before .before .args .in-vector .now)) (c .before .before .before .before .before .before .args .out-vector .now) _ _ (c .before .loop .inv) (c .loop-test .taken) in omega arith
+enum-told : tie.Need-enum-told
+enum-told c = search needs
 
-group-i8-requires : tie.Need-group-i8-requires Inv-loop μ-loop
-group-i8-requires c κs = λ k h l. let g = start-below (length (c .before .before .before .before .before .before .before .args .in-vector .now)) (placeCode i8 (c .before .before .before .before .before .before .before .args .is-a1-counted) (toZ w8 (ofZ w8 (c .before .before .before .before .before .before .before .args .missing))) (c .before .before .before .before .before .before .before .args .in-vector .now)) (c .before .before .before .before .before .before .before .args .out-vector .now) _ _ (c .before .before .loop .inv) (c .before .loop-test .taken) in omega arith
+pack-i8-requires : tie.Need-pack-i8-requires
+pack-i8-requires c κs =
+    let s = c .before .before .before .before .before .before .before in
+    let a = s .args in
+    (c .before .before .before .before .if1 .left ∙ c .before .before .before .before .before .block-width .ensures, sym (ap animalOf (sym (ap badSays (c .before .enum-told .given .1)) ∙ c .before .before .before .search-i8 .ensures .0) ∙ one-marker-first-bad i8 (a .is-a1-counted) (held (a .missing)) false _ (a .in-vector .now)))
 
-first-bad-of-requires : tie.Need-first-bad-of-requires Inv-loop μ-loop
-first-bad-of-requires c κs = search needs
+same-length : tie.Need-same-length
+same-length c = search needs
 
-add-animal : tie.Need-add-animal Inv-loop μ-loop
-add-animal c = omega (arith, start-below (length (c .before .before .before .before .before .before .before .before .before .before .args .in-vector .now)) (placeCode i8 (c .before .before .before .before .before .before .before .before .before .before .args .is-a1-counted) (toZ w8 (ofZ w8 (c .before .before .before .before .before .before .before .before .before .before .args .missing))) (c .before .before .before .before .before .before .before .before .before .before .args .in-vector .now)) (c .before .before .before .before .before .before .before .before .before .before .args .out-vector .now) _ _ (c .before .before .before .before .before .loop .inv) (c .before .before .before .before .loop-test .taken))
-
-same-length : tie.Need-same-length Inv-loop μ-loop
-same-length c = encoded-length (length (c .before .before .before .before .before .before .before .before .before .before .args .in-vector .now)) (placeCode i8 (c .before .before .before .before .before .before .before .before .before .before .args .is-a1-counted) (toZ w8 (ofZ w8 (c .before .before .before .before .before .before .before .before .before .before .args .missing))) (c .before .before .before .before .before .before .before .before .before .before .args .in-vector .now)) (c .before .before .before .before .before .before .before .before .before .before .args .out-vector .now) _ _ (c .before .before .before .before .before .loop .inv)
-
-returns-2 : tie.Need-returns-2 Inv-loop μ-loop
-returns-2 c = held-answer (c .before .before .before .before .before .before .before .before .before .before .args .missing) (c .before .before .before .before .before .before .before .before .before .before .fits .missing) _ (c .before .before .before .before .before .before .before .before .before .before .args .is-a1-counted) (c .before .before .before .before .before .before .before .before .before .before .args .in-vector .now) _ (c .before .before .before .before .before .before .before .before .before .before .args .out-vector .now) (turn-bad (length (c .before .before .before .before .before .before .before .before .before .before .args .in-vector .now)) (placeCode i8 (c .before .before .before .before .before .before .before .before .before .before .args .is-a1-counted) (toZ w8 (ofZ w8 (c .before .before .before .before .before .before .before .before .before .before .args .missing))) (c .before .before .before .before .before .before .before .before .before .before .args .in-vector .now)) (c .before .before .before .before .before .before .before .before .before .before .args .out-vector .now) _ _ (c .before .before .before .before .before .loop .inv) (c .before .before .before .before .loop-test .taken) (λ j. byTable (c .before .before .before .before .before .before .code-table .result) (c .before .before .before .before .before .before .before .before .before .before .args .in-vector .now) (4 * c .before .before .before .before .before .loop .b + j * 1)) (λ k g h. same-place _ _ _ (c .before .before .before .before .before .before .before .before .before .before .args .in-vector .now) (4 * c .before .before .before .before .before .loop .b) k (c .before .before .before .before .before .before .code-table .ensures) (omega arith) (c .before .before .group-i8 .ensures .1 k h g)) _ _ _ _ (c .before .before .group-i8 .ensures .0) _ (c .before .first-bad-of .ensures) (place-coded _ _ _ _) (c .if2 .taken))
-
-byte-of-requires : tie.Need-byte-of-requires Inv-loop μ-loop
-byte-of-requires c κs = turn-codes (length (c .before .before .before .before .before .before .before .before .before .before .args .in-vector .now)) (placeCode i8 (c .before .before .before .before .before .before .before .before .before .before .args .is-a1-counted) (toZ w8 (ofZ w8 (c .before .before .before .before .before .before .before .before .before .before .args .missing))) (c .before .before .before .before .before .before .before .before .before .before .args .in-vector .now)) (c .before .before .before .before .before .before .before .before .before .before .args .out-vector .now) _ _ (c .before .before .before .before .before .loop .inv) (c .before .before .before .before .loop-test .taken) (λ j. byTable (c .before .before .before .before .before .before .code-table .result) (c .before .before .before .before .before .before .before .before .before .before .args .in-vector .now) (4 * c .before .before .before .before .before .loop .b + j * 1)) (λ k g h. same-place _ _ _ (c .before .before .before .before .before .before .before .before .before .before .args .in-vector .now) (4 * c .before .before .before .before .before .loop .b) k (c .before .before .before .before .before .before .code-table .ensures) (omega arith) (c .before .before .group-i8 .ensures .1 k h g)) _ _ _ _ (c .before .before .group-i8 .ensures .0) _ (c .before .first-bad-of .ensures) (c .if2 .left)
-
-slice-write-out-vector : tie.Need-slice-write-out-vector Inv-loop μ-loop
-slice-write-out-vector c = c .before .before .before .before .before .loop-test .taken
-
-add-b : tie.Need-add-b Inv-loop μ-loop
-add-b c = let h = c .before .before .before .before .before .loop-test .taken in omega arith
-
-loop-less : tie.Need-loop-less Inv-loop μ-loop
-loop-less c = let h = c .before .before .before .before .before .loop-test .taken in let l = encoded-length (length (c .before .before .before .before .before .before .before .before .before .before .before .args .in-vector .now)) (placeCode i8 (c .before .before .before .before .before .before .before .before .before .before .before .args .is-a1-counted) (toZ w8 (ofZ w8 (c .before .before .before .before .before .before .before .before .before .before .before .args .missing))) (c .before .before .before .before .before .before .before .before .before .before .before .args .in-vector .now)) (c .before .before .before .before .before .before .before .before .before .before .before .args .out-vector .now) _ _ (c .before .before .before .before .before .before .loop .inv) in omega arith
-
-loop-again : tie.Need-loop-again Inv-loop μ-loop
-loop-again c = turn-again (length (c .before .before .before .before .before .before .before .before .before .before .before .args .in-vector .now)) (placeCode i8 (c .before .before .before .before .before .before .before .before .before .before .before .args .is-a1-counted) (toZ w8 (ofZ w8 (c .before .before .before .before .before .before .before .before .before .before .before .args .missing))) (c .before .before .before .before .before .before .before .before .before .before .before .args .in-vector .now)) (c .before .before .before .before .before .before .before .before .before .before .before .args .out-vector .now) _ _ (c .before .before .before .before .before .before .loop .inv) (c .before .before .before .before .before .loop-test .taken) (λ j. byTable (c .before .before .before .before .before .before .before .code-table .result) (c .before .before .before .before .before .before .before .before .before .before .before .args .in-vector .now) (4 * c .before .before .before .before .before .before .loop .b + j * 1)) (λ k g h. same-place _ _ _ (c .before .before .before .before .before .before .before .before .before .before .before .args .in-vector .now) (4 * c .before .before .before .before .before .before .loop .b) k (c .before .before .before .before .before .before .before .code-table .ensures) (omega arith) (c .before .before .before .group-i8 .ensures .1 k h g)) _ _ _ _ (c .before .before .before .group-i8 .ensures .0) _ (c .before .before .first-bad-of .ensures) (c .before .if2 .left) _ (c .byte-of .ensures)
-
-same-length-2 : tie.Need-same-length-2 Inv-loop μ-loop
-same-length-2 c = encoded-length (length (c .before .before .before .before .before .before .args .in-vector .now)) (placeCode i8 (c .before .before .before .before .before .before .args .is-a1-counted) (toZ w8 (ofZ w8 (c .before .before .before .before .before .before .args .missing))) (c .before .before .before .before .before .before .args .in-vector .now)) (c .before .before .before .before .before .before .args .out-vector .now) _ _ (c .before .loop .inv)
-
-returns-3 : tie.Need-returns-3 Inv-loop μ-loop
-returns-3 c = held-answer (c .before .before .before .before .before .before .args .missing) (c .before .before .before .before .before .before .fits .missing) _ (c .before .before .before .before .before .before .args .is-a1-counted) (c .before .before .before .before .before .before .args .in-vector .now) _ (c .before .before .before .before .before .before .args .out-vector .now) (encode-done (length (c .before .before .before .before .before .before .args .in-vector .now)) (placeCode i8 (c .before .before .before .before .before .before .args .is-a1-counted) (toZ w8 (ofZ w8 (c .before .before .before .before .before .before .args .missing))) (c .before .before .before .before .before .before .args .in-vector .now)) (c .before .before .before .before .before .before .args .out-vector .now) _ _ (c .before .loop .inv) (let h = c .loop-test .left in let l = encoded-length (length (c .before .before .before .before .before .before .args .in-vector .now)) (placeCode i8 (c .before .before .before .before .before .before .args .is-a1-counted) (toZ w8 (ofZ w8 (c .before .before .before .before .before .before .args .missing))) (c .before .before .before .before .before .before .args .in-vector .now)) (c .before .before .before .before .before .before .args .out-vector .now) _ _ (c .before .loop .inv) in let m = c .before .loop .inv .long in omega arith))
+returns-3 : tie.Need-returns-3
+returns-3 c =
+    let s = c .before .before .before .before .before .before .before .before .before .before in
+    let a = s .args in
+    held-answer (a .missing) (s .fits .missing) (a .is-a1-counted) (a .in-vector .now) (a .out-vector .now)
+    (encode-done (length (a .in-vector .now)) (placeCode i8 (a .is-a1-counted) (held (a .missing)) (a .in-vector .now)) (a .out-vector .now) (c .before .before .before .before .before .before .before .if1 .left ∙ c .before .before .before .before .before .before .before .before .block-width .ensures) (ap animalOf (sym (ap badSays (c .before .before .before .before .enum-told .given .1)) ∙ c .before .before .before .before .before .before .search-i8 .ensures .0) ∙ one-marker-first-bad i8 (a .is-a1-counted) (held (a .missing)) false _ (a .in-vector .now)) _ (c .before .before .pack-i8 .ensures))
 
 pub encode1-i8-spec : {M : Type 1} → statement M
 encode1-i8-spec =
     tie.close
     (tie.spec
-    Inv-loop
-    μ-loop
     block-width-requires
     returns
-    code-table-requires
-    loop-holds
-    mul-start
-    sub-left
-    group-i8-requires
-    first-bad-of-requires
-    add-animal
-    same-length
+    search-i8-requires
+    enum-known-bad
     returns-2
-    byte-of-requires
-    slice-write-out-vector
-    add-b
-    loop-less
-    loop-again
-    same-length-2
+    enum-told
+    pack-i8-requires
+    same-length
     returns-3)

@@ -11,7 +11,7 @@ use Rattle.bed_write.proofs.write.write_f64.bad_count_f64.Statement.{st
 use Rattle.bed_write.proofs.write.write_f64.bad_count_f64.Tie as tie
 
 abbrev Inv-loop : tie.InvT-loop
-Inv-loop val is-a1-counted missing bad₀ i₀ bad i = (bad ≤ i) × (bad ≡ 0 → (k : ℕ) → k < i → byTests is-a1-counted missing val k < 4)
+Inv-loop val is-a1-counted missing bad₀ i₀ bad i = (bad ≤ i) × (bad ≡ 0 → (k : ℕ) → k < i → byTests float is-a1-counted missing val k < 4)
 
 abbrev μ-loop : tie.MeasureT-loop
 μ-loop val is-a1-counted missing bad₀ i₀ bad i = length val - i
@@ -42,7 +42,7 @@ loop-again c =
     let a = c .before .before .before .before .before .args in
     let w = c .before .before .before .loop in (
       (let l = w .inv .0 in let n = c .number-f64 .ensures .1 in omega arith),
-      none-counted (byTests (a .is-a1-counted) (a .missing) (a .val .now)) (w .i) (w .bad) _ (w .inv .1)
+      none-counted (byTests float (a .is-a1-counted) (a .missing) (a .val .now)) (w .i) (w .bad) _ (w .inv .1)
           (code-read float (a .is-a1-counted) (a .missing) (a .val .now) _ _ _ (c .before .before .loop-test .taken) (c .number-f64 .ensures .0)),
     )
 

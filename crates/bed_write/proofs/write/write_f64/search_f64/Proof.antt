@@ -1,6 +1,5 @@
 -- `search_f64`: nothing is found where none is counted.
-use native.Mathlib.Omega.{arith}
-use Rattle.bed_write.specs.Inner.{byTests}
+use Rattle.genotype.specs.Value.{float}
 use Rattle.bed_write.proofs.WriteLaws.{all-good}
 use borrow.Author.Needs.{needs}
 use Rattle.bed_write.proofs.write.write_f64.search_f64.Statement.{statement}
@@ -10,7 +9,10 @@ bad-count-f64-requires : tie.Need-bad-count-f64-requires
 bad-count-f64-requires c κs = search needs
 
 returns : tie.Need-returns
-returns c = all-good (byTests (c .before .before .before .args .is-a1-counted) (c .before .before .before .args .missing) (c .before .before .before .args .val .now)) (c .before .before .before .args .animal-order) (c .before .before .before .args .iid-count) (c .before .before .before .args .sid-count) _ 3 (c .before .before .before .pre) (λ k h. let b = c .before .bad-count-f64 .ensures (c .if1 .taken) k h in omega arith) (omega arith)
+returns c =
+    let s = c .before .before .before in
+    let a = s .args in
+    all-good float (a .is-a1-counted) (a .missing) (a .animal-order) (a .iid-count) (a .sid-count) (a .val .now) (s .pre) (c .before .bad-count-f64 .ensures (c .if1 .taken))
 
 first-bad-f64-requires : tie.Need-first-bad-f64-requires
 first-bad-f64-requires c κs = search needs
