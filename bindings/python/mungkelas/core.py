@@ -7,10 +7,11 @@ call asks, and it can be written where the call writes. A list may also be an it
 The header says what each call reads and writes and which refusals it has. A refusal is raised as BedError.
 """
 import ctypes
-import ctypes.util
 import operator
 import os
 from array import array
+
+from ._version import __version__
 
 # The numbers of a statistics record: BED_STATS_PER_MARKER of the header.
 STATS_PER_MARKER = 2
@@ -108,12 +109,12 @@ CALLS = {
 
 
 def _find():
-    """The library's name: the environment's, the one beside this file, or the system's."""
+    """The library's name: the environment's, the one beside this file, or the SONAME of this version."""
     named = os.environ.get("MUNGKELAS_LIBRARY")
     if named:
         return named
     beside = os.path.join(os.path.dirname(os.path.abspath(__file__)), "libmungkelas.so")
-    return beside if os.path.exists(beside) else ctypes.util.find_library("mungkelas") or "libmungkelas.so.0"
+    return beside if os.path.exists(beside) else "libmungkelas.so." + __version__.split(".")[0]
 
 
 def _load(name):

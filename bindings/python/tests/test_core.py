@@ -326,10 +326,11 @@ def test_loading():
     same(said.startswith(("ImportError", "ModuleNotFoundError")), True, "open_bed without NumPy")
     same(run("import mungkelas; mungkelas.closed_bed").startswith("AttributeError"), True, "a name that is not there")
     with tempfile.TemporaryDirectory() as directory:
-        os.symlink(os.path.abspath(core.library._name), os.path.join(directory, "libmungkelas.so.0"))
+        soname = "libmungkelas.so." + mungkelas.__version__.split(".")[0]
+        os.symlink(os.path.abspath(core.library._name), os.path.join(directory, soname))
         found = run("import mungkelas.core as c; print(c.library._name)", MUNGKELAS_LIBRARY="", LD_LIBRARY_PATH=directory)
     beside = os.path.join(os.path.dirname(os.path.abspath(core.__file__)), "libmungkelas.so")
-    same(found, beside if os.path.exists(beside) else "libmungkelas.so.0", "the library beside the module, or the system's")
+    same(found, beside if os.path.exists(beside) else soname, "the library beside the module, or the system's")
     for name in ("/nowhere/libmungkelas.so", "libc.so.6"):
         said = run("import mungkelas.core", MUNGKELAS_LIBRARY=name)
         same(said.startswith("ImportError: no library of Mungkelas as " + name), True, "an absent or another library")
