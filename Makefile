@@ -48,6 +48,7 @@ check: all
 	tests/shared
 	tests/installed
 	tests/command
+	tests/python
 
 # What is built is installed as it stands, so that this can be done by another user than who built it.
 install: $(if $(wildcard $(command)),,all)
