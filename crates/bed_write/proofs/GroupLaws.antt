@@ -72,11 +72,3 @@ module _ (n : ℕ) (code : ℕ → Option ℕ) (b : ℕ) (number : ℕ → ℕ) 
             by-lt k (n - 4 * b)
             (λ l. subst (λ (x : ℕ). x < 4) (sym (e ∙ sym (held-there (n - 4 * b) number k l) ∙ same k b4 l)) (g k (omega arith)))
             (λ l. let z = held-pad (n - 4 * b) number k l in omega arith)
-
--- what each of four places has, for all of them
-pub each-four : (P : ℕ → Type 0) (left : ℕ) → (0 < left → P 0) → (1 < left → P 1) → (2 < left → P 2) → (3 < left → P 3) → (k : ℕ) → k < left → k < 4 → P k
-each-four P left p0 p1 p2 p3 zero h g = p0 h
-each-four P left p0 p1 p2 p3 (suc zero) h g = p1 h
-each-four P left p0 p1 p2 p3 (suc (suc zero)) h g = p2 h
-each-four P left p0 p1 p2 p3 (suc (suc (suc zero))) h g = p3 h
-each-four P left p0 p1 p2 p3 (suc (suc (suc (suc k)))) h g = absurd (omega arith)

@@ -2,8 +2,7 @@
 ghost use mathlib.Core.Path.{_≡_};
 ghost use Prim.Native.Nat.{ℕ, _+_, _*_, _<_};
 ghost use mathlib.Core.Bool.{cond};
-ghost use lib.IntN.{ℤ, pos};
-ghost use lib.Signed.{mag};
+ghost use lib.IntN.{ℤ};
 ghost use lib.ListN.{length, getD};
 ghost use lib.Ieee.{Float};
 ghost use Rattle.bed_write.specs.Packing.{placeCode};
@@ -116,6 +115,7 @@ fn code_f64(value: f64, is_a1_counted: bool, missing: f64) -> u8
     narrow(number_f64(value, is_a1_counted, missing))
 }
 
+// The same in a byte.
 fn number_i8(value: i8, is_a1_counted: bool, missing: i8) -> u8
     ensures { λ r. ⌜ r ≡ orFour (codeOf i8 «is_a1_counted» missing value) ⌝ }
 {
@@ -128,7 +128,7 @@ fn number_i8(value: i8, is_a1_counted: bool, missing: i8) -> u8
 // The code of place k of the group of values that stand `stride` apart from `start` on, of which `left` are there.
 fn held_i8(val: &[i8], start: usize, stride: usize, left: usize, k: usize, table: &[u8; 256]) -> u8
     requires { ⌜ (k < left → start + k * stride < length (now val)) ⌝ }
-    ensures { λ r. ⌜ (r ≡ inGroup left (λ j. byTable (now (table .entry)) (now (val .entry)) (start + j * stride)) k) × (k < left → mag (getD (now (val .entry)) (start + k * stride) (pos 0)) < 128) ⌝ }
+    ensures { λ r. ⌜ r ≡ inGroup left (λ j. byTable (now (table .entry)) (now (val .entry)) (start + j * stride)) k ⌝ }
 {
     if k < left {
         let at = start + k * stride;
@@ -140,7 +140,7 @@ fn held_i8(val: &[i8], start: usize, stride: usize, left: usize, k: usize, table
 // The codes of a whole group.
 fn group_i8(val: &[i8], start: usize, stride: usize, left: usize, table: &[u8; 256]) -> Group
     requires { ⌜ ((k : ℕ) → k < left → k < 4 → start + k * stride < length (now val)) ⌝ }
-    ensures { λ r. ⌜ Four (inGroup left (λ j. byTable (now (table .entry)) (now (val .entry)) (start + j * stride))) (r .c0) (r .c1) (r .c2) (r .c3) × ((k : ℕ) → k < left → k < 4 → mag (getD (now (val .entry)) (start + k * stride) (pos 0)) < 128) ⌝ }
+    ensures { λ r. ⌜ Four (inGroup left (λ j. byTable (now (table .entry)) (now (val .entry)) (start + j * stride))) (r .c0) (r .c1) (r .c2) (r .c3) ⌝ }
 {
     let c0 = held_i8(val, start, stride, left, 0, table);
     let c1 = held_i8(val, start, stride, left, 1, table);

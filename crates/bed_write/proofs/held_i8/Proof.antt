@@ -22,10 +22,10 @@ code-i8-requires : tie.Need-code-i8-requires
 code-i8-requires c κs = search needs
 
 returns : tie.Need-returns
-returns c = let a = c .before .before .before .args in (number-held (a .table .now) (a .val .now) _ _ (c .before .code-i8-arg .given) (c .code-i8 .ensures) ∙ held-there (a .left) (λ j. byTable (a .table .now) (a .val .now) (a .start + j * a .stride)) (a .k) (c .before .before .if1 .taken), λ h. c .before .code-i8-arg .given)
+returns c = let a = c .before .before .before .args in number-held (a .table .now) (a .val .now) _ _ (c .before .code-i8-arg .given) (c .code-i8 .ensures) ∙ held-there (a .left) (λ j. byTable (a .table .now) (a .val .now) (a .start + j * a .stride)) (a .k) (c .before .before .if1 .taken)
 
 returns-2 : tie.Need-returns-2
-returns-2 c = let h = c .if1 .left in (held-pad _ _ _ h, λ g. absurd (omega arith))
+returns-2 c = held-pad _ _ _ (c .if1 .left)
 
 pub held-i8-spec : {M : Type 1} → statement M
 held-i8-spec =

@@ -18,10 +18,10 @@ group-i8-requires : tie.Need-group-i8-requires
 group-i8-requires c κs = λ k h g. walk-inside (byTable (c .before .args .table .now) (c .before .args .val .now)) (c .before .args .animal-order) (c .before .args .iid-count) (c .before .args .sid-count) (c .before .args .m) (c .before .args .b) (c .before .args .stride) _ (c .before .pre .2) (c .before .pre .3) (c .before .pre .1) (c .matrix-place .ensures) _ (c .before .pre .0) k h
 
 byte-of-requires : tie.Need-byte-of-requires
-byte-of-requires c κs = matrix-codes (byTable (c .before .before .args .table .now) (c .before .before .args .val .now)) (c .before .before .args .animal-order) (c .before .before .args .iid-count) (c .before .before .args .sid-count) (c .before .before .args .m) (c .before .before .args .b) (c .before .before .args .stride) _ (c .before .before .pre .2) (c .before .before .pre .3) (c .before .before .pre .1) (c .before .matrix-place .ensures) (c .before .before .pre .4) _ _ _ _ (c .group-i8 .ensures .0)
+byte-of-requires c κs = matrix-codes (byTable (c .before .before .args .table .now) (c .before .before .args .val .now)) (c .before .before .args .animal-order) (c .before .before .args .iid-count) (c .before .before .args .sid-count) (c .before .before .args .m) (c .before .before .args .b) (c .before .before .args .stride) _ (c .before .before .pre .2) (c .before .before .pre .3) (c .before .before .pre .1) (c .before .matrix-place .ensures) (c .before .before .pre .4) _ _ _ _ (c .group-i8 .ensures)
 
 returns : tie.Need-returns
-returns c = matrix-byte (byTable (c .before .before .before .args .table .now) (c .before .before .before .args .val .now)) (c .before .before .before .args .animal-order) (c .before .before .before .args .iid-count) (c .before .before .before .args .sid-count) (c .before .before .before .args .m) (c .before .before .before .args .b) (c .before .before .before .args .stride) _ (c .before .before .before .pre .2) (c .before .before .before .pre .3) (c .before .before .before .pre .1) (c .before .before .matrix-place .ensures) (c .before .before .before .pre .4) _ _ _ _ (c .before .group-i8 .ensures .0) _ (c .byte-of .ensures)
+returns c = matrix-byte (byTable (c .before .before .before .args .table .now) (c .before .before .before .args .val .now)) (c .before .before .before .args .animal-order) (c .before .before .before .args .iid-count) (c .before .before .before .args .sid-count) (c .before .before .before .args .m) (c .before .before .before .args .b) (c .before .before .before .args .stride) _ (c .before .before .before .pre .2) (c .before .before .before .pre .3) (c .before .before .before .pre .1) (c .before .before .matrix-place .ensures) (c .before .before .before .pre .4) _ _ _ _ (c .before .group-i8 .ensures) _ (c .byte-of .ensures)
 
 pub byte-at-i8-spec : {M : Type 1} → statement M
 byte-at-i8-spec =
