@@ -19,6 +19,7 @@ typedef struct {
     int64_t first, second;
 } bed_answer;
 
+bed_answer bed_byte_span(size_t, const int64_t *, size_t);
 bed_answer bed_read_i8(const uint8_t *, size_t, size_t, size_t, bool, const int64_t *, size_t, const int64_t *, size_t, int8_t, bool, int8_t *,
                        size_t);
 bed_answer bed_read_f64(const uint8_t *, size_t, size_t, size_t, bool, const int64_t *, size_t, const int64_t *, size_t, double, bool, double *,
@@ -565,6 +566,50 @@ static void row(shape s, int kind, bool in_place, bool (*ours)(shape), bool (*th
     free(kept), free(kept_stats);
 }
 
+/* The lowest and the highest byte of a list in one plain loop. */
+static ALONE bed_answer c_span(int64_t count, const int64_t *list, size_t n) {
+    int64_t least = INT64_MAX, greatest = -1;
+    for (size_t k = 0; k < n; k++) {
+        int64_t i = list[k] < 0 ? list[k] + count : list[k];
+        if (i < 0 || i >= count)
+            return (bed_answer){5, list[k], 0};
+        least = i / 4 < least ? i / 4 : least;
+        greatest = i / 4 > greatest ? i / 4 : greatest;
+    }
+    return n ? (bed_answer){0, least, greatest - least + 1} : (bed_answer){0, 0, 0};
+}
+
+/* The byte span of a list of a million entries, half of them from the end; nanoseconds an entry. */
+static void span_row(void) {
+    enum { ENTRIES = 1000000 };
+    const char *name = "byte span, 1,000,000 entries (nanoseconds an entry)";
+    if (only && !strstr(name, only))
+        return;
+    int64_t *list = malloc(ENTRIES * sizeof *list);
+    for (int64_t k = 0; k < ENTRIES; k++) {
+        int64_t i = k * 7919 % 999999 + 1; /* every number but 0 */
+        list[k] = k % 2 ? i - ENTRIES : i;
+    }
+    double best[2] = {1e9, 1e9};
+    bool same = true;
+    for (size_t r = 0; r < reps; r++) {
+        double t0 = now();
+        bed_answer ours = bed_byte_span(ENTRIES, list, ENTRIES);
+        double t1 = now();
+        bed_answer theirs = c_span(ENTRIES, list, ENTRIES);
+        double t2 = now();
+        if (t1 - t0 < best[0])
+            best[0] = t1 - t0;
+        if (t2 - t1 < best[1])
+            best[1] = t2 - t1;
+        same &= ours.number == theirs.number && ours.first == theirs.first && ours.second == theirs.second;
+    }
+    double per = 1e9 / ENTRIES;
+    printf("| %-60s | %7.3f | %7.3f | %5.2f | %7s |%s\n", name, best[0] * per, best[1] * per, best[0] / best[1], "", same ? "" : " THE OUTPUTS DIFFER");
+    all_good &= same;
+    free(list);
+}
+
 int main(int argc, char **argv) {
     if (argc > 2)
         iids = strtoull(argv[1], 0, 10), sids = strtoull(argv[2], 0, 10);
@@ -621,5 +666,6 @@ int main(int argc, char **argv) {
     row((shape){"AA', width 16", 0, 0, 0, 16}, PIECE_AAT, 0, our_aat, c_row_aat, 0);
     row((shape){"AA', width 64", 0, 0, 0, 64}, PIECE_AAT, 0, our_aat, c_row_aat, 0);
     row((shape){"AA', width 64 (C: piece in its own column order)", 0, 0, 0, 64}, PIECE_AAT, 0, our_aat, c_row_aat_turned, turn_back);
+    span_row();
     return all_good ? 0 : 1;
 }
