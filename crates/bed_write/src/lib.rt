@@ -9,8 +9,15 @@ ghost use Rattle.bed_write.specs.Packing.{placeCode};
 ghost use Rattle.genotype.specs.Value.{i8, float, codeOf};
 ghost use Rattle.bed_write.specs.Inner.{orFour, byteIndex, CodesOfBytes, byTable, byTests, inGroup, Four};
 
-pub mod encode;
-pub mod write;
+mod encode;
+mod write;
+
+pub use encode::EncodeAnswer;
+pub use encode::encode_f64::encode1_f64;
+pub use encode::encode_i8::encode1_i8;
+pub use write::WriteAnswer;
+pub use write::write_f64::write_val_f64;
+pub use write::write_i8::write_val_i8;
 
 // "Pads are zero".
 const PAD: u8 = 0;

@@ -7,13 +7,13 @@ ghost use Rattle.bed_write.specs.Packing.{placeCode};
 ghost use Rattle.block.specs.Blocks.{codeAnswer, decodeAnswer, decodeBuffer, packAnswer, packBuffer};
 ghost use Rattle.block.specs.Says.{codeSays, decodeSays, packSays};
 
-pub mod decode;
-pub mod pack;
+mod decode;
+mod pack;
 
-use decode::CodeAnswer;
-use decode::DecodeAnswer;
+pub use decode::CodeAnswer;
+pub use decode::DecodeAnswer;
 use genotype::entries::IidIndex;
-use pack::PackAnswer;
+pub use pack::PackAnswer;
 
 // A block to be decoded.
 pub struct MarkerBlock<'a> {

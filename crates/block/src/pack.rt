@@ -5,7 +5,7 @@ ghost use Rattle.genotype.specs.Value.{i8, float};
 ghost use Rattle.bed_write.specs.Packing.{placeCode};
 ghost use Rattle.block.specs.Blocks.{packAnswer, packBuffer};
 ghost use Rattle.block.specs.Says.{packSays};
-use bed_write::encode::EncodeAnswer;
+use bed_write::EncodeAnswer;
 use genotype::entries::IidIndex;
 
 pub enum PackAnswer {
@@ -35,7 +35,7 @@ pub(crate) fn pack1_i8(
     if in_vector.len() != iid_count {
         return PackAnswer::IndexMismatch;
     }
-    match bed_write::encode::encode_i8::encode1_i8(in_vector, bytes, is_a1_counted, missing) {
+    match bed_write::encode1_i8(in_vector, bytes, is_a1_counted, missing) {
         EncodeAnswer::Done => PackAnswer::Done,
         EncodeAnswer::EncodingLength => PackAnswer::EncodingLength,
         EncodeAnswer::BadValue(animal) => PackAnswer::BadValue(animal),
@@ -60,7 +60,7 @@ pub(crate) fn pack1_f64(
     if in_vector.len() != iid_count {
         return PackAnswer::IndexMismatch;
     }
-    match bed_write::encode::encode_f64::encode1_f64(in_vector, bytes, is_a1_counted, missing) {
+    match bed_write::encode1_f64(in_vector, bytes, is_a1_counted, missing) {
         EncodeAnswer::Done => PackAnswer::Done,
         EncodeAnswer::EncodingLength => PackAnswer::EncodingLength,
         EncodeAnswer::BadValue(animal) => PackAnswer::BadValue(animal),

@@ -33,17 +33,7 @@ fn bounded(many: usize) {
     say_number(accept_number(bed_file::accept(header, 0, many)));
     let none = [0i64; 0];
     let mut val = [9i8; 0];
-    let a = bed_read::reading::read_i8::read_no_alloc_i8(
-        header,
-        0,
-        many,
-        true,
-        &none,
-        &none,
-        -127,
-        false,
-        &mut val,
-    );
+    let a = bed_read::read_no_alloc_i8(header, 0, many, true, &none, &none, -127, false, &mut val);
     say(b", read");
     say_number(bed_answer::of_read(a).number);
 }
@@ -71,15 +61,7 @@ fn no_markers(many: usize, animal_order: bool) {
 fn nothing_written(iids: usize, sids: usize, animal_order: bool) {
     let none = [0i8; 0];
     let mut out = [9u8; 3];
-    let w = bed_write::write::write_i8::write_val_i8(
-        &none,
-        iids,
-        sids,
-        animal_order,
-        true,
-        -127,
-        &mut out,
-    );
+    let w = bed_write::write_val_i8(&none, iids, sids, animal_order, true, -127, &mut out);
     say_number(bed_answer::of_write(w).number);
 }
 

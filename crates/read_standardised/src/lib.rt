@@ -7,7 +7,7 @@ ghost use Rattle.standardise.specs.Standardised.{standardiseSays};
 ghost use Rattle.read_standardised.specs.Says.{joinedSays, inTurnSays};
 ghost use Rattle.read_standardised.specs.Joined.{joinedAnswer, joinedStats, joinedValues};
 ghost use Rattle.read_standardised.specs.Ways.{inTurn, answersOf, valuesOf, statsOf};
-use bed_read::reading::ReadAnswer;
+use bed_read::ReadAnswer;
 use standardise::StandardiseAnswer;
 
 // What the joined call answers; 5 and 6 carry the entry, 13 and 14 the place in the marker list.
@@ -105,7 +105,7 @@ pub fn read_standardised_f64(
         return JoinedAnswer::StatsMismatch;
     }
     let missing: f64 = 0.0 / 0.0;
-    let read = of_reading(bed_read::reading::read_f64::read_no_alloc_f64(
+    let read = of_reading(bed_read::read_no_alloc_f64(
         file,
         iid_count,
         sid_count,
@@ -156,7 +156,7 @@ pub fn read_then_standardise_f64(
         × (now (stats .exit) ≡ statsOf binary64 (now (file .entry)) «iid_count» «sid_count» «is_a1_counted» (now («iid_index» .entry)) (now («sid_index» .entry)) «animal_order» (now (val .entry)) (now (stats .entry)) (inTurn «use_stats» «apply_in_place»)) ⌝ }
 {
     let missing: f64 = 0.0 / 0.0;
-    let reading = bed_read::reading::read_f64::read_no_alloc_f64(
+    let reading = bed_read::read_no_alloc_f64(
         file,
         iid_count,
         sid_count,

@@ -29,7 +29,7 @@ fn same_answer(words: &[usize; 715], answer: BedAnswer) -> bool {
 
 // Calls that write nothing. The root's bits are in the place of the first number.
 fn root_f64(variance: usize) -> BedAnswer {
-    let root = mungkelas::numbers::bed_root_f64(float_of(variance));
+    let root = mungkelas::bed_root_f64(float_of(variance));
     BedAnswer {
         number: 0,
         first: signed(bits_of(root)),
@@ -40,23 +40,23 @@ fn root_f64(variance: usize) -> BedAnswer {
 fn open_and_check(words: &[usize; 715]) -> BedAnswer {
     let file = bytes_at(words, 1);
     let file_len = length(words, 1);
-    mungkelas::reading::bed_open_and_check(&file[0..file_len])
+    mungkelas::bed_open_and_check(&file[0..file_len])
 }
 
 fn byte_span(words: &[usize; 715]) -> BedAnswer {
     let n = numbers_of(words);
     let index = i64s_at(words, 3);
     let index_len = length(words, 3);
-    mungkelas::lists::bed_byte_span(n.a, &index[0..index_len])
+    mungkelas::bed_byte_span(n.a, &index[0..index_len])
 }
 
 fn number_answer(call: usize, words: &[usize; 715]) -> BedAnswer {
     let n = numbers_of(words);
     match call {
         1 => open_and_check(words),
-        2 => mungkelas::lists::bed_try_div_4(n.a, n.b),
+        2 => mungkelas::bed_try_div_4(n.a, n.b),
         3 => byte_span(words),
-        4 => mungkelas::lists::bed_to_range(n.a, n.b == 1, n.c, n.d == 1, n.e),
+        4 => mungkelas::bed_to_range(n.a, n.b == 1, n.c, n.d == 1, n.e),
         _ => root_f64(n.a),
     }
 }
@@ -70,32 +70,25 @@ fn index_vec(words: &[usize; 715], list: &mut [i64]) -> BedAnswer {
     let n = numbers_of(words);
     let vec = i64s_at(words, 3);
     let vec_len = length(words, 3);
-    mungkelas::lists::bed_index_vec(n.a, &vec[0..vec_len], list)
+    mungkelas::bed_index_vec(n.a, &vec[0..vec_len], list)
 }
 
 fn index_bool(words: &[usize; 715], list: &mut [i64]) -> BedAnswer {
     let n = numbers_of(words);
     let marks = bytes_at(words, 1);
     let marks_len = length(words, 1);
-    mungkelas::lists::bed_index_bool(n.a, &marks[0..marks_len], list)
+    mungkelas::bed_index_bool(n.a, &marks[0..marks_len], list)
 }
 
 fn list_answer(call: usize, words: &[usize; 715], list: &mut [i64]) -> BedAnswer {
     let n = numbers_of(words);
     match call {
-        14 => mungkelas::lists::bed_index_all(n.a, list),
-        15 => mungkelas::lists::bed_index_one(n.a, signed(n.b), list),
+        14 => mungkelas::bed_index_all(n.a, list),
+        15 => mungkelas::bed_index_one(n.a, signed(n.b), list),
         16 => index_vec(words, list),
         17 => index_bool(words, list),
-        18 => mungkelas::lists::bed_index_range(n.a, n.b == 1, n.c, n.d == 1, n.e, list),
-        _ => mungkelas::lists::bed_index_slice(
-            n.a,
-            signed(n.b),
-            n.c == 1,
-            signed(n.d),
-            signed(n.e),
-            list,
-        ),
+        18 => mungkelas::bed_index_range(n.a, n.b == 1, n.c, n.d == 1, n.e, list),
+        _ => mungkelas::bed_index_slice(n.a, signed(n.b), n.c == 1, signed(n.d), signed(n.e), list),
     }
 }
 
@@ -113,7 +106,7 @@ pub(crate) fn list(call: usize, words: &[usize; 715]) -> bool {
 // Reading.
 fn i8s_read(words: &[usize; 715], file: &[u8], iids: &[i64], sids: &[i64], val: &mut [i8]) -> bool {
     let n = numbers_of(words);
-    let answer = mungkelas::reading::read_i8::bed_read_i8(
+    let answer = mungkelas::bed_read_i8(
         file,
         n.a,
         n.b,
@@ -141,7 +134,7 @@ fn f64s_read(
     val: &mut [f64],
 ) -> bool {
     let n = numbers_of(words);
-    let answer = mungkelas::reading::read_f64::bed_read_f64(
+    let answer = mungkelas::bed_read_f64(
         file,
         n.a,
         n.b,
@@ -170,7 +163,7 @@ fn standardised_read(
     stats: &mut [f64],
 ) -> bool {
     let n = numbers_of(words);
-    let answer = mungkelas::reading::bed_read_standardised_f64(
+    let answer = mungkelas::bed_read_standardised_f64(
         file,
         n.a,
         n.b,
@@ -226,7 +219,7 @@ pub(crate) fn read(call: usize, words: &[usize; 715]) -> bool {
 // Standardising.
 fn standardised(words: &[usize; 715], val: &mut [f64], stats: &mut [f64]) -> bool {
     let n = numbers_of(words);
-    let answer = mungkelas::numbers::bed_impute_and_zero_mean_snps_f64(
+    let answer = mungkelas::bed_impute_and_zero_mean_snps_f64(
         val,
         n.a,
         n.b,
@@ -250,16 +243,8 @@ pub(crate) fn impute_and_zero_mean_snps_f64(words: &[usize; 715]) -> bool {
 fn i8s_packed(call: usize, words: &[usize; 715], val: &[i8], out: &mut [u8]) -> BedAnswer {
     let n = numbers_of(words);
     match call {
-        7 => mungkelas::writing::encode_i8::bed_encode1_i8(val, out, n.a == 1, signed8(n.b)),
-        _ => mungkelas::writing::write_i8::bed_write_i8(
-            val,
-            n.a,
-            n.b,
-            n.c == 1,
-            n.d == 1,
-            signed8(n.e),
-            out,
-        ),
+        7 => mungkelas::bed_encode1_i8(val, out, n.a == 1, signed8(n.b)),
+        _ => mungkelas::bed_write_i8(val, n.a, n.b, n.c == 1, n.d == 1, signed8(n.e), out),
     }
 }
 
@@ -272,16 +257,8 @@ fn pack_i8(call: usize, words: &[usize; 715], out: &mut [u8]) -> BedAnswer {
 fn f64s_packed(call: usize, words: &[usize; 715], val: &[f64], out: &mut [u8]) -> BedAnswer {
     let n = numbers_of(words);
     match call {
-        8 => mungkelas::writing::encode_f64::bed_encode1_f64(val, out, n.a == 1, float_of(n.b)),
-        _ => mungkelas::writing::write_f64::bed_write_f64(
-            val,
-            n.a,
-            n.b,
-            n.c == 1,
-            n.d == 1,
-            float_of(n.e),
-            out,
-        ),
+        8 => mungkelas::bed_encode1_f64(val, out, n.a == 1, float_of(n.b)),
+        _ => mungkelas::bed_write_f64(val, n.a, n.b, n.c == 1, n.d == 1, float_of(n.e), out),
     }
 }
 
@@ -295,7 +272,7 @@ fn canonical(words: &[usize; 715], out: &mut [u8]) -> BedAnswer {
     let n = numbers_of(words);
     let file = bytes_at(words, 1);
     let file_len = length(words, 1);
-    mungkelas::reading::bed_canonical(&file[0..file_len], n.a, n.b, out)
+    mungkelas::bed_canonical(&file[0..file_len], n.a, n.b, out)
 }
 
 fn byte_answer(call: usize, words: &[usize; 715], out: &mut [u8]) -> BedAnswer {
@@ -322,17 +299,8 @@ fn piece_answer(call: usize, words: &[usize; 715], bytes: &[u8], piece: &mut [f6
     let n = numbers_of(words);
     let offset = n.a as u64;
     match call {
-        20 => mungkelas::products::bed_file_ata_piece(
-            bytes,
-            offset,
-            n.b,
-            n.c,
-            n.d,
-            n.e,
-            n.f,
-            piece,
-        ),
-        _ => mungkelas::products::bed_file_aat_piece(bytes, offset, n.b, n.c, n.d, n.e, n.f, piece),
+        20 => mungkelas::bed_file_ata_piece(bytes, offset, n.b, n.c, n.d, n.e, n.f, piece),
+        _ => mungkelas::bed_file_aat_piece(bytes, offset, n.b, n.c, n.d, n.e, n.f, piece),
     }
 }
 

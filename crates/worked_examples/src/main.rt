@@ -1,10 +1,10 @@
 // The worked examples of document 01 that are not marked P, PLINK's published example, and one marker's block.
 // Each line says where it comes from and what that asks for, then what was seen; the file `stdout` beside src/ has them all.
-use bed_read::reading::ReadAnswer;
-use bed_write::write::WriteAnswer;
-use block::decode::CodeAnswer;
-use block::decode::DecodeAnswer;
-use block::pack::PackAnswer;
+use bed_read::ReadAnswer;
+use bed_write::WriteAnswer;
+use block::CodeAnswer;
+use block::DecodeAnswer;
+use block::PackAnswer;
 use genotype::entries::IidIndex;
 use standardise::StandardiseAnswer;
 
@@ -171,7 +171,7 @@ fn say_plink_rows(n: u64, val: [i8; 18]) {
 
 fn plink_written(val: &[i8]) {
     let mut out = [0u8; 9];
-    let w = bed_write::write::write_i8::write_val_i8(val, 6, 3, false, true, -127, &mut out);
+    let w = bed_write::write_val_i8(val, 6, 3, false, true, -127, &mut out);
     say(b"the same, written again, its bytes 6C 1B 01 DC 0F E7 0F 6B 01: saw answer");
     say_answer_bytes(write_number(w), &out);
 }
@@ -181,17 +181,7 @@ fn plink_example() {
     let iids = [0i64, 1, 2, 3, 4, 5];
     let sids = [0i64, 1, 2];
     let mut val = [9i8; 18];
-    let a = bed_read::reading::read_i8::read_no_alloc_i8(
-        file,
-        6,
-        3,
-        true,
-        &iids,
-        &sids,
-        -127,
-        false,
-        &mut val,
-    );
+    let a = bed_read::read_no_alloc_i8(file, 6, 3, true, &iids, &sids, -127, false, &mut val);
     say(
         b"PLINK 1.9 format reference, its example of 6 samples and 3 variants, dosages 2 0 NA 0 0 0 / 0 NA 1 0 0 0 / 0 1 1 NA NA 2: saw answer",
     );

@@ -23,7 +23,7 @@ pub extern "C" fn bed_read_f64(
         × (now (val .exit) ≡ readBuffer float (now (file .entry)) «iid_count» «sid_count» «is_a1_counted» (now («iid_index» .entry)) (now («sid_index» .entry)) «missing_value» «animal_order» (now (val .entry)))
         ⌝ }
 {
-    let answer = bed_read::reading::read_f64::read_no_alloc_f64(
+    let answer = bed_read::read_no_alloc_f64(
         file,
         iid_count,
         sid_count,

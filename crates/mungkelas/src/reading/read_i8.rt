@@ -23,7 +23,7 @@ pub extern "C" fn bed_read_i8(
         × (now (val .exit) ≡ readBuffer i8 (now (file .entry)) «iid_count» «sid_count» «is_a1_counted» (now («iid_index» .entry)) (now («sid_index» .entry)) «missing_value» «animal_order» (now (val .entry)))
         ⌝ }
 {
-    let answer = bed_read::reading::read_i8::read_no_alloc_i8(
+    let answer = bed_read::read_no_alloc_i8(
         file,
         iid_count,
         sid_count,

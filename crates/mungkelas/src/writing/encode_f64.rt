@@ -18,11 +18,6 @@ pub extern "C" fn bed_encode1_f64(
         × (now («out_vector» .exit) ≡ encodeBuffer (length (now («in_vector» .entry))) (placeCode float «is_a1_counted» missing (now («in_vector» .entry))) (now («out_vector» .entry)))
         ⌝ }
 {
-    let answer = bed_write::encode::encode_f64::encode1_f64(
-        in_vector,
-        out_vector,
-        is_a1_counted,
-        missing,
-    );
+    let answer = bed_write::encode1_f64(in_vector, out_vector, is_a1_counted, missing);
     bed_answer::of_encode(answer)
 }

@@ -21,7 +21,7 @@ pub extern "C" fn bed_write_f64(
         × (now (out .exit) ≡ writeBuffer «iid_count» «sid_count» (valueCode float «is_a1_counted» missing «animal_order» «iid_count» «sid_count» (now (val .entry))) (length (now (val .entry))) (now (out .entry)))
         ⌝ }
 {
-    let answer = bed_write::write::write_f64::write_val_f64(
+    let answer = bed_write::write_val_f64(
         val,
         iid_count,
         sid_count,

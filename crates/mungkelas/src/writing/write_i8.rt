@@ -21,7 +21,7 @@ pub extern "C" fn bed_write_i8(
         × (now (out .exit) ≡ writeBuffer «iid_count» «sid_count» (valueCode i8 «is_a1_counted» missing «animal_order» «iid_count» «sid_count» (now (val .entry))) (length (now (val .entry))) (now (out .entry)))
         ⌝ }
 {
-    let answer = bed_write::write::write_i8::write_val_i8(
+    let answer = bed_write::write_val_i8(
         val,
         iid_count,
         sid_count,
