@@ -1,4 +1,5 @@
 -- Packing one marker's values: their codes, the first bad one, and what `encode1` answers and leaves.
+use mathlib.Core.Path.{_≡_}
 use mathlib.Core.Bool.{Bool}
 use mathlib.Core.List.{List, [], _∷_}
 use mathlib.Core.Option.{Option, some, none}
@@ -57,3 +58,9 @@ encodeAnswer n code outLength = check (eqb outLength (blockWidth n)) 16 (checkAn
 -- the later packed buffer of `encode1`: "`encode1` shall leave the buffer unchanged at 7" (document 02), as every refusal does
 unfoldable pub encodeBuffer : ℕ → (ℕ → Option ℕ) → List ℕ → List ℕ
 encodeBuffer n code old = ifDone (encodeAnswer n code (length old)) (packedCodes n code) old
+
+-- `encode1` of a column of values: what it answers, and the later bytes
+abbrev pub Encodes : (w : Width) → Bool → w .Value → List (w .Value) → Answer → List ℕ → List ℕ → Type 0
+Encodes w flag missing column said old new =
+    (said ≡ encodeAnswer (length column) (placeCode w flag missing column) (length old))
+    × (new ≡ encodeBuffer (length column) (placeCode w flag missing column) old)

@@ -1,4 +1,5 @@
 -- Writing a whole file.
+use mathlib.Core.Path.{_≡_}
 use mathlib.Core.Bool.{Bool}
 use mathlib.Core.List.{List, [], _∷_, _++_}
 use mathlib.Core.Option.{Option, some, none}
@@ -58,3 +59,9 @@ bedFile iids sids code = 0x6C ∷ 0x1B ∷ 1 ∷ joined sids (λ m. packed (tabu
 unfoldable pub writeBuffer : ℕ → ℕ → (ℕ → ℕ → Option ℕ) → ℕ → List ℕ → List ℕ
 writeBuffer iids sids code valLength old =
     ifDone (writeAnswer iids sids code valLength (length old)) (bedFile iids sids (λ a m. orZero (code a m))) old
+
+-- the whole-file writer of a matrix of values: what it answers, and the later packed buffer
+abbrev pub Writes : (w : Width) → Bool → w .Value → Bool → ℕ → ℕ → List (w .Value) → Answer → List ℕ → List ℕ → Type 0
+Writes w flag missing animalOrder iids sids val said old new =
+    (said ≡ writeAnswer iids sids (valueCode w flag missing animalOrder iids sids val) (length val) (length old))
+    × (new ≡ writeBuffer iids sids (valueCode w flag missing animalOrder iids sids val) (length val) old)

@@ -1,13 +1,10 @@
 // Packing values into blocks, and writing a .bed file into lent bytes.
 ghost use mathlib.Core.Path.{_≡_};
-ghost use Prim.Native.Nat.{ℕ, _+_, _*_, _<_};
+ghost use Prim.Native.Nat.{_+_, _*_, _<_};
 ghost use mathlib.Core.Bool.{cond};
-ghost use lib.IntN.{ℤ};
 ghost use lib.ListN.{length, getD};
-ghost use lib.Ieee.{Float};
-ghost use Rattle.bed_write.specs.Packing.{placeCode};
 ghost use Rattle.genotype.specs.Value.{i8, float, codeOf};
-ghost use Rattle.bed_write.specs.Inner.{orFour, byteIndex, CodesOfBytes, byTable, byTests, inGroup, Four};
+ghost use Rattle.bed_write.specs.Inner.{orFour, byteIndex, CodesOfBytes, byTable, inGroup, Four, strided, PlaceInside, FourInside, GoodCode, GoodPlace, GoodFour};
 
 mod encode;
 mod write;
@@ -134,8 +131,8 @@ fn number_i8(value: i8, is_a1_counted: bool, missing: i8) -> u8
 
 // The code of place k of the group of values that stand `stride` apart from `start` on, of which `left` are there.
 fn held_i8(val: &[i8], start: usize, stride: usize, left: usize, k: usize, table: &[u8; 256]) -> u8
-    requires { ⌜ (k < left → start + k * stride < length (now val)) ⌝ }
-    ensures { λ r. ⌜ r ≡ inGroup left (λ j. byTable (now (table .entry)) (now (val .entry)) (start + j * stride)) k ⌝ }
+    requires { ⌜ PlaceInside (length (now val)) start stride left k ⌝ }
+    ensures { λ r. ⌜ r ≡ inGroup left (strided (byTable (now (table .entry)) (now (val .entry))) start stride) k ⌝ }
 {
     if k < left {
         let at = start + k * stride;
@@ -146,8 +143,8 @@ fn held_i8(val: &[i8], start: usize, stride: usize, left: usize, k: usize, table
 
 // The codes of a whole group.
 fn group_i8(val: &[i8], start: usize, stride: usize, left: usize, table: &[u8; 256]) -> Group
-    requires { ⌜ ((k : ℕ) → k < left → k < 4 → start + k * stride < length (now val)) ⌝ }
-    ensures { λ r. ⌜ Four (inGroup left (λ j. byTable (now (table .entry)) (now (val .entry)) (start + j * stride))) (r .c0) (r .c1) (r .c2) (r .c3) ⌝ }
+    requires { ⌜ FourInside (length (now val)) start stride left ⌝ }
+    ensures { λ r. ⌜ Four (inGroup left (strided (byTable (now (table .entry)) (now (val .entry))) start stride)) (r .c0) (r .c1) (r .c2) (r .c3) ⌝ }
 {
     let c0 = held_i8(val, start, stride, left, 0, table);
     let c1 = held_i8(val, start, stride, left, 1, table);
@@ -158,7 +155,7 @@ fn group_i8(val: &[i8], start: usize, stride: usize, left: usize, table: &[u8; 2
 
 // The code of a value that is known not to be bad: what is none of 0, 1, 2 is missing.
 fn good_code_f64(value: f64, is_a1_counted: bool) -> u8
-    ensures { λ r. ⌜ ((missing : Float) → orFour (codeOf float «is_a1_counted» missing value) < 4 → r ≡ orFour (codeOf float «is_a1_counted» missing value)) ⌝ }
+    ensures { λ r. ⌜ GoodCode float «is_a1_counted» value r ⌝ }
 {
     let two = choose(value == 2.0, wide(code_of_two(is_a1_counted)), 1);
     let one = choose(value == 1.0, 2, two);
@@ -166,7 +163,7 @@ fn good_code_f64(value: f64, is_a1_counted: bool) -> u8
 }
 
 fn good_code_i8(value: i8, is_a1_counted: bool) -> u8
-    ensures { λ r. ⌜ ((missing : ℤ) → orFour (codeOf i8 «is_a1_counted» missing value) < 4 → r ≡ orFour (codeOf i8 «is_a1_counted» missing value)) ⌝ }
+    ensures { λ r. ⌜ GoodCode i8 «is_a1_counted» value r ⌝ }
 {
     let two = choose_u8(value == 2, code_of_two(is_a1_counted), 1);
     let one = choose_u8(value == 1, 2, two);
@@ -182,8 +179,8 @@ fn held_good_f64(
     k: usize,
     is_a1_counted: bool,
 ) -> u8
-    requires { ⌜ (k < left → start + k * stride < length (now val)) ⌝ }
-    ensures { λ r. ⌜ ((missing : Float) → (k < left → byTests float «is_a1_counted» missing (now (val .entry)) (start + k * stride) < 4) → r ≡ inGroup left (λ j. orFour (placeCode float «is_a1_counted» missing (now (val .entry)) (start + j * stride))) k) ⌝ }
+    requires { ⌜ PlaceInside (length (now val)) start stride left k ⌝ }
+    ensures { λ r. ⌜ GoodPlace float «is_a1_counted» (now (val .entry)) start stride left k r ⌝ }
 {
     if k < left {
         let at = start + k * stride;
@@ -199,8 +196,8 @@ fn group_good_f64(
     left: usize,
     is_a1_counted: bool,
 ) -> Group
-    requires { ⌜ ((k : ℕ) → k < left → k < 4 → start + k * stride < length (now val)) ⌝ }
-    ensures { λ r. ⌜ ((missing : Float) → ((k : ℕ) → k < left → k < 4 → byTests float «is_a1_counted» missing (now (val .entry)) (start + k * stride) < 4) → Four (inGroup left (λ j. orFour (placeCode float «is_a1_counted» missing (now (val .entry)) (start + j * stride)))) (r .c0) (r .c1) (r .c2) (r .c3)) ⌝ }
+    requires { ⌜ FourInside (length (now val)) start stride left ⌝ }
+    ensures { λ r. ⌜ GoodFour float «is_a1_counted» (now (val .entry)) start stride left (r .c0) (r .c1) (r .c2) (r .c3) ⌝ }
 {
     let c0 = held_good_f64(val, start, stride, left, 0, is_a1_counted);
     let c1 = held_good_f64(val, start, stride, left, 1, is_a1_counted);
@@ -217,8 +214,8 @@ fn held_good_i8(
     k: usize,
     is_a1_counted: bool,
 ) -> u8
-    requires { ⌜ (k < left → start + k * stride < length (now val)) ⌝ }
-    ensures { λ r. ⌜ ((missing : ℤ) → (k < left → byTests i8 «is_a1_counted» missing (now (val .entry)) (start + k * stride) < 4) → r ≡ inGroup left (λ j. orFour (placeCode i8 «is_a1_counted» missing (now (val .entry)) (start + j * stride))) k) ⌝ }
+    requires { ⌜ PlaceInside (length (now val)) start stride left k ⌝ }
+    ensures { λ r. ⌜ GoodPlace i8 «is_a1_counted» (now (val .entry)) start stride left k r ⌝ }
 {
     if k < left {
         let at = start + k * stride;
@@ -228,8 +225,8 @@ fn held_good_i8(
 }
 
 fn group_good_i8(val: &[i8], start: usize, stride: usize, left: usize, is_a1_counted: bool) -> Group
-    requires { ⌜ ((k : ℕ) → k < left → k < 4 → start + k * stride < length (now val)) ⌝ }
-    ensures { λ r. ⌜ ((missing : ℤ) → ((k : ℕ) → k < left → k < 4 → byTests i8 «is_a1_counted» missing (now (val .entry)) (start + k * stride) < 4) → Four (inGroup left (λ j. orFour (placeCode i8 «is_a1_counted» missing (now (val .entry)) (start + j * stride)))) (r .c0) (r .c1) (r .c2) (r .c3)) ⌝ }
+    requires { ⌜ FourInside (length (now val)) start stride left ⌝ }
+    ensures { λ r. ⌜ GoodFour i8 «is_a1_counted» (now (val .entry)) start stride left (r .c0) (r .c1) (r .c2) (r .c3) ⌝ }
 {
     let c0 = held_good_i8(val, start, stride, left, 0, is_a1_counted);
     let c1 = held_good_i8(val, start, stride, left, 1, is_a1_counted);

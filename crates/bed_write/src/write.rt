@@ -2,7 +2,7 @@
 ghost use mathlib.Core.Path.{_≡_};
 ghost use mathlib.Core.Bool.{cond};
 ghost use mathlib.Core.List.{[]};
-ghost use Prim.Native.Nat.{_+_, _*_, _^_, _<_, _≤_};
+ghost use Prim.Native.Nat.{_*_, _^_, _<_, _≤_};
 ghost use Rattle.genotype.specs.Answer.{done, isDone};
 ghost use Rattle.genotype.specs.Matrix.{matrixPlace};
 ghost use Rattle.bed_write.specs.Writing.{checkBuffers};

@@ -2,7 +2,7 @@
 ghost use mathlib.Core.Path.{_≡_};
 ghost use lib.ListN.{length};
 ghost use Rattle.genotype.specs.Value.{float};
-ghost use Rattle.bed_write.specs.Packing.{placeCode, packedCodes, firstBadAnimal, encodeAnswer, encodeBuffer};
+ghost use Rattle.bed_write.specs.Packing.{placeCode, packedCodes, firstBadAnimal, Encodes};
 ghost use Rattle.genotype.specs.Block.{blockWidth};
 ghost use mathlib.Core.Option.{none};
 ghost use Rattle.bed_write.specs.Says.{encodeSays};
@@ -11,7 +11,8 @@ use crate::write::BadCall;
 
 // Packs one marker's values, none of which is bad: the groups of four that are full, then the one that is not.
 pub(crate) fn pack_f64(column: &[f64], is_a1_counted: bool, missing: f64, out: &mut [u8])
-    requires { ⌜ (length (now out) ≡ blockWidth (length (now column))) × (firstBadAnimal (length (now column)) (placeCode float «is_a1_counted» missing (now column)) ≡ none) ⌝ }
+    requires { ⌜ (length (now out) ≡ blockWidth (length (now column)))
+        × (firstBadAnimal (length (now column)) (placeCode float «is_a1_counted» missing (now column)) ≡ none) ⌝ }
     ensures { λ _. ⌜ now (out .exit) ≡ packedCodes (length (now (column .entry))) (placeCode float «is_a1_counted» missing (now (column .entry))) ⌝ }
 {
     let full = column.len() / 4;
@@ -37,7 +38,8 @@ pub fn encode1_f64(
     is_a1_counted: bool,
     missing: f64,
 ) -> EncodeAnswer
-    ensures { λ r. ⌜ (encodeSays r ≡ encodeAnswer (length (now («in_vector» .entry))) (placeCode float «is_a1_counted» missing (now («in_vector» .entry))) (length (now («out_vector» .entry)))) × (now («out_vector» .exit) ≡ encodeBuffer (length (now («in_vector» .entry))) (placeCode float «is_a1_counted» missing (now («in_vector» .entry))) (now («out_vector» .entry))) ⌝ }
+    ensures { λ r. ⌜ Encodes float «is_a1_counted» missing (now («in_vector» .entry))
+        (encodeSays r) (now («out_vector» .entry)) (now («out_vector» .exit)) ⌝ }
 {
     let iid_count = in_vector.len();
     if out_vector.len() != genotype::blocks::block_width(iid_count) {

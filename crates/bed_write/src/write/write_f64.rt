@@ -1,15 +1,12 @@
 // Writing values of type f64.
 ghost use mathlib.Core.Path.{_≡_};
 ghost use mathlib.Core.Bool.{cond};
-ghost use mathlib.Core.Option.{none};
 ghost use Prim.Native.Nat.{ℕ, _+_, _*_, _<_};
 ghost use lib.ListN.{length};
 ghost use Rattle.genotype.specs.Block.{blockWidth};
-ghost use Rattle.genotype.specs.Code.{packedByte};
-ghost use Rattle.genotype.specs.Lists.{tabulate};
 ghost use Rattle.genotype.specs.Value.{float};
-ghost use Rattle.bed_write.specs.Writing.{valueCode, firstBadCall, writeAnswer, bedFile, writeBuffer};
-ghost use Rattle.bed_write.specs.Inner.{byTests, firstOver, placed};
+ghost use Rattle.bed_write.specs.Writing.{bedFile, Writes};
+ghost use Rattle.bed_write.specs.Inner.{byTests, placed, Finds, GoodMatrix, blockByte};
 ghost use Rattle.bed_write.specs.Says.{writeSays, badSays};
 use super::BadCall;
 use super::WriteAnswer;
@@ -38,7 +35,7 @@ fn first_bad_f64(
     missing: f64,
 ) -> BadCall
     requires { ⌜ «iid_count» * «sid_count» ≡ length (now val) ⌝ }
-    ensures { λ r. ⌜ badSays r ≡ firstBadCall «iid_count» «sid_count» (valueCode float «is_a1_counted» missing «animal_order» «iid_count» «sid_count» (now (val .entry))) ⌝ }
+    ensures { λ r. ⌜ Finds float «is_a1_counted» missing «animal_order» «iid_count» «sid_count» (now (val .entry)) (badSays r) ⌝ }
 {
     let mut marker = 0;
     let found = 'markers: loop {
@@ -74,7 +71,7 @@ pub(crate) fn search_f64(
     missing: f64,
 ) -> BadCall
     requires { ⌜ «iid_count» * «sid_count» ≡ length (now val) ⌝ }
-    ensures { λ r. ⌜ badSays r ≡ firstBadCall «iid_count» «sid_count» (valueCode float «is_a1_counted» missing «animal_order» «iid_count» «sid_count» (now (val .entry))) ⌝ }
+    ensures { λ r. ⌜ Finds float «is_a1_counted» missing «animal_order» «iid_count» «sid_count» (now (val .entry)) (badSays r) ⌝ }
 {
     if bad_count_f64(val, is_a1_counted, missing) == 0 {
         return BadCall::Nothing;
@@ -101,8 +98,9 @@ fn byte_at_f64(
     is_a1_counted: bool,
     missing: f64,
 ) -> u8
-    requires { ⌜ («iid_count» * «sid_count» ≡ length (now val)) × (stride ≡ cond «animal_order» «sid_count» 1) × (m < «sid_count») × (4 * b < «iid_count») × (firstOver «iid_count» «sid_count» (placed (byTests float «is_a1_counted» missing (now val)) «animal_order» «iid_count» «sid_count») ≡ none) ⌝ }
-    ensures { λ r. ⌜ r ≡ packedByte (tabulate «iid_count» (λ a. placed (byTests float «is_a1_counted» missing (now (val .entry))) «animal_order» «iid_count» «sid_count» a m)) b ⌝ }
+    requires { ⌜ GoodMatrix (byTests float «is_a1_counted» missing (now val)) «animal_order» «iid_count» «sid_count» (length (now val))
+        × (stride ≡ cond «animal_order» «sid_count» 1) × (m < «sid_count») × (4 * b < «iid_count») ⌝ }
+    ensures { λ r. ⌜ r ≡ blockByte (byTests float «is_a1_counted» missing (now (val .entry))) «animal_order» «iid_count» «sid_count» m b ⌝ }
 {
     let first = 4 * b;
     let left = iid_count - first;
@@ -128,8 +126,10 @@ fn write_file_f64(
     missing: f64,
     out: &mut [u8],
 )
-    requires { ⌜ («iid_count» * «sid_count» ≡ length (now val)) × (width ≡ blockWidth «iid_count») × (length (now out) ≡ 3 + width * «sid_count») × (firstOver «iid_count» «sid_count» (placed (byTests float «is_a1_counted» missing (now val)) «animal_order» «iid_count» «sid_count») ≡ none) ⌝ }
-    ensures { λ _. ⌜ now (out .exit) ≡ bedFile «iid_count» «sid_count» (placed (byTests float «is_a1_counted» missing (now (val .entry))) «animal_order» «iid_count» «sid_count») ⌝ }
+    requires { ⌜ GoodMatrix (byTests float «is_a1_counted» missing (now val)) «animal_order» «iid_count» «sid_count» (length (now val))
+        × (width ≡ blockWidth «iid_count») × (length (now out) ≡ 3 + width * «sid_count») ⌝ }
+    ensures { λ _. ⌜ now (out .exit)
+        ≡ bedFile «iid_count» «sid_count» (placed (byTests float «is_a1_counted» missing (now (val .entry))) «animal_order» «iid_count» «sid_count») ⌝ }
 {
     out[0] = 0x6C;
     out[1] = 0x1B;
@@ -175,7 +175,8 @@ pub fn write_val_f64(
     missing: f64,
     out: &mut [u8],
 ) -> WriteAnswer
-    ensures { λ r. ⌜ (writeSays r ≡ writeAnswer «iid_count» «sid_count» (valueCode float «is_a1_counted» missing «animal_order» «iid_count» «sid_count» (now (val .entry))) (length (now (val .entry))) (length (now (out .entry)))) × (now (out .exit) ≡ writeBuffer «iid_count» «sid_count» (valueCode float «is_a1_counted» missing «animal_order» «iid_count» «sid_count» (now (val .entry))) (length (now (val .entry))) (now (out .entry))) ⌝ }
+    ensures { λ r. ⌜ Writes float «is_a1_counted» missing «animal_order» «iid_count» «sid_count» (now (val .entry))
+        (writeSays r) (now (out .entry)) (now (out .exit)) ⌝ }
 {
     let checked = super::check_write(iid_count, sid_count, val.len(), out.len());
     if super::is_done(checked) {

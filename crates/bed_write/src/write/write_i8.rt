@@ -1,17 +1,14 @@
 // Writing values of type i8.
 ghost use mathlib.Core.Path.{_≡_};
 ghost use mathlib.Core.Bool.{cond};
-ghost use mathlib.Core.Option.{none};
 ghost use Prim.Native.Nat.{ℕ, _+_, _*_, _<_, _≤_};
 ghost use lib.IntN.{pos};
 ghost use lib.ListN.{length, getD};
 ghost use lib.Signed.{mag};
 ghost use Rattle.genotype.specs.Block.{blockWidth};
-ghost use Rattle.genotype.specs.Code.{packedByte};
-ghost use Rattle.genotype.specs.Lists.{tabulate};
 ghost use Rattle.genotype.specs.Value.{i8};
-ghost use Rattle.bed_write.specs.Writing.{valueCode, firstBadCall, writeAnswer, bedFile, writeBuffer};
-ghost use Rattle.bed_write.specs.Inner.{byTests, byTable, firstOver, placed};
+ghost use Rattle.bed_write.specs.Writing.{bedFile, Writes};
+ghost use Rattle.bed_write.specs.Inner.{byTests, byTable, placed, Finds, GoodMatrix, blockByte};
 ghost use Rattle.bed_write.specs.Says.{writeSays, badSays};
 use super::BadCall;
 use super::WriteAnswer;
@@ -20,7 +17,8 @@ use genotype::entries::SidIndex;
 
 // The largest number of all values, along the grain: below 4 if none is bad.
 fn worst_i8(val: &[i8], is_a1_counted: bool, missing: i8) -> u8
-    ensures { λ r. ⌜ ((k : ℕ) → k < length (now (val .entry)) → ((byTests i8 «is_a1_counted» missing (now (val .entry)) k ≤ r) × (mag (getD (now (val .entry)) k (pos 0)) < 128))) ⌝ }
+    ensures { λ r. ⌜ ((k : ℕ) → k < length (now (val .entry))
+        → ((byTests i8 «is_a1_counted» missing (now (val .entry)) k ≤ r) × (mag (getD (now (val .entry)) k (pos 0)) < 128))) ⌝ }
 {
     let mut worst = 0;
     let mut i = 0;
@@ -40,7 +38,7 @@ fn first_bad_i8(
     missing: i8,
 ) -> BadCall
     requires { ⌜ «iid_count» * «sid_count» ≡ length (now val) ⌝ }
-    ensures { λ r. ⌜ badSays r ≡ firstBadCall «iid_count» «sid_count» (valueCode i8 «is_a1_counted» missing «animal_order» «iid_count» «sid_count» (now (val .entry))) ⌝ }
+    ensures { λ r. ⌜ Finds i8 «is_a1_counted» missing «animal_order» «iid_count» «sid_count» (now (val .entry)) (badSays r) ⌝ }
 {
     let mut marker = 0;
     let found = 'markers: loop {
@@ -76,7 +74,8 @@ pub(crate) fn search_i8(
     missing: i8,
 ) -> BadCall
     requires { ⌜ «iid_count» * «sid_count» ≡ length (now val) ⌝ }
-    ensures { λ r. ⌜ (badSays r ≡ firstBadCall «iid_count» «sid_count» (valueCode i8 «is_a1_counted» missing «animal_order» «iid_count» «sid_count» (now (val .entry)))) × ((k : ℕ) → k < length (now (val .entry)) → mag (getD (now (val .entry)) k (pos 0)) < 128) ⌝ }
+    ensures { λ r. ⌜ Finds i8 «is_a1_counted» missing «animal_order» «iid_count» «sid_count» (now (val .entry)) (badSays r)
+        × ((k : ℕ) → k < length (now (val .entry)) → mag (getD (now (val .entry)) k (pos 0)) < 128) ⌝ }
 {
     if worst_i8(val, is_a1_counted, missing) < 4 {
         return BadCall::Nothing;
@@ -102,8 +101,9 @@ fn byte_at_i8(
     b: usize,
     table: &[u8; 256],
 ) -> u8
-    requires { ⌜ («iid_count» * «sid_count» ≡ length (now val)) × (stride ≡ cond «animal_order» «sid_count» 1) × (m < «sid_count») × (4 * b < «iid_count») × (firstOver «iid_count» «sid_count» (placed (byTable (now table) (now val)) «animal_order» «iid_count» «sid_count») ≡ none) ⌝ }
-    ensures { λ r. ⌜ r ≡ packedByte (tabulate «iid_count» (λ a. placed (byTable (now (table .entry)) (now (val .entry))) «animal_order» «iid_count» «sid_count» a m)) b ⌝ }
+    requires { ⌜ GoodMatrix (byTable (now table) (now val)) «animal_order» «iid_count» «sid_count» (length (now val))
+        × (stride ≡ cond «animal_order» «sid_count» 1) × (m < «sid_count») × (4 * b < «iid_count») ⌝ }
+    ensures { λ r. ⌜ r ≡ blockByte (byTable (now (table .entry)) (now (val .entry))) «animal_order» «iid_count» «sid_count» m b ⌝ }
 {
     let first = 4 * b;
     let left = iid_count - first;
@@ -128,8 +128,10 @@ fn write_file_i8(
     table: &[u8; 256],
     out: &mut [u8],
 )
-    requires { ⌜ («iid_count» * «sid_count» ≡ length (now val)) × (width ≡ blockWidth «iid_count») × (length (now out) ≡ 3 + width * «sid_count») × (firstOver «iid_count» «sid_count» (placed (byTable (now table) (now val)) «animal_order» «iid_count» «sid_count») ≡ none) ⌝ }
-    ensures { λ _. ⌜ now (out .exit) ≡ bedFile «iid_count» «sid_count» (placed (byTable (now (table .entry)) (now (val .entry))) «animal_order» «iid_count» «sid_count») ⌝ }
+    requires { ⌜ GoodMatrix (byTable (now table) (now val)) «animal_order» «iid_count» «sid_count» (length (now val))
+        × (width ≡ blockWidth «iid_count») × (length (now out) ≡ 3 + width * «sid_count») ⌝ }
+    ensures { λ _. ⌜ now (out .exit)
+        ≡ bedFile «iid_count» «sid_count» (placed (byTable (now (table .entry)) (now (val .entry))) «animal_order» «iid_count» «sid_count») ⌝ }
 {
     out[0] = 0x6C;
     out[1] = 0x1B;
@@ -165,7 +167,8 @@ pub fn write_val_i8(
     missing: i8,
     out: &mut [u8],
 ) -> WriteAnswer
-    ensures { λ r. ⌜ (writeSays r ≡ writeAnswer «iid_count» «sid_count» (valueCode i8 «is_a1_counted» missing «animal_order» «iid_count» «sid_count» (now (val .entry))) (length (now (val .entry))) (length (now (out .entry)))) × (now (out .exit) ≡ writeBuffer «iid_count» «sid_count» (valueCode i8 «is_a1_counted» missing «animal_order» «iid_count» «sid_count» (now (val .entry))) (length (now (val .entry))) (now (out .entry))) ⌝ }
+    ensures { λ r. ⌜ Writes i8 «is_a1_counted» missing «animal_order» «iid_count» «sid_count» (now (val .entry))
+        (writeSays r) (now (out .entry)) (now (out .exit)) ⌝ }
 {
     let checked = super::check_write(iid_count, sid_count, val.len(), out.len());
     if super::is_done(checked) {

@@ -69,7 +69,7 @@ add-at-2 c = (let l = c .before .loop3 .inv .long in let k = whole-size (c .befo
 
 byte-at-f64-requires :
     tie.Need-byte-at-f64-requires Inv-loop3 μ-loop3 Inv-loop2 μ-loop2 Inv-loop μ-loop
-byte-at-f64-requires c κs = let s = c .before .before .before .before .before .before .before .before .before .before .before in (s .pre .0, c .before .before .before .before .before .before .before .animal-stride .ensures, (let h = c .loop3-test .taken in let u = c .before .loop3 .inv .until-in in omega arith), first-in (c .before .before .before .before .before .before .before .before .before .before .before .args .iid-count) (c .before .before .before .before .before .before .before .before .before .before .before .args .sid-count) (placed (byTests float (c .before .before .before .before .before .before .before .before .before .before .before .args .is-a1-counted) (c .before .before .before .before .before .before .before .before .before .before .before .args .missing) (c .before .before .before .before .before .before .before .before .before .before .before .args .val .now)) (c .before .before .before .before .before .before .before .before .before .before .before .args .animal-order) (c .before .before .before .before .before .before .before .before .before .before .before .args .iid-count) (c .before .before .before .before .before .before .before .before .before .before .before .args .sid-count)) (c .before .before .before .before .before .before .before .before .before .before .before .args .width) (c .before .before .before .before .before .before .before .before .before .before .before .pre .1) _ (c .before .before .loop2-test .taken), s .pre .3)
+byte-at-f64-requires c κs = let s = c .before .before .before .before .before .before .before .before .before .before .before in (s .pre .0, c .before .before .before .before .before .before .before .animal-stride .ensures, (let h = c .loop3-test .taken in let u = c .before .loop3 .inv .until-in in omega arith), first-in (c .before .before .before .before .before .before .before .before .before .before .before .args .iid-count) (c .before .before .before .before .before .before .before .before .before .before .before .args .sid-count) (placed (byTests float (c .before .before .before .before .before .before .before .before .before .before .before .args .is-a1-counted) (c .before .before .before .before .before .before .before .before .before .before .before .args .missing) (c .before .before .before .before .before .before .before .before .before .before .before .args .val .now)) (c .before .before .before .before .before .before .before .before .before .before .before .args .animal-order) (c .before .before .before .before .before .before .before .before .before .before .before .args .iid-count) (c .before .before .before .before .before .before .before .before .before .before .before .args .sid-count)) (c .before .before .before .before .before .before .before .before .before .before .before .args .width) (c .before .before .before .before .before .before .before .before .before .before .before .pre .1) _ (c .before .before .loop2-test .taken))
 
 slice-write-out-4 : tie.Need-slice-write-out-4 Inv-loop3 μ-loop3 Inv-loop2 μ-loop2 Inv-loop μ-loop
 slice-write-out-4 c = byte-in (bedFile (c .before .before .before .before .before .before .before .before .before .before .before .before .args .iid-count) (c .before .before .before .before .before .before .before .before .before .before .before .before .args .sid-count) (placed (byTests float (c .before .before .before .before .before .before .before .before .before .before .before .before .args .is-a1-counted) (c .before .before .before .before .before .before .before .before .before .before .before .before .args .missing) (c .before .before .before .before .before .before .before .before .before .before .before .before .args .val .now)) (c .before .before .before .before .before .before .before .before .before .before .before .before .args .animal-order) (c .before .before .before .before .before .before .before .before .before .before .before .before .args .iid-count) (c .before .before .before .before .before .before .before .before .before .before .before .before .args .sid-count))) (c .before .before .before .before .before .before .before .before .before .before .before .before .args .width) (c .before .before .before .before .before .before .before .before .before .before .before .before .args .sid-count) _ _ _ _ _ (c .before .before .loop3 .inv) (whole-size (c .before .before .before .before .before .before .before .before .before .before .before .before .args .iid-count) (c .before .before .before .before .before .before .before .before .before .before .before .before .args .sid-count) (placed (byTests float (c .before .before .before .before .before .before .before .before .before .before .before .before .args .is-a1-counted) (c .before .before .before .before .before .before .before .before .before .before .before .before .args .missing) (c .before .before .before .before .before .before .before .before .before .before .before .before .args .val .now)) (c .before .before .before .before .before .before .before .before .before .before .before .before .args .animal-order) (c .before .before .before .before .before .before .before .before .before .before .before .before .args .iid-count) (c .before .before .before .before .before .before .before .before .before .before .before .before .args .sid-count)) (c .before .before .before .before .before .before .before .before .before .before .before .before .args .width) (c .before .before .before .before .before .before .before .before .before .before .before .before .pre .1)) (let h = c .before .loop3-test .taken in let u = c .before .before .loop3 .inv .until-in in omega arith) (c .before .before .before .loop2-test .taken)

@@ -39,12 +39,8 @@ write-file-f64-requires : tie.Need-write-file-f64-requires
 write-file-f64-requires c κs =
     let s = c .before .before .before .before .before .before .before .before .before .before in
     let a = s .args in
-    let p = passed (a .iid-count) (a .sid-count) _ _ _ (c .before .before .before .before .before .before .before .check-write .ensures) (sym (c .before .before .before .before .before .before .is-done .ensures) ∙ c .before .before .before .before .before .if1 .taken) in (
-      p .product,
-      c .before .block-width .ensures,
-      p .out-long ∙ ap (λ (x : ℕ). 3 + x * a .sid-count) (sym (c .before .block-width .ensures)),
-      none-called (a .iid-count) (a .sid-count) (placed (byTests float (a .is-a1-counted) (a .missing) (a .val .now)) (a .animal-order) (a .iid-count) (a .sid-count)) (valueCode float (a .is-a1-counted) (a .missing) (a .animal-order) (a .iid-count) (a .sid-count) (a .val .now)) (value-coded float (a .is-a1-counted) (a .missing) (a .animal-order) (a .iid-count) (a .sid-count) (a .val .now)) (float-same (a .is-a1-counted) (a .missing) (a .animal-order) (a .iid-count) (a .sid-count) (a .val .now)) (sym (ap badSays (c .before .before .enum-told .given .1)) ∙ c .before .before .before .before .search-f64 .ensures),
-    )
+    let p = passed (a .iid-count) (a .sid-count) _ _ _ (c .before .before .before .before .before .before .before .check-write .ensures) (sym (c .before .before .before .before .before .before .is-done .ensures) ∙ c .before .before .before .before .before .if1 .taken) in
+    ((p .product, none-called (a .iid-count) (a .sid-count) (placed (byTests float (a .is-a1-counted) (a .missing) (a .val .now)) (a .animal-order) (a .iid-count) (a .sid-count)) (valueCode float (a .is-a1-counted) (a .missing) (a .animal-order) (a .iid-count) (a .sid-count) (a .val .now)) (value-coded float (a .is-a1-counted) (a .missing) (a .animal-order) (a .iid-count) (a .sid-count) (a .val .now)) (float-same (a .is-a1-counted) (a .missing) (a .animal-order) (a .iid-count) (a .sid-count) (a .val .now)) (sym (ap badSays (c .before .before .enum-told .given .1)) ∙ c .before .before .before .before .search-f64 .ensures)), c .before .block-width .ensures, p .out-long ∙ ap (λ (x : ℕ). 3 + x * a .sid-count) (sym (c .before .block-width .ensures)))
 
 same-length : tie.Need-same-length
 same-length c = search needs

@@ -43,12 +43,8 @@ write-file-i8-requires : tie.Need-write-file-i8-requires
 write-file-i8-requires c κs =
     let s = c .before .before .before .before .before .before .before .before .before .before .before in
     let a = s .args in
-    let p = passed (a .iid-count) (a .sid-count) _ _ _ (c .before .before .before .before .before .before .before .before .before .check-write .ensures) (sym (c .before .before .before .before .before .before .before .before .is-done .ensures) ∙ c .before .before .before .before .before .before .before .if1 .taken) in (
-      p .product,
-      c .before .before .block-width .ensures,
-      p .out-long ∙ ap (λ (x : ℕ). 3 + x * a .sid-count) (sym (c .before .before .block-width .ensures)),
-      none-called (a .iid-count) (a .sid-count) (placed (byTable (c .before .before .before .code-table .result) (a .val .now)) (a .animal-order) (a .iid-count) (a .sid-count)) (valueCode i8 (a .is-a1-counted) (a .missing) (a .animal-order) (a .iid-count) (a .sid-count) (a .val .now)) (value-coded i8 (a .is-a1-counted) (a .missing) (a .animal-order) (a .iid-count) (a .sid-count) (a .val .now)) (byte-same (a .is-a1-counted) (a .missing) _ (a .animal-order) (a .iid-count) (a .sid-count) (a .val .now) (as-given (a .missing) (s .fits .missing) (λ m. CodesOfBytes (a .is-a1-counted) m (c .before .before .before .code-table .result)) (c .before .before .before .code-table .ensures)) (p .product) (c .before .before .before .before .before .before .search-i8 .ensures .1)) (held-found (a .missing) (s .fits .missing) (a .is-a1-counted) (a .animal-order) (a .iid-count) (a .sid-count) (a .val .now) (sym (ap badSays (c .before .before .before .before .enum-told .given .1)) ∙ c .before .before .before .before .before .before .search-i8 .ensures .0)),
-    )
+    let p = passed (a .iid-count) (a .sid-count) _ _ _ (c .before .before .before .before .before .before .before .before .before .check-write .ensures) (sym (c .before .before .before .before .before .before .before .before .is-done .ensures) ∙ c .before .before .before .before .before .before .before .if1 .taken) in
+    ((p .product, none-called (a .iid-count) (a .sid-count) (placed (byTable (c .before .before .before .code-table .result) (a .val .now)) (a .animal-order) (a .iid-count) (a .sid-count)) (valueCode i8 (a .is-a1-counted) (a .missing) (a .animal-order) (a .iid-count) (a .sid-count) (a .val .now)) (value-coded i8 (a .is-a1-counted) (a .missing) (a .animal-order) (a .iid-count) (a .sid-count) (a .val .now)) (byte-same (a .is-a1-counted) (a .missing) _ (a .animal-order) (a .iid-count) (a .sid-count) (a .val .now) (as-given (a .missing) (s .fits .missing) (λ m. CodesOfBytes (a .is-a1-counted) m (c .before .before .before .code-table .result)) (c .before .before .before .code-table .ensures)) (p .product) (c .before .before .before .before .before .before .search-i8 .ensures .1)) (held-found (a .missing) (s .fits .missing) (a .is-a1-counted) (a .animal-order) (a .iid-count) (a .sid-count) (a .val .now) (sym (ap badSays (c .before .before .before .before .enum-told .given .1)) ∙ c .before .before .before .before .before .before .search-i8 .ensures .0))), c .before .before .block-width .ensures, p .out-long ∙ ap (λ (x : ℕ). 3 + x * a .sid-count) (sym (c .before .before .block-width .ensures)))
 
 same-length : tie.Need-same-length
 same-length c = search needs
