@@ -1,5 +1,6 @@
 -- "One marker's block travels as its bytes together with its animal count.": what its functions answer and leave. Throughout, `bytes` and
 -- `iids` are a block's bytes and its animal count.
+use mathlib.Core.Path.{_≡_}
 use mathlib.Core.Bool.{Bool}
 use mathlib.Core.List.{List, [], _∷_}
 use mathlib.Core.Option.{Option}
@@ -13,7 +14,7 @@ use Rattle.genotype.specs.Code.{itemCode}
 use Rattle.genotype.specs.Entry.{firstBad}
 use Rattle.genotype.specs.Lists.{tabulate}
 use Rattle.genotype.specs.Value.{Width, valueOf}
-use Rattle.bed_write.specs.Packing.{packedCodes, firstBadAnimal, checkAnimal}
+use Rattle.bed_write.specs.Packing.{placeCode, packedCodes, firstBadAnimal, checkAnimal}
 
 -- 16: "packed buffer has the wrong length": a block has as many bytes as its animal count's block width
 unfoldable pub checkBytes : ℕ → ℕ → Answer → Answer
@@ -56,3 +57,14 @@ packAnswer iids valLength code byteCount =
 -- the later bytes of packing, which every refusal leaves unchanged
 unfoldable pub packBuffer : ℕ → ℕ → (ℕ → Option ℕ) → List ℕ → List ℕ
 packBuffer iids valLength code old = ifDone (packAnswer iids valLength code (length old)) (packedCodes iids code) old
+
+-- decoding a block into a column: what it answers, and the later column
+abbrev pub Decodes : (w : Width) → Bool → w .Value → List ℕ → ℕ → Answer → List (w .Value) → List (w .Value) → Type 0
+Decodes w flag missing bytes iids said old new =
+    (said ≡ decodeAnswer (length bytes) iids (length old)) × (new ≡ decodeBuffer w flag missing bytes iids old)
+
+-- packing a column into a block: what it answers, and the later bytes
+abbrev pub Packs : (w : Width) → Bool → w .Value → List (w .Value) → ℕ → Answer → List ℕ → List ℕ → Type 0
+Packs w flag missing column iids said old new =
+    (said ≡ packAnswer iids (length column) (placeCode w flag missing column) (length old))
+    × (new ≡ packBuffer iids (length column) (placeCode w flag missing column) old)

@@ -9,7 +9,7 @@ ghost use Rattle.genotype.specs.Block.{blockWidth};
 ghost use Rattle.genotype.specs.Code.{itemCode, codeTable};
 ghost use Rattle.genotype.specs.Lists.{tabulate};
 ghost use Rattle.genotype.specs.Value.{i8, float};
-ghost use Rattle.block.specs.Blocks.{codeAnswer, decodeAnswer, decodeBuffer};
+ghost use Rattle.block.specs.Blocks.{codeAnswer, decodeAnswer, Decodes};
 ghost use Rattle.block.specs.Says.{codeSays, decodeSays};
 use genotype::entries::IidIndex;
 
@@ -121,7 +121,7 @@ pub(crate) fn decode1_i8(
     missing_value: i8,
     out: &mut [i8],
 ) -> DecodeAnswer
-    ensures { λ r. ⌜ (decodeSays r ≡ decodeAnswer (length (now (bytes .entry))) «iid_count» (length (now (out .entry)))) × (now (out .exit) ≡ decodeBuffer i8 «is_a1_counted» «missing_value» (now (bytes .entry)) «iid_count» (now (out .entry))) ⌝ }
+    ensures { λ r. ⌜ Decodes i8 «is_a1_counted» «missing_value» (now (bytes .entry)) «iid_count» (decodeSays r) (now (out .entry)) (now (out .exit)) ⌝ }
 {
     let checked = check_decode(bytes.len(), iid_count, out.len());
     if is_done(checked) {
@@ -139,7 +139,7 @@ pub(crate) fn decode1_f64(
     missing_value: f64,
     out: &mut [f64],
 ) -> DecodeAnswer
-    ensures { λ r. ⌜ (decodeSays r ≡ decodeAnswer (length (now (bytes .entry))) «iid_count» (length (now (out .entry)))) × (now (out .exit) ≡ decodeBuffer float «is_a1_counted» «missing_value» (now (bytes .entry)) «iid_count» (now (out .entry))) ⌝ }
+    ensures { λ r. ⌜ Decodes float «is_a1_counted» «missing_value» (now (bytes .entry)) «iid_count» (decodeSays r) (now (out .entry)) (now (out .exit)) ⌝ }
 {
     let checked = check_decode(bytes.len(), iid_count, out.len());
     if is_done(checked) {

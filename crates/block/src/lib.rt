@@ -1,10 +1,8 @@
 // One marker's block: its bytes together with its animal count. Each method takes the block apart and calls a function with plain parameters,
 // which does the work.
 ghost use mathlib.Core.Path.{_≡_};
-ghost use lib.ListN.{length};
 ghost use Rattle.genotype.specs.Value.{i8, float};
-ghost use Rattle.bed_write.specs.Packing.{placeCode};
-ghost use Rattle.block.specs.Blocks.{codeAnswer, decodeAnswer, decodeBuffer, packAnswer, packBuffer};
+ghost use Rattle.block.specs.Blocks.{codeAnswer, Decodes, Packs};
 ghost use Rattle.block.specs.Says.{codeSays, decodeSays, packSays};
 
 mod decode;
@@ -43,7 +41,7 @@ impl<'a> MarkerBlock<'a> {
 
     // Every animal's value, into a lent column.
     pub fn decode_i8(self, is_a1_counted: bool, missing_value: i8, out: &mut [i8]) -> DecodeAnswer
-        ensures { λ r. ⌜ (decodeSays r ≡ decodeAnswer (length (now (self .entry .bytes))) (self .entry .«iid_count») (length (now (out .entry)))) × (now (out .exit) ≡ decodeBuffer i8 «is_a1_counted» «missing_value» (now (self .entry .bytes)) (self .entry .«iid_count») (now (out .entry))) ⌝ }
+        ensures { λ r. ⌜ Decodes i8 «is_a1_counted» «missing_value» (now (self .entry .bytes)) (self .entry .«iid_count») (decodeSays r) (now (out .entry)) (now (out .exit)) ⌝ }
     {
         decode::decode1_i8(
             self.bytes,
@@ -60,7 +58,7 @@ impl<'a> MarkerBlock<'a> {
         missing_value: f64,
         out: &mut [f64],
     ) -> DecodeAnswer
-        ensures { λ r. ⌜ (decodeSays r ≡ decodeAnswer (length (now (self .entry .bytes))) (self .entry .«iid_count») (length (now (out .entry)))) × (now (out .exit) ≡ decodeBuffer float «is_a1_counted» «missing_value» (now (self .entry .bytes)) (self .entry .«iid_count») (now (out .entry))) ⌝ }
+        ensures { λ r. ⌜ Decodes float «is_a1_counted» «missing_value» (now (self .entry .bytes)) (self .entry .«iid_count») (decodeSays r) (now (out .entry)) (now (out .exit)) ⌝ }
     {
         decode::decode1_f64(
             self.bytes,
@@ -81,7 +79,7 @@ impl<'a> MarkerBlockMut<'a> {
 
     // Packs a column into the block's bytes.
     pub fn encode1_i8(self, in_vector: &[i8], is_a1_counted: bool, missing: i8) -> PackAnswer
-        ensures { λ r. ⌜ (packSays r ≡ packAnswer (self .entry .«iid_count») (length (now («in_vector» .entry))) (placeCode i8 «is_a1_counted» missing (now («in_vector» .entry))) (length (now (self .entry .bytes)))) × (now (self .exit .0) ≡ packBuffer (self .entry .«iid_count») (length (now («in_vector» .entry))) (placeCode i8 «is_a1_counted» missing (now («in_vector» .entry))) (now (self .entry .bytes))) ⌝ }
+        ensures { λ r. ⌜ Packs i8 «is_a1_counted» missing (now («in_vector» .entry)) (self .entry .«iid_count») (packSays r) (now (self .entry .bytes)) (now (self .exit .0)) ⌝ }
     {
         let iid_count = self.iid_count;
         pack::pack1_i8(
@@ -94,7 +92,7 @@ impl<'a> MarkerBlockMut<'a> {
     }
 
     pub fn encode1_f64(self, in_vector: &[f64], is_a1_counted: bool, missing: f64) -> PackAnswer
-        ensures { λ r. ⌜ (packSays r ≡ packAnswer (self .entry .«iid_count») (length (now («in_vector» .entry))) (placeCode float «is_a1_counted» missing (now («in_vector» .entry))) (length (now (self .entry .bytes)))) × (now (self .exit .0) ≡ packBuffer (self .entry .«iid_count») (length (now («in_vector» .entry))) (placeCode float «is_a1_counted» missing (now («in_vector» .entry))) (now (self .entry .bytes))) ⌝ }
+        ensures { λ r. ⌜ Packs float «is_a1_counted» missing (now («in_vector» .entry)) (self .entry .«iid_count») (packSays r) (now (self .entry .bytes)) (now (self .exit .0)) ⌝ }
     {
         let iid_count = self.iid_count;
         pack::pack1_f64(
@@ -121,7 +119,7 @@ pub fn decode_block_i8(
     missing_value: i8,
     out: &mut [i8],
 ) -> DecodeAnswer
-    ensures { λ r. ⌜ (decodeSays r ≡ decodeAnswer (length (now (bytes .entry))) «iid_count» (length (now (out .entry)))) × (now (out .exit) ≡ decodeBuffer i8 «is_a1_counted» «missing_value» (now (bytes .entry)) «iid_count» (now (out .entry))) ⌝ }
+    ensures { λ r. ⌜ Decodes i8 «is_a1_counted» «missing_value» (now (bytes .entry)) «iid_count» (decodeSays r) (now (out .entry)) (now (out .exit)) ⌝ }
 {
     MarkerBlock::new(bytes, iid_count).decode_i8(is_a1_counted, missing_value, out)
 }
@@ -133,7 +131,7 @@ pub fn decode_block_f64(
     missing_value: f64,
     out: &mut [f64],
 ) -> DecodeAnswer
-    ensures { λ r. ⌜ (decodeSays r ≡ decodeAnswer (length (now (bytes .entry))) «iid_count» (length (now (out .entry)))) × (now (out .exit) ≡ decodeBuffer float «is_a1_counted» «missing_value» (now (bytes .entry)) «iid_count» (now (out .entry))) ⌝ }
+    ensures { λ r. ⌜ Decodes float «is_a1_counted» «missing_value» (now (bytes .entry)) «iid_count» (decodeSays r) (now (out .entry)) (now (out .exit)) ⌝ }
 {
     MarkerBlock::new(bytes, iid_count).decode_f64(is_a1_counted, missing_value, out)
 }
@@ -145,7 +143,7 @@ pub fn encode_block_i8(
     is_a1_counted: bool,
     missing: i8,
 ) -> PackAnswer
-    ensures { λ r. ⌜ (packSays r ≡ packAnswer «iid_count» (length (now («in_vector» .entry))) (placeCode i8 «is_a1_counted» missing (now («in_vector» .entry))) (length (now (bytes .entry)))) × (now (bytes .exit) ≡ packBuffer «iid_count» (length (now («in_vector» .entry))) (placeCode i8 «is_a1_counted» missing (now («in_vector» .entry))) (now (bytes .entry))) ⌝ }
+    ensures { λ r. ⌜ Packs i8 «is_a1_counted» missing (now («in_vector» .entry)) «iid_count» (packSays r) (now (bytes .entry)) (now (bytes .exit)) ⌝ }
 {
     MarkerBlockMut::new(bytes, iid_count).encode1_i8(in_vector, is_a1_counted, missing)
 }
@@ -157,7 +155,7 @@ pub fn encode_block_f64(
     is_a1_counted: bool,
     missing: f64,
 ) -> PackAnswer
-    ensures { λ r. ⌜ (packSays r ≡ packAnswer «iid_count» (length (now («in_vector» .entry))) (placeCode float «is_a1_counted» missing (now («in_vector» .entry))) (length (now (bytes .entry)))) × (now (bytes .exit) ≡ packBuffer «iid_count» (length (now («in_vector» .entry))) (placeCode float «is_a1_counted» missing (now («in_vector» .entry))) (now (bytes .entry))) ⌝ }
+    ensures { λ r. ⌜ Packs float «is_a1_counted» missing (now («in_vector» .entry)) «iid_count» (packSays r) (now (bytes .entry)) (now (bytes .exit)) ⌝ }
 {
     MarkerBlockMut::new(bytes, iid_count).encode1_f64(in_vector, is_a1_counted, missing)
 }

@@ -1,9 +1,6 @@
 // Packing a block, with plain parameters.
-ghost use mathlib.Core.Path.{_≡_};
-ghost use lib.ListN.{length};
 ghost use Rattle.genotype.specs.Value.{i8, float};
-ghost use Rattle.bed_write.specs.Packing.{placeCode};
-ghost use Rattle.block.specs.Blocks.{packAnswer, packBuffer};
+ghost use Rattle.block.specs.Blocks.{Packs};
 ghost use Rattle.block.specs.Says.{packSays};
 use bed_write::EncodeAnswer;
 use genotype::entries::IidIndex;
@@ -24,7 +21,7 @@ pub(crate) fn pack1_i8(
     is_a1_counted: bool,
     missing: i8,
 ) -> PackAnswer
-    ensures { λ r. ⌜ (packSays r ≡ packAnswer «iid_count» (length (now («in_vector» .entry))) (placeCode i8 «is_a1_counted» missing (now («in_vector» .entry))) (length (now (bytes .entry)))) × (now (bytes .exit) ≡ packBuffer «iid_count» (length (now («in_vector» .entry))) (placeCode i8 «is_a1_counted» missing (now («in_vector» .entry))) (now (bytes .entry))) ⌝ }
+    ensures { λ r. ⌜ Packs i8 «is_a1_counted» missing (now («in_vector» .entry)) «iid_count» (packSays r) (now (bytes .entry)) (now (bytes .exit)) ⌝ }
 {
     if iid_count > 9223372036854775807 {
         return PackAnswer::CountTooLarge;
@@ -49,7 +46,7 @@ pub(crate) fn pack1_f64(
     is_a1_counted: bool,
     missing: f64,
 ) -> PackAnswer
-    ensures { λ r. ⌜ (packSays r ≡ packAnswer «iid_count» (length (now («in_vector» .entry))) (placeCode float «is_a1_counted» missing (now («in_vector» .entry))) (length (now (bytes .entry)))) × (now (bytes .exit) ≡ packBuffer «iid_count» (length (now («in_vector» .entry))) (placeCode float «is_a1_counted» missing (now («in_vector» .entry))) (now (bytes .entry))) ⌝ }
+    ensures { λ r. ⌜ Packs float «is_a1_counted» missing (now («in_vector» .entry)) «iid_count» (packSays r) (now (bytes .entry)) (now (bytes .exit)) ⌝ }
 {
     if iid_count > 9223372036854775807 {
         return PackAnswer::CountTooLarge;
