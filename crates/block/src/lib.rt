@@ -1,6 +1,7 @@
 // One marker's block: its bytes together with its animal count. Each method takes the block apart and calls a function with plain parameters,
 // which does the work.
 ghost use mathlib.Core.Path.{_≡_};
+ghost use lib.ListN.{length};
 ghost use Rattle.genotype.specs.Value.{i8, float};
 ghost use Rattle.block.specs.Blocks.{codeAnswer, Decodes, Packs};
 ghost use Rattle.block.specs.Says.{codeSays, decodeSays, packSays};
