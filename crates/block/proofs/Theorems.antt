@@ -5,7 +5,6 @@ use mathlib.Core.List.{List, []}
 use mathlib.Core.Option.{Option, some, none}
 use Prim.Native.Nat.{ℕ, _≤_, _<_}
 use native.Mathlib.Omega.{arith}
-use borrow.Author.Tests.{eqb-true}
 use lib.Dec.{eqb}
 use lib.IntN.{ℤ}
 use lib.ListN.{length, getD, List·getD-eq-default}
@@ -31,24 +30,17 @@ no-animal none e = refl
 no-animal (some a) e = absurd (let q : _≡_ {A = ℕ} 0 1 = cc in omega arith)
 
 -- what is known where packing is done
-record Packable (iids valLength : ℕ) (code : ℕ → Option ℕ) (byteCount : ℕ) : Type 0 where
+record Packable (iids : ℕ) (code : ℕ → Option ℕ) : Type 0 where
   fits : iids ≤ countLimit
-  values : valLength ≡ iids
-  bytes : byteCount ≡ blockWidth iids
   no-bad : firstBadAnimal iids code ≡ none
 
-packable : (iids valLength : ℕ) (code : ℕ → Option ℕ) (byteCount : ℕ) → isDone (packAnswer iids valLength code byteCount) ≡ true → Packable iids valLength code byteCount
+packable : (iids valLength : ℕ) (code : ℕ → Option ℕ) (byteCount : ℕ) → isDone (packAnswer iids valLength code byteCount) ≡ true → Packable iids code
 unfolding packAnswer checkBytes
 packable iids valLength code byteCount d =
     let p = count-done iids _ d in
     let b = check-done (eqb byteCount (blockWidth iids)) 16 _ (p .1) in
     let v = check-done (eqb valLength iids) 15 (checkAnimal (firstBadAnimal iids code) (done [])) (b .1) in
-    record {
-      fits = p .0;
-      values = eqb-true valLength iids (v .0);
-      bytes = eqb-true byteCount (blockWidth iids) (b .0);
-      no-bad = no-animal (firstBadAnimal iids code) (v .1);
-    }
+    record { fits = p .0; no-bad = no-animal (firstBadAnimal iids code) (v .1) }
 
 -- the bytes that packing leaves where it is done
 filled : (iids valLength : ℕ) (code : ℕ → Option ℕ) (old : List ℕ) → isDone (packAnswer iids valLength code (length old)) ≡ true → packBuffer iids valLength code old ≡ packedCodes iids code
@@ -82,7 +74,7 @@ module _ (w : Width) (flag : Bool) (missing : w .Value) (iids : ℕ) (val : List
   abbrev new : List ℕ
   new = packBuffer iids (length val) code old
 
-  p : Packable iids (length val) code (length old)
+  p : Packable iids code
   p = packable iids (length val) code (length old) d
 
   decoded : decodeAnswer (length new) iids (length out) ≡ done []
