@@ -228,10 +228,9 @@ module _ (f : Format) (order : Bool) (iids sids : ℕ) (val : List Float) (useSt
   standardise-fits = count-fits iids _ (λ _. count-fits sids _ (λ h. check-fits (eqb (iids * sids) (length val)) 15 _ (check-fits (eqb (statsPerMarker * sids) (length stats)) 17 _ (lowest-fits (omega arith)))))
 
 -- ---- the joined call
-lists-fit : (mode1 : Bool) (iids sids : ℕ) (iidList sidList : List ℤ) (later : Answer) → Fits later → Fits (checkLists mode1 iids sids iidList sidList later)
+lists-fit : (iids sids : ℕ) (iidList sidList : List ℤ) (later : Answer) → Fits later → Fits (checkLists iids sids iidList sidList later)
 unfolding checkLists carriesEntry
-lists-fit true iids sids iidList sidList later f = entry-fits (firstBad iids iidList) 5 _ refl (λ _. entry-fits (firstBad sids sidList) 6 later refl (λ _. f))
-lists-fit false iids sids iidList sidList later f = entry-fits (firstBad sids sidList) 5 _ refl (λ _. entry-fits (firstBad iids iidList) 6 later refl (λ _. f))
+lists-fit iids sids iidList sidList later f = entry-fits (firstBad iids iidList) 5 _ refl (λ _. entry-fits (firstBad sids sidList) 6 later refl (λ _. f))
 
 file-fits : (file : List ℕ) (iids sids : ℕ) (later : Answer) → Fits later → Fits (checkFile file iids sids later)
 unfolding checkFile checkOpen checkMode checkLength checkSize
@@ -252,4 +251,4 @@ joined-fits f file iids sids flag iidList sidList order val stats h =
     (λ _. check-fits (eqb (length iidList * length sidList) (length val)) 15 _
     (check-fits (eqb (statsPerMarker * length sidList) (length stats)) 17 _
     (file-fits file iids sids _
-    (lists-fit (isMode1 file) iids sids iidList sidList _ (lowest-fits f order (length iidList) (length sidList) (readNan f file iids sids flag iidList sidList order val stats) false stats h))))))
+    (lists-fit iids sids iidList sidList _ (lowest-fits f order (length iidList) (length sidList) (readNan f file iids sids flag iidList sidList order val stats) false stats h))))))

@@ -10,7 +10,7 @@ use lib.IntN.{ℤ, pos}
 use lib.ListN.{length, getD}
 use Rattle.genotype.specs.Answer.{Answer, done, refused, check, checkCount, countLimit, isDone}
 use Rattle.genotype.specs.Block.{blockWidth, fileLength, checkSize, divAnswer}
-use Rattle.genotype.proofs.AnswerLaws.{check-passes, check-refuses, count-passes, count-refuses, check-done, count-done, Stage, check-stage, then-stage, heard, stays}
+use Rattle.genotype.proofs.AnswerLaws.{check-passes, check-refuses, count-passes, count-refuses, check-done, count-done, check-other, Stage, check-stage, then-stage, heard, stays}
 use Rattle.genotype.proofs.Widths.{Sized, width-given, size-stage}
 use Rattle.bed_file.specs.File.{checkOpen, openAnswer, checkMode, isMode1, items, blocks, checkLength, lengthAnswer, checkFile, acceptAnswer}
 
@@ -75,6 +75,17 @@ unfolding checkFile
 file-stage file iids sids =
     then-stage (open-stage file)
     (then-stage (mode-stage file) (length-stage (length file) (items (isMode1 file) iids sids) (blocks (isMode1 file) iids sids)))
+
+-- a refusal by a number above 4 is none of the file's own
+pub file-other : (file : List ℕ) (iids sids : ℕ) (later : Answer) (m : ℕ) (vs : List ℤ) → 4 < m → checkFile file iids sids later ≡ refused m vs → later ≡ refused m vs
+unfolding checkFile checkOpen checkMode checkLength checkSize
+file-other file iids sids later m vs h e =
+    let n = fileLength (items (isMode1 file) iids sids) (blocks (isMode1 file) iids sids) in
+    check-other (eqb (length file) n) 2 later m vs (λ q. omega (arith, q))
+    (check-other (leb n (2 ^ 64 - 1)) 4 _ m vs (λ q. omega (arith, q))
+    (check-other (leb (getD file 2 0) 1) 3 _ m vs (λ q. omega (arith, q))
+    (check-other (eqb (getD file 0 0) 0x6C && eqb (getD file 1 0) 0x1B) 2 _ m vs (λ q. omega (arith, q))
+    (check-other (leb 3 (length file)) 1 _ m vs (λ q. omega (arith, q)) e))))
 
 -- ---- the length's checks, by the answer of `try_div_4`
 module _ (fileLen n b : ℕ) where

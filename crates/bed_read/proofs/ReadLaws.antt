@@ -14,54 +14,48 @@ use mir.Val.{ofZ, toZ}
 use mir.ValLaws.{toZ-ofZ}
 use Rattle.genotype.specs.Answer.{Answer, done, refused, check, countLimit, isDone}
 use Rattle.genotype.specs.Entry.{firstBad}
-use Rattle.genotype.proofs.AnswerLaws.{check-passes, check-refuses, count-passes, count-refuses, check-done, count-done, entry-done, heard, stays, before-later}
+use Rattle.genotype.proofs.AnswerLaws.{check-passes, check-refuses, count-passes, count-refuses, entry-passes, entry-refuses, check-done, count-done, entry-done, Stage, lets, refuses, entry-stage, then-stage, heard, stays, before-later}
 use Rattle.genotype.specs.Block.{fileLength}
 use Rattle.bed_file.specs.File.{isMode1, items, blocks, checkFile, acceptAnswer}
 use Rattle.bed_read.specs.Reading.{checkLists, listsAnswer, readAnswer}
 use Rattle.bed_file.proofs.FileLaws.{accepted, accept-file, file-stage, file-long, file-length}
 
--- ---- 5 and 6, by the first bad entries
-module _ (items blocks : ℕ) (within outside : List ℤ) where
-  pub lists-5 : (e : ℤ) → firstBad items within ≡ some e → mag e < 2 ^ 63 → refused 5 (toZ w64 (ofZ w64 e) ∷ []) ≡ checkLists true items blocks within outside (done [])
-  unfolding checkLists
-  lists-5 e b f = simp (b, toZ-ofZ w64 e (record { sfits = f }))
-
-  module _ (g : firstBad items within ≡ none) where
-    pub lists-6 : (e : ℤ) → firstBad blocks outside ≡ some e → mag e < 2 ^ 63 → refused 6 (toZ w64 (ofZ w64 e) ∷ []) ≡ checkLists true items blocks within outside (done [])
-    unfolding checkLists
-    lists-6 e b f = simp (g, b, toZ-ofZ w64 e (record { sfits = f }))
-
-    pub lists-good : firstBad blocks outside ≡ none → done [] ≡ checkLists true items blocks within outside (done [])
-    unfolding checkLists
-    lists-good b = simp (g, b)
-
--- 18, and in mode 0 the lists trade places
-module _ (mode1 : Bool) (iids sids : ℕ) (il sl : List ℤ) where
-  pub lists-first : countLimit < iids → refused 18 [] ≡ listsAnswer mode1 iids sids il sl
+-- ---- the lists' checks, in order
+module _ (iids sids : ℕ) (il sl : List ℤ) where
+  pub lists-first : countLimit < iids → refused 18 [] ≡ listsAnswer iids sids il sl
   unfolding listsAnswer
   lists-first h = sym (count-refuses iids _ h)
 
   module _ (hi : iids ≤ countLimit) where
-    pub lists-second : countLimit < sids → refused 18 [] ≡ listsAnswer mode1 iids sids il sl
+    pub lists-second : countLimit < sids → refused 18 [] ≡ listsAnswer iids sids il sl
     unfolding listsAnswer
     lists-second h = sym (count-passes iids _ hi ∙ count-refuses sids _ h)
 
     module _ (hs : sids ≤ countLimit) where
-      lists-counted : checkLists mode1 iids sids il sl (done []) ≡ listsAnswer mode1 iids sids il sl
+      lists-counted : listsAnswer iids sids il sl ≡ checkLists iids sids il sl (done [])
       unfolding listsAnswer
-      lists-counted = sym (count-passes iids _ hi ∙ count-passes sids _ hs)
+      lists-counted = count-passes iids _ hi ∙ count-passes sids _ hs
 
-      pub lists-mode-1 : mode1 ≡ true → checkLists true iids sids il sl (done []) ≡ listsAnswer mode1 iids sids il sl
-      lists-mode-1 e = ap (λ (m : Bool). checkLists m iids sids il sl (done [])) (sym e) ∙ lists-counted
-
-      pub lists-mode-0 : mode1 ≡ false → checkLists true sids iids sl il (done []) ≡ listsAnswer mode1 iids sids il sl
+      -- an entry held in 64 bits is the entry
+      pub lists-5 : (e : ℤ) → firstBad iids il ≡ some e → mag e < 2 ^ 63 → refused 5 (toZ w64 (ofZ w64 e) ∷ []) ≡ listsAnswer iids sids il sl
       unfolding checkLists
-      lists-mode-0 e = ap (λ (m : Bool). checkLists m iids sids il sl (done [])) (sym e) ∙ lists-counted
+      lists-5 e b f = ap (λ (x : ℤ). refused 5 (x ∷ [])) (toZ-ofZ w64 e (record { sfits = f })) ∙ sym (lists-counted ∙ entry-refuses (firstBad iids il) 5 _ e b)
+
+      module _ (g : firstBad iids il ≡ none) where
+        pub lists-6 : (e : ℤ) → firstBad sids sl ≡ some e → mag e < 2 ^ 63 → refused 6 (toZ w64 (ofZ w64 e) ∷ []) ≡ listsAnswer iids sids il sl
+        unfolding checkLists
+        lists-6 e b f =
+            ap (λ (x : ℤ). refused 6 (x ∷ [])) (toZ-ofZ w64 e (record { sfits = f }))
+            ∙ sym (lists-counted ∙ entry-passes (firstBad iids il) 5 _ g ∙ entry-refuses (firstBad sids sl) 6 _ e b)
+
+        pub lists-good : firstBad sids sl ≡ none → done [] ≡ listsAnswer iids sids il sl
+        unfolding checkLists
+        lists-good b = sym (lists-counted ∙ entry-passes (firstBad iids il) 5 _ g ∙ entry-passes (firstBad sids sl) 6 _ b)
 
 -- ---- reading's checks, in order
 module _ (file : List ℕ) (iids sids : ℕ) (il sl : List ℤ) (valLength : ℕ) where
   abbrev lists : Answer
-  lists = checkLists (isMode1 file) iids sids il sl (done [])
+  lists = checkLists iids sids il sl (done [])
 
   pub read-first : countLimit < iids → refused 18 [] ≡ readAnswer file iids sids il sl valLength
   unfolding readAnswer
@@ -89,12 +83,37 @@ module _ (file : List ℕ) (iids sids : ℕ) (il sl : List ℤ) (valLength : ℕ
           read-not-accepted n a =
               sym (after-product ∙ stays (file-stage file iids sids) [] n [] (sym (a ∙ accept-file file iids sids hi hs)) lists)
 
-          pub read-lists :
-              (a : Answer) (m : Bool) → done [] ≡ acceptAnswer file iids sids → m ≡ isMode1 file → a ≡ listsAnswer m iids sids il sl
-              → a ≡ readAnswer file iids sids il sl valLength
-          read-lists a m d q l =
-              l ∙ sym (lists-counted m iids sids il sl hi hs) ∙ ap (λ (x : Bool). checkLists x iids sids il sl (done [])) q
-              ∙ sym (after-product ∙ accepted file iids sids (sym (ap isDone d)) .heard-later lists)
+          pub read-lists : (a : Answer) → done [] ≡ acceptAnswer file iids sids → a ≡ listsAnswer iids sids il sl → a ≡ readAnswer file iids sids il sl valLength
+          read-lists a d l =
+              l ∙ lists-counted iids sids il sl hi hs ∙ sym (after-product ∙ accepted file iids sids (sym (ap isDone d)) .heard-later lists)
+
+-- of an accepted file, 15 and the lists are left
+pub read-accepted :
+    (file : List ℕ) (iids sids : ℕ) (il sl : List ℤ) (valLength : ℕ) → isDone (acceptAnswer file iids sids) ≡ true
+    → readAnswer file iids sids il sl valLength ≡ check (eqb (length il * length sl) valLength) 15 (checkLists iids sids il sl (done []))
+read-accepted file iids sids il sl valLength d =
+    let a = accepted file iids sids d in
+    after-counts file iids sids il sl valLength (a .iids-fit) (a .sids-fit)
+    ∙ ap (check (eqb (length il * length sl) valLength) 15) (a .heard-later (checkLists iids sids il sl (done [])))
+
+-- the lists' checks by their parts
+module _ (iids sids : ℕ) (il sl : List ℤ) where
+  pub lists-stage : Stage (λ later. checkLists iids sids il sl later)
+  unfolding checkLists
+  lists-stage = then-stage (entry-stage (firstBad iids il) 5) (entry-stage (firstBad sids sl) 6)
+
+  pub lists-done : (later : Answer) → isDone (checkLists iids sids il sl later) ≡ true → (firstBad iids il ≡ none) × (firstBad sids sl ≡ none)
+  unfolding checkLists
+  lists-done later d = let a = entry-done (firstBad iids il) 5 _ d in let b = entry-done (firstBad sids sl) 6 later (a .1) in (a .0, b .0)
+
+  -- what comes later matters where both lists are good
+  pub lists-same : (later later′ : Answer) → (firstBad iids il ≡ none → firstBad sids sl ≡ none → later ≡ later′) → checkLists iids sids il sl later ≡ checkLists iids sids il sl later′
+  lists-same later later′ e = by-stage lists-stage
+    where
+      by-stage : Stage (λ later. checkLists iids sids il sl later) → checkLists iids sids il sl later ≡ checkLists iids sids il sl later′
+      by-stage (lets f) =
+          let g = lists-done (done []) (ap isDone (f (done []))) in f later ∙ e (g .0) (g .1) ∙ sym (f later′)
+      by-stage (refuses n vs f) = f later ∙ sym (f later′)
 
 -- ---- what is known where reading is done
 pub record Readable (file : List ℕ) (iids sids : ℕ) (il sl : List ℤ) (valLength : ℕ) : Type 0 where
@@ -104,21 +123,14 @@ pub record Readable (file : List ℕ) (iids sids : ℕ) (il sl : List ℤ) (valL
   pub iids-good : firstBad iids il ≡ none
   pub sids-good : firstBad sids sl ≡ none
 
-lists-done : (m : Bool) (iids sids : ℕ) (il sl : List ℤ) → isDone (checkLists m iids sids il sl (done [])) ≡ true → (firstBad iids il ≡ none) × (firstBad sids sl ≡ none)
-unfolding checkLists
-lists-done true iids sids il sl d =
-    let a = entry-done (firstBad iids il) 5 _ d in let b = entry-done (firstBad sids sl) 6 _ (a .1) in (a .0, b .0)
-lists-done false iids sids il sl d =
-    let a = entry-done (firstBad sids sl) 5 _ d in let b = entry-done (firstBad iids il) 6 _ (a .1) in (b .0, a .0)
-
 pub readable : (file : List ℕ) (iids sids : ℕ) (il sl : List ℤ) (valLength : ℕ) → isDone (readAnswer file iids sids il sl valLength) ≡ true → Readable file iids sids il sl valLength
 unfolding readAnswer
 readable file iids sids il sl valLength d =
     let a = count-done iids _ d in
     let b = count-done sids _ (a .1) in
     let c = check-done (eqb (length il * length sl) valLength) 15 _ (b .1) in
-    let own = own-checks file iids sids (checkLists (isMode1 file) iids sids il sl (done [])) (c .1) in
-    let l = lists-done (isMode1 file) iids sids il sl (subst (λ (x : Answer). isDone x ≡ true) (heard (file-stage file iids sids) [] own (checkLists (isMode1 file) iids sids il sl (done []))) (c .1)) in
+    let own = own-checks file iids sids (checkLists iids sids il sl (done [])) (c .1) in
+    let l = lists-done iids sids il sl (done []) (subst (λ (x : Answer). isDone x ≡ true) (heard (file-stage file iids sids) [] own (checkLists iids sids il sl (done []))) (c .1)) in
     record {
       product = eqb-true (length il * length sl) valLength (c .0);
       long = file-long file iids sids [] own;

@@ -1,5 +1,5 @@
 -- Reading.
-use mathlib.Core.Bool.{Bool, true, false}
+use mathlib.Core.Bool.{Bool}
 use mathlib.Core.List.{List, [], map}
 use Prim.Native.Nat.{ℕ, _*_}
 use lib.Dec.{eqb}
@@ -9,20 +9,19 @@ use Rattle.genotype.specs.Answer.{Answer, done, check, checkCount, checkEntry, 
 use Rattle.genotype.specs.Entry.{firstBad, means}
 use Rattle.genotype.specs.Value.{Width, valueOf}
 use Rattle.genotype.specs.Matrix.{matrix}
-use Rattle.bed_file.specs.File.{isMode1, checkFile}
+use Rattle.bed_file.specs.File.{checkFile}
 use Rattle.bed_read.specs.Calls.{callCode}
 
--- 5: "first bad entry of the within-block list; carries it"; 6: "first bad entry of the block list; carries it". In mode 1 the animal list
--- is the one within a block; in mode 0 lists trade places, "so a bad marker entry is then refusal 5 and is looked for first".
-unfoldable pub checkLists : Bool → ℕ → ℕ → List ℤ → List ℤ → Answer → Answer
+-- 5: first bad entry of the animal list; 6: of the marker list; each carries it. "5 always means the animal list and 6 the marker list, in
+-- that order, in either mode"
+unfoldable pub checkLists : ℕ → ℕ → List ℤ → List ℤ → Answer → Answer
 unfolding checkEntry
-checkLists true iids sids iidList sidList later = checkEntry (firstBad iids iidList) 5 (checkEntry (firstBad sids sidList) 6 later)
-checkLists false iids sids iidList sidList later = checkEntry (firstBad sids sidList) 5 (checkEntry (firstBad iids iidList) 6 later)
+checkLists iids sids iidList sidList later = checkEntry (firstBad iids iidList) 5 (checkEntry (firstBad sids sidList) 6 later)
 
 -- the lists' checks by themselves, after 18
-unfoldable pub listsAnswer : Bool → ℕ → ℕ → List ℤ → List ℤ → Answer
+unfoldable pub listsAnswer : ℕ → ℕ → List ℤ → List ℤ → Answer
 unfolding checkCount checkLists
-listsAnswer mode1 iids sids iidList sidList = checkCount iids (checkCount sids (checkLists mode1 iids sids iidList sidList (done [])))
+listsAnswer iids sids iidList sidList = checkCount iids (checkCount sids (checkLists iids sids iidList sidList (done [])))
 
 -- "Reading checks 18, 15, 1 (under 3 bytes), 2 (first two bytes), 3, 4, 2 (length), 5, 6."
 -- 15: "value buffer is not the product of the two list lengths"
@@ -33,7 +32,7 @@ readAnswer file iids sids iidList sidList valLength =
     (checkCount sids
     (check (eqb (length iidList * length sidList) valLength) 15
     (checkFile file iids sids
-    (checkLists (isMode1 file) iids sids iidList sidList (done [])))))
+    (checkLists iids sids iidList sidList (done [])))))
 
 -- the code read for place k of the animal list and place m of the marker list: that of the animal and the marker that the entries mean
 unfoldable pub readCode : List ℕ → ℕ → ℕ → List ℤ → List ℤ → ℕ → ℕ → ℕ

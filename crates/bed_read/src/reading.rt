@@ -31,15 +31,14 @@ pub enum ReadAnswer {
     SidIndexTooBig(i64),
 }
 
-// The lists' checks by themselves: 18, then 5 for the list within a block, then 6 for the list of blocks.
+// The lists' checks by themselves: 18, then 5 for the animal list, then 6 for the marker list.
 pub fn check_lists(
-    mode_1: bool,
     iid_count: usize,
     sid_count: usize,
     iid_index: &[i64],
     sid_index: &[i64],
 ) -> ReadAnswer
-    ensures { λ r. ⌜ readSays r ≡ listsAnswer «mode_1» «iid_count» «sid_count» (now («iid_index» .entry)) (now («sid_index» .entry)) ⌝ }
+    ensures { λ r. ⌜ readSays r ≡ listsAnswer «iid_count» «sid_count» (now («iid_index» .entry)) (now («sid_index» .entry)) ⌝ }
 {
     if iid_count > 9223372036854775807 {
         return ReadAnswer::CountTooLarge;
@@ -47,27 +46,12 @@ pub fn check_lists(
     if sid_count > 9223372036854775807 {
         return ReadAnswer::CountTooLarge;
     }
-    if mode_1 {
-        check_within_then_blocks(iid_count, iid_index, sid_count, sid_index)
-    } else {
-        check_within_then_blocks(sid_count, sid_index, iid_count, iid_index)
-    }
-}
-
-fn check_within_then_blocks(
-    items: usize,
-    within: &[i64],
-    blocks: usize,
-    outside: &[i64],
-) -> ReadAnswer
-    ensures { λ r. ⌜ readSays r ≡ checkLists true items blocks (now (within .entry)) (now (outside .entry)) (done []) ⌝ }
-{
-    let bad = genotype::entries::first_bad(items, within);
-    if let FirstBad::Entry(e) = bad {
+    let bad_iid = genotype::entries::first_bad(iid_count, iid_index);
+    if let FirstBad::Entry(e) = bad_iid {
         return ReadAnswer::IidIndexTooBig(e);
     }
-    let bad_block = genotype::entries::first_bad(blocks, outside);
-    if let FirstBad::Entry(e) = bad_block {
+    let bad_sid = genotype::entries::first_bad(sid_count, sid_index);
+    if let FirstBad::Entry(e) = bad_sid {
         return ReadAnswer::SidIndexTooBig(e);
     }
     ReadAnswer::Done
@@ -92,13 +76,7 @@ fn check_read(
     }
     if genotype::blocks::product_is(iid_index.len(), sid_index.len(), val_len) {
         match bed_file::accept(file, iid_count, sid_count) {
-            AcceptAnswer::Accepted => check_lists(
-                file[2] == 1,
-                iid_count,
-                sid_count,
-                iid_index,
-                sid_index,
-            ),
+            AcceptAnswer::Accepted => check_lists(iid_count, sid_count, iid_index, sid_index),
             AcceptAnswer::CountTooLarge => ReadAnswer::CountTooLarge,
             AcceptAnswer::ReadError => ReadAnswer::ReadError,
             AcceptAnswer::IllFormed => ReadAnswer::IllFormed,

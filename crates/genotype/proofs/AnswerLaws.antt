@@ -69,6 +69,20 @@ pub count-done : (n : ℕ) (later : Answer) → isDone (checkCount n later) ≡ 
 unfolding checkCount
 count-done n later e = let d = check-done (leb n countLimit) 18 later e in (leb-true n countLimit (d .0), d .1)
 
+-- ---- a refusal by a number is not by a check that has another
+number : Answer → ℕ
+number (done vs) = 0
+number (refused n vs) = n
+
+pub check-other : (b : Bool) (n : ℕ) (later : Answer) (m : ℕ) (vs : List ℤ) → (n ≡ m → ⊥) → check b n later ≡ refused m vs → later ≡ refused m vs
+unfolding check number
+check-other true n later m vs o e = e
+check-other false n later m vs o e = absurd (o (ap number e))
+
+pub count-other : (n : ℕ) (later : Answer) (m : ℕ) (vs : List ℤ) → (18 ≡ m → ⊥) → checkCount n later ≡ refused m vs → later ≡ refused m vs
+unfolding checkCount
+count-other n later m vs o e = check-other (leb n countLimit) 18 later m vs o e
+
 -- ---- later buffers
 pub new-if-done : {A : Type 0} (a : Answer) (new old : A) → isDone a ≡ true → ifDone a new old ≡ new
 unfolding ifDone
@@ -77,6 +91,11 @@ new-if-done a new old e = rw e
 pub old-if-not : {A : Type 0} (a : Answer) (new old : A) → isDone a ≡ false → ifDone a new old ≡ old
 unfolding ifDone
 old-if-not a new old e = rw e
+
+pub same-if-done : {A : Type 0} (a : Answer) (new new′ old : A) → (isDone a ≡ true → new ≡ new′) → ifDone a new old ≡ ifDone a new′ old
+unfolding ifDone
+same-if-done (done vs) new new′ old e = e refl
+same-if-done (refused n vs) new new′ old e = refl
 
 -- a test that tells whether an answer is done
 pub is-done-of : (a b : Answer) (t : Bool) → a ≡ b → t ≡ isDone a → (v : Bool) → t ≡ v → isDone b ≡ v

@@ -12,12 +12,12 @@ use lib.Ieee.{Float, nan, Format}
 use Rattle.genotype.specs.Answer.{Answer, done, refused, check, checkCount, countLimit, isDone, ifDone}
 use Rattle.genotype.specs.Value.{float, valueOf}
 use Rattle.genotype.proofs.Tests.{by-test}
-use Rattle.genotype.proofs.AnswerLaws.{check-passes, check-refuses, count-passes, count-refuses, check-stage, count-stage, entry-stage, then-stage, Stage, lets, refuses, heard, new-if-done, old-if-not}
+use Rattle.genotype.proofs.AnswerLaws.{check-passes, check-refuses, count-passes, count-refuses, check-stage, count-stage, then-stage, Stage, lets, refuses, heard, new-if-done, old-if-not}
 use Rattle.genotype.proofs.MatrixLaws.{length-matrix}
-use Rattle.genotype.specs.Entry.{firstBad}
-use Rattle.bed_file.specs.File.{isMode1, checkFile}
+use Rattle.bed_file.specs.File.{checkFile, acceptAnswer}
 use Rattle.bed_read.specs.Reading.{checkLists, readAnswer, readCode, codesRead, valuesRead, readBuffer}
-use Rattle.bed_file.proofs.FileLaws.{file-stage}
+use Rattle.bed_file.proofs.FileLaws.{accepted, file-stage}
+use Rattle.bed_read.proofs.ReadLaws.{lists-stage}
 use Rattle.statistics.specs.Statistics.{statsPerMarker}
 use Rattle.standardise.specs.Standardised.{bufferChecks, lowestRefused, newStats, newValues, standardiseAnswer, laterStats, laterValues}
 use Rattle.standardise.proofs.CallLaws.{checks-pass}
@@ -28,11 +28,6 @@ use Rattle.read_standardised.specs.Ways.{inTurn, asRead, answersOf, valu
 pub unheard : {F : Answer → Answer} → Stage F → isDone (F (done [])) ≡ false → (later : Answer) → F later ≡ F (done [])
 unheard (lets g) e later = absurd (let q : _≡_ {A = Bool} true false = sym (ap isDone (g (done []))) ∙ e in let r : _≡_ {A = ℕ} 0 1 = cc in omega arith)
 unheard (refuses n vs g) e later = g later ∙ sym (g (done []))
-
-pub lists-stage : (m : Bool) (iids sids : ℕ) (il sl : List ℤ) → Stage (λ later. checkLists m iids sids il sl later)
-unfolding checkLists
-lists-stage true iids sids il sl = then-stage (entry-stage (firstBad iids il) 5) (entry-stage (firstBad sids sl) 6)
-lists-stage false iids sids il sl = then-stage (entry-stage (firstBad sids sl) 5) (entry-stage (firstBad iids il) 6)
 
 length-map : {A B : Type 0} (g : A → B) (l : List A) → length (map g l) ≡ length l
 length-map g [] = refl
@@ -45,13 +40,13 @@ module _ (file : List ℕ) (iids sids : ℕ) (il sl : List ℤ) (valLength stats
   before17 later = checkCount iids (checkCount sids (check (eqb (length il * length sl) valLength) 15 later))
 
   after17 : Answer → Answer
-  after17 later = checkFile file iids sids (checkLists (isMode1 file) iids sids il sl later)
+  after17 later = checkFile file iids sids (checkLists iids sids il sl later)
 
   reading-stage : Stage (λ later. before17 (after17 later))
   unfolding before17 after17
   reading-stage =
       then-stage (then-stage (count-stage iids) (then-stage (count-stage sids) (check-stage (eqb (length il * length sl) valLength) 15)))
-      (then-stage (file-stage file iids sids) (lists-stage (isMode1 file) iids sids il sl))
+      (then-stage (file-stage file iids sids) (lists-stage iids sids il sl))
 
   pub iids-too-large : countLimit < iids → (later : Answer) → joinedChecks file iids sids il sl valLength statsLength later ≡ refused 18 []
   unfolding joinedChecks
@@ -75,6 +70,18 @@ module _ (file : List ℕ) (iids sids : ℕ) (il sl : List ℤ) (valLength stats
       stats-mismatch e g later =
           count-passes iids _ hi ∙ count-passes sids _ hs ∙ check-passes (eqb (length il * length sl) valLength) 15 _ e
           ∙ check-refuses (eqb (statsPerMarker * length sl) statsLength) 17 _ g
+
+  -- of an accepted file 15, 17 and the lists are left
+  pub joined-accepted :
+      isDone (acceptAnswer file iids sids) ≡ true → (later : Answer)
+      → joinedChecks file iids sids il sl valLength statsLength later
+      ≡ check (eqb (length il * length sl) valLength) 15 (check (eqb (statsPerMarker * length sl) statsLength) 17 (checkLists iids sids il sl later))
+  unfolding joinedChecks
+  joined-accepted d later =
+      let a = accepted file iids sids d in
+      count-passes iids _ (a .iids-fit) ∙ count-passes sids _ (a .sids-fit)
+      ∙ ap (λ (x : Answer). check (eqb (length il * length sl) valLength) 15 (check (eqb (statsPerMarker * length sl) statsLength) 17 x))
+      (a .heard-later (checkLists iids sids il sl later))
 
   -- where 17 finds nothing the reading's are left
   module _ (e : eqb (statsPerMarker * length sl) statsLength ≡ true) where

@@ -8,7 +8,7 @@ use lib.ListN.{length}
 use lib.Ieee.{Float, nan, Format}
 use Rattle.genotype.specs.Answer.{Answer, done, check, checkCount, ifDone}
 use Rattle.genotype.specs.Value.{float}
-use Rattle.bed_file.specs.File.{isMode1, checkFile}
+use Rattle.bed_file.specs.File.{checkFile}
 use Rattle.bed_read.specs.Reading.{checkLists, valuesRead}
 use Rattle.statistics.specs.Statistics.{statsPerMarker}
 use Rattle.standardise.specs.Standardised.{lowestRefused, newStats, newValues}
@@ -22,7 +22,7 @@ joinedChecks file iids sids iidList sidList valLength statsLength markers =
     (checkCount sids
     (check (eqb (length iidList * length sidList) valLength) 15 (check (eqb (statsPerMarker * length sidList) statsLength) 17
     (checkFile file iids sids
-    (checkLists (isMode1 file) iids sids iidList sidList markers)))))
+    (checkLists iids sids iidList sidList markers)))))
 
 -- a call
 module _ (f : Format) (file : List ℕ) (iids sids : ℕ) (flag : Bool) (iidList sidList : List ℤ) (order : Bool) (val stats : List Float) where

@@ -1,10 +1,6 @@
 -- `check_read`: 18, 15, then the file by `accept`, then the lists.
-use mathlib.Core.Path.{refl, sym, ap, _∙_}
-use native.Mathlib.Omega.{arith}
-use Rattle.genotype.specs.Answer.{isDone}
-use Rattle.bed_file.specs.File.{isMode1}
+use mathlib.Core.Path.{sym, ap, _∙_}
 use Rattle.bed_file.specs.Says.{acceptSays}
-use Rattle.bed_file.proofs.FileLaws.{accepted}
 use Rattle.bed_read.proofs.ReadLaws.{read-first, read-second, read-mismatch, read-not-accepted, read-lists}
 use borrow.Author.Needs.{needs}
 use Rattle.bed_read.proofs.reading.check_read.Statement.{statement}
@@ -25,10 +21,6 @@ accept-requires c κs = search needs
 enum-told : tie.Need-enum-told
 enum-told c = search needs
 
-shared-slice-read-check-lists : tie.Need-shared-slice-read-check-lists
-shared-slice-read-check-lists c =
-    let a = accepted _ _ _ (sym (ap isDone (sym (ap acceptSays (c .before .enum-told .given .1)) ∙ c .before .before .before .accept .ensures))) in omega (arith, a .long)
-
 check-lists-requires : tie.Need-check-lists-requires
 check-lists-requires c κs = search needs
 
@@ -48,9 +40,9 @@ enum-told-6 : tie.Need-enum-told-6
 enum-told-6 c = search needs
 
 returns-3 : tie.Need-returns-3
-unfolding isMode1
 returns-3 c =
-    read-lists _ _ _ _ _ _ (c .before .before .before .before .before .before .before .before .if1 .left) (c .before .before .before .before .before .before .before .if2 .left) _ (c .before .before .before .before .before .before .product-is .ensures) (c .before .before .before .before .before .if3 .taken) _ _ (sym (ap acceptSays (c .before .before .enum-told .given .1)) ∙ c .before .before .before .before .accept .ensures) refl (c .check-lists .ensures)
+    let s = c .before .before in
+    read-lists _ _ _ _ _ _ (s .before .before .before .before .before .if1 .left) (s .before .before .before .before .if2 .left) _ (s .before .before .before .product-is .ensures) (s .before .before .if3 .taken) _ (sym (ap acceptSays (c .before .enum-told .given .1)) ∙ s .before .accept .ensures) (c .check-lists .ensures)
 
 returns-4 : tie.Need-returns-4
 returns-4 c = read-not-accepted _ _ _ _ _ _ (c .before .before .before .before .before .before .if1 .left) (c .before .before .before .before .before .if2 .left) _ (c .before .before .before .before .product-is .ensures) (c .before .before .before .if3 .taken) 18 (sym (ap acceptSays (c .enum-told2 .given .1)) ∙ c .before .before .accept .ensures)
@@ -79,7 +71,6 @@ check-read-spec =
     product-is-requires
     accept-requires
     enum-told
-    shared-slice-read-check-lists
     check-lists-requires
     enum-told-2
     enum-told-3
