@@ -79,6 +79,11 @@ unfolding clipAnswer Fits
 answer-clipped (done vs) f = ap done (list-clipped vs f)
 answer-clipped (refused n vs) f = ap (refused n) (kept (carriesEntry n) vs f)
 
+-- a refusal that carries nothing stays
+pub bare-clipped : (n : ℕ) → bedAnswer (refused n []) ≡ bedAnswer (clipAnswer (refused n []))
+unfolding Fits AllBelow
+bare-clipped n = sym (ap bedAnswer (answer-clipped (refused n []) (λ _. tt)))
+
 -- the core's answer, whose numbers fit, is told as the definition's
 pub as-fits : {r : BedAnswer} {says : Answer} (answer : Answer) → r ≡ bedAnswer (clipAnswer says) → says ≡ answer → Fits answer → r ≡ bedAnswer answer
 as-fits answer e q f = e ∙ ap (λ a. bedAnswer (clipAnswer a)) q ∙ ap bedAnswer (answer-clipped answer f)

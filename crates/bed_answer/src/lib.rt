@@ -148,12 +148,8 @@ pub fn of_read(answer: ReadAnswer) -> BedAnswer
 {
     match answer {
         ReadAnswer::Done => bare(0),
-        ReadAnswer::CountTooLarge => bare(18),
         ReadAnswer::IndexMismatch => bare(15),
-        ReadAnswer::ReadError => bare(1),
-        ReadAnswer::IllFormed => bare(2),
-        ReadAnswer::BadMode => bare(3),
-        ReadAnswer::IndexesTooBigForFiles => bare(4),
+        ReadAnswer::Refused(fault) => bare(bed_file::fault_number(fault)),
         ReadAnswer::IidIndexTooBig(e) => entry(5, e),
         ReadAnswer::SidIndexTooBig(e) => entry(6, e),
     }
@@ -187,11 +183,7 @@ pub fn of_canonical(answer: CanonicalAnswer) -> BedAnswer
 {
     match answer {
         CanonicalAnswer::Done => bare(0),
-        CanonicalAnswer::CountTooLarge => bare(18),
-        CanonicalAnswer::ReadError => bare(1),
-        CanonicalAnswer::IllFormed => bare(2),
-        CanonicalAnswer::BadMode => bare(3),
-        CanonicalAnswer::IndexesTooBigForFiles => bare(4),
+        CanonicalAnswer::Refused(fault) => bare(bed_file::fault_number(fault)),
         CanonicalAnswer::EncodingLength => bare(16),
     }
 }
@@ -214,13 +206,9 @@ pub fn of_joined(answer: JoinedAnswer) -> BedAnswer
 {
     match answer {
         JoinedAnswer::Done => bare(0),
-        JoinedAnswer::CountTooLarge => bare(18),
         JoinedAnswer::IndexMismatch => bare(15),
         JoinedAnswer::StatsMismatch => bare(17),
-        JoinedAnswer::ReadError => bare(1),
-        JoinedAnswer::IllFormed => bare(2),
-        JoinedAnswer::BadMode => bare(3),
-        JoinedAnswer::IndexesTooBigForFiles => bare(4),
+        JoinedAnswer::Refused(fault) => bare(bed_file::fault_number(fault)),
         JoinedAnswer::IidIndexTooBig(e) => entry(5, e),
         JoinedAnswer::SidIndexTooBig(e) => entry(6, e),
         JoinedAnswer::NoIndividuals(m) => one(13, m),

@@ -1,16 +1,13 @@
 -- What each answer enum of the code says: document 01's number and the values for each of its cases.
 use mathlib.Core.List.{[], _∷_}
 use Rattle.genotype.specs.Answer.{Answer, done, refused}
+use Rattle.bed_file.specs.Says.{faultNumber}
 use Rattle.bed_read.specs.declared.reading.ReadAnswer.{ReadAnswer}
 use Rattle.bed_read.specs.declared.reading.ReadAnswer.the-variants as reads
 
 abbrev pub readSays : ReadAnswer → Answer
 readSays reads.Done = done []
-readSays reads.CountTooLarge = refused 18 []
 readSays reads.IndexMismatch = refused 15 []
-readSays reads.ReadError = refused 1 []
-readSays reads.IllFormed = refused 2 []
-readSays reads.BadMode = refused 3 []
-readSays reads.IndexesTooBigForFiles = refused 4 []
+readSays (reads.Refused fault) = refused (faultNumber fault) []
 readSays (reads.IidIndexTooBig e) = refused 5 (e ∷ [])
 readSays (reads.SidIndexTooBig e) = refused 6 (e ∷ [])

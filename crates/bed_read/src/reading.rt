@@ -15,18 +15,15 @@ pub mod read_f64;
 pub mod read_i8;
 
 use bed_file::AcceptAnswer;
+use bed_file::FileFault;
 use genotype::entries::FirstBad;
 use genotype::entries::IidIndex;
 use genotype::entries::SidIndex;
 
 pub enum ReadAnswer {
     Done,
-    CountTooLarge,
     IndexMismatch,
-    ReadError,
-    IllFormed,
-    BadMode,
-    IndexesTooBigForFiles,
+    Refused(FileFault),
     IidIndexTooBig(i64),
     SidIndexTooBig(i64),
 }
@@ -41,10 +38,10 @@ pub fn check_lists(
     ensures { λ r. ⌜ readSays r ≡ listsAnswer «iid_count» «sid_count» (now («iid_index» .entry)) (now («sid_index» .entry)) ⌝ }
 {
     if iid_count > 9223372036854775807 {
-        return ReadAnswer::CountTooLarge;
+        return ReadAnswer::Refused(FileFault::CountTooLarge);
     }
     if sid_count > 9223372036854775807 {
-        return ReadAnswer::CountTooLarge;
+        return ReadAnswer::Refused(FileFault::CountTooLarge);
     }
     let bad_iid = genotype::entries::first_bad(iid_count, iid_index);
     if let FirstBad::Entry(e) = bad_iid {
@@ -69,19 +66,15 @@ fn check_read(
     ensures { λ r. ⌜ readSays r ≡ readAnswer (now (file .entry)) «iid_count» «sid_count» (now («iid_index» .entry)) (now («sid_index» .entry)) «val_len» ⌝ }
 {
     if iid_count > 9223372036854775807 {
-        return ReadAnswer::CountTooLarge;
+        return ReadAnswer::Refused(FileFault::CountTooLarge);
     }
     if sid_count > 9223372036854775807 {
-        return ReadAnswer::CountTooLarge;
+        return ReadAnswer::Refused(FileFault::CountTooLarge);
     }
     if genotype::blocks::product_is(iid_index.len(), sid_index.len(), val_len) {
         match bed_file::accept(file, iid_count, sid_count) {
             AcceptAnswer::Accepted => check_lists(iid_count, sid_count, iid_index, sid_index),
-            AcceptAnswer::CountTooLarge => ReadAnswer::CountTooLarge,
-            AcceptAnswer::ReadError => ReadAnswer::ReadError,
-            AcceptAnswer::IllFormed => ReadAnswer::IllFormed,
-            AcceptAnswer::BadMode => ReadAnswer::BadMode,
-            AcceptAnswer::IndexesTooBigForFiles => ReadAnswer::IndexesTooBigForFiles,
+            AcceptAnswer::Refused(fault) => ReadAnswer::Refused(fault),
         }
     } else {
         ReadAnswer::IndexMismatch
@@ -93,12 +86,8 @@ fn is_done(answer: ReadAnswer) -> bool
 {
     match answer {
         ReadAnswer::Done => true,
-        ReadAnswer::CountTooLarge => false,
         ReadAnswer::IndexMismatch => false,
-        ReadAnswer::ReadError => false,
-        ReadAnswer::IllFormed => false,
-        ReadAnswer::BadMode => false,
-        ReadAnswer::IndexesTooBigForFiles => false,
+        ReadAnswer::Refused(_) => false,
         ReadAnswer::IidIndexTooBig(_) => false,
         ReadAnswer::SidIndexTooBig(_) => false,
     }

@@ -17,11 +17,7 @@ fn say_number(n: u64) {
 fn accept_number(a: AcceptAnswer) -> u64 {
     match a {
         AcceptAnswer::Accepted => 0,
-        AcceptAnswer::CountTooLarge => 18,
-        AcceptAnswer::ReadError => 1,
-        AcceptAnswer::IllFormed => 2,
-        AcceptAnswer::BadMode => 3,
-        AcceptAnswer::IndexesTooBigForFiles => 4,
+        AcceptAnswer::Refused(fault) => bed_file::fault_number(fault),
     }
 }
 

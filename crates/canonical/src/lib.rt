@@ -15,6 +15,7 @@ ghost use Rattle.bed_write.specs.Inner.{inGroup};
 ghost use Rattle.canonical.specs.Inner.{writtenAnswer};
 ghost use Rattle.canonical.specs.Says.{canonicalSays};
 use bed_file::AcceptAnswer;
+use bed_file::FileFault;
 use genotype::blocks::DivAnswer;
 use genotype::entries::IidIndex;
 use genotype::entries::SidIndex;
@@ -32,11 +33,7 @@ struct Group {
 
 pub enum CanonicalAnswer {
     Done,
-    CountTooLarge,
-    ReadError,
-    IllFormed,
-    BadMode,
-    IndexesTooBigForFiles,
+    Refused(FileFault),
     EncodingLength,
 }
 
@@ -45,8 +42,10 @@ fn check_written(iid_count: usize, sid_count: usize, out_len: usize) -> Canonica
     ensures { λ r. ⌜ canonicalSays r ≡ writtenAnswer «iid_count» «sid_count» «out_len» ⌝ }
 {
     match genotype::blocks::try_div_4(iid_count, sid_count) {
-        DivAnswer::CountTooLarge => CanonicalAnswer::CountTooLarge,
-        DivAnswer::IndexesTooBigForFiles => CanonicalAnswer::IndexesTooBigForFiles,
+        DivAnswer::CountTooLarge => CanonicalAnswer::Refused(FileFault::CountTooLarge),
+        DivAnswer::IndexesTooBigForFiles => CanonicalAnswer::Refused(
+            FileFault::IndexesTooBigForFiles,
+        ),
         DivAnswer::Width(width) => {
             if out_len == width * sid_count + 3 {
                 return CanonicalAnswer::Done;
@@ -67,11 +66,7 @@ fn check_canonical(
 {
     match bed_file::accept(file, iid_count, sid_count) {
         AcceptAnswer::Accepted => check_written(iid_count, sid_count, out_len),
-        AcceptAnswer::CountTooLarge => CanonicalAnswer::CountTooLarge,
-        AcceptAnswer::ReadError => CanonicalAnswer::ReadError,
-        AcceptAnswer::IllFormed => CanonicalAnswer::IllFormed,
-        AcceptAnswer::BadMode => CanonicalAnswer::BadMode,
-        AcceptAnswer::IndexesTooBigForFiles => CanonicalAnswer::IndexesTooBigForFiles,
+        AcceptAnswer::Refused(fault) => CanonicalAnswer::Refused(fault),
     }
 }
 
@@ -80,11 +75,7 @@ fn is_done(answer: CanonicalAnswer) -> bool
 {
     match answer {
         CanonicalAnswer::Done => true,
-        CanonicalAnswer::CountTooLarge => false,
-        CanonicalAnswer::ReadError => false,
-        CanonicalAnswer::IllFormed => false,
-        CanonicalAnswer::BadMode => false,
-        CanonicalAnswer::IndexesTooBigForFiles => false,
+        CanonicalAnswer::Refused(_) => false,
         CanonicalAnswer::EncodingLength => false,
     }
 }

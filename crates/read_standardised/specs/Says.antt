@@ -2,6 +2,7 @@
 use mathlib.Core.List.{List, [], _∷_}
 use lib.IntN.{pos}
 use Rattle.genotype.specs.Answer.{Answer, done, refused}
+use Rattle.bed_file.specs.Says.{faultNumber}
 use Rattle.bed_read.specs.Says.{readSays}
 use Rattle.standardise.specs.Standardised.{standardiseSays}
 use Rattle.read_standardised.specs.declared.AnswersInTurn.{AnswersInTurn}
@@ -10,13 +11,9 @@ use Rattle.read_standardised.specs.declared.JoinedAnswer.the-variants as
 
 abbrev pub joinedSays : JoinedAnswer → Answer
 joinedSays answers.Done = done []
-joinedSays answers.CountTooLarge = refused 18 []
 joinedSays answers.IndexMismatch = refused 15 []
 joinedSays answers.StatsMismatch = refused 17 []
-joinedSays answers.ReadError = refused 1 []
-joinedSays answers.IllFormed = refused 2 []
-joinedSays answers.BadMode = refused 3 []
-joinedSays answers.IndexesTooBigForFiles = refused 4 []
+joinedSays (answers.Refused fault) = refused (faultNumber fault) []
 joinedSays (answers.IidIndexTooBig e) = refused 5 (e ∷ [])
 joinedSays (answers.SidIndexTooBig e) = refused 6 (e ∷ [])
 joinedSays (answers.NoIndividuals m) = refused 13 (pos m ∷ [])

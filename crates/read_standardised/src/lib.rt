@@ -7,19 +7,16 @@ ghost use Rattle.standardise.specs.Standardised.{standardiseSays};
 ghost use Rattle.read_standardised.specs.Says.{joinedSays, inTurnSays};
 ghost use Rattle.read_standardised.specs.Joined.{joinedAnswer, joinedStats, joinedValues};
 ghost use Rattle.read_standardised.specs.Ways.{inTurn, answersOf, valuesOf, statsOf};
+use bed_file::FileFault;
 use bed_read::ReadAnswer;
 use standardise::StandardiseAnswer;
 
 // What the joined call answers; 5 and 6 carry the entry, 13 and 14 the place in the marker list.
 pub enum JoinedAnswer {
     Done,
-    CountTooLarge,
     IndexMismatch,
     StatsMismatch,
-    ReadError,
-    IllFormed,
-    BadMode,
-    IndexesTooBigForFiles,
+    Refused(FileFault),
     IidIndexTooBig(i64),
     SidIndexTooBig(i64),
     NoIndividuals(usize),
@@ -32,12 +29,8 @@ fn of_reading(answer: ReadAnswer) -> JoinedAnswer
 {
     match answer {
         ReadAnswer::Done => JoinedAnswer::Done,
-        ReadAnswer::CountTooLarge => JoinedAnswer::CountTooLarge,
         ReadAnswer::IndexMismatch => JoinedAnswer::IndexMismatch,
-        ReadAnswer::ReadError => JoinedAnswer::ReadError,
-        ReadAnswer::IllFormed => JoinedAnswer::IllFormed,
-        ReadAnswer::BadMode => JoinedAnswer::BadMode,
-        ReadAnswer::IndexesTooBigForFiles => JoinedAnswer::IndexesTooBigForFiles,
+        ReadAnswer::Refused(fault) => JoinedAnswer::Refused(fault),
         ReadAnswer::IidIndexTooBig(e) => JoinedAnswer::IidIndexTooBig(e),
         ReadAnswer::SidIndexTooBig(e) => JoinedAnswer::SidIndexTooBig(e),
     }
@@ -49,7 +42,7 @@ fn of_standardising(answer: StandardiseAnswer) -> JoinedAnswer
 {
     match answer {
         StandardiseAnswer::Done => JoinedAnswer::Done,
-        StandardiseAnswer::CountTooLarge => JoinedAnswer::CountTooLarge,
+        StandardiseAnswer::CountTooLarge => JoinedAnswer::Refused(FileFault::CountTooLarge),
         StandardiseAnswer::IndexMismatch => JoinedAnswer::IndexMismatch,
         StandardiseAnswer::StatsMismatch => JoinedAnswer::StatsMismatch,
         StandardiseAnswer::NoIndividuals(m) => JoinedAnswer::NoIndividuals(m),
@@ -62,13 +55,9 @@ fn is_done(answer: JoinedAnswer) -> bool
 {
     match answer {
         JoinedAnswer::Done => true,
-        JoinedAnswer::CountTooLarge => false,
         JoinedAnswer::IndexMismatch => false,
         JoinedAnswer::StatsMismatch => false,
-        JoinedAnswer::ReadError => false,
-        JoinedAnswer::IllFormed => false,
-        JoinedAnswer::BadMode => false,
-        JoinedAnswer::IndexesTooBigForFiles => false,
+        JoinedAnswer::Refused(_) => false,
         JoinedAnswer::IidIndexTooBig(_) => false,
         JoinedAnswer::SidIndexTooBig(_) => false,
         JoinedAnswer::NoIndividuals(_) => false,
@@ -93,10 +82,10 @@ pub fn read_standardised_f64(
         × (now (stats .exit) ≡ joinedStats binary64 (now (file .entry)) «iid_count» «sid_count» «is_a1_counted» (now («iid_index» .entry)) (now («sid_index» .entry)) «animal_order» (now (val .entry)) (now (stats .entry))) ⌝ }
 {
     if iid_count > 9223372036854775807 {
-        return JoinedAnswer::CountTooLarge;
+        return JoinedAnswer::Refused(FileFault::CountTooLarge);
     }
     if sid_count > 9223372036854775807 {
-        return JoinedAnswer::CountTooLarge;
+        return JoinedAnswer::Refused(FileFault::CountTooLarge);
     }
     if !genotype::blocks::product_is(iid_index.len(), sid_index.len(), val.len()) {
         return JoinedAnswer::IndexMismatch;

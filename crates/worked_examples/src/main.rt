@@ -67,12 +67,8 @@ fn say_floats(values: &[f64]) {
 fn read_number(a: ReadAnswer) -> u64 {
     match a {
         ReadAnswer::Done => 0,
-        ReadAnswer::CountTooLarge => 18,
         ReadAnswer::IndexMismatch => 15,
-        ReadAnswer::ReadError => 1,
-        ReadAnswer::IllFormed => 2,
-        ReadAnswer::BadMode => 3,
-        ReadAnswer::IndexesTooBigForFiles => 4,
+        ReadAnswer::Refused(fault) => bed_file::fault_number(fault),
         ReadAnswer::IidIndexTooBig(_) => 5,
         ReadAnswer::SidIndexTooBig(_) => 6,
     }

@@ -1,6 +1,10 @@
 -- `of_canonical`, case by case.
+use mathlib.Core.Path.{ap, _∙_}
+use Prim.Native.Nat.{ℕ}
+use lib.IntN.{pos}
 use Rattle.canonical.specs.Says.{canonicalSays}
 use Rattle.bed_answer.specs.Interface.{bedAnswer, numberOf, valuesOf}
+use Rattle.bed_answer.specs.Inner.{threeOf}
 use Rattle.bed_answer.proofs.AnswerLaws.{told}
 use borrow.Author.Needs.{needs}
 use Rattle.bed_answer.proofs.of_canonical.Statement.{statement}
@@ -12,41 +16,20 @@ enum-told c = search needs
 bare-requires : tie.Need-bare-requires
 bare-requires c κs = search needs
 
-enum-told-2 : tie.Need-enum-told-2
-enum-told-2 c = search needs
+enum-known-answer : tie.Need-enum-known-answer
+enum-known-answer c = search needs
+
+fault-number-requires : tie.Need-fault-number-requires
+fault-number-requires c κs = search needs
 
 bare-requires-2 : tie.Need-bare-requires-2
 bare-requires-2 c κs = search needs
 
-enum-told-3 : tie.Need-enum-told-3
-enum-told-3 c = search needs
+enum-told-2 : tie.Need-enum-told-2
+enum-told-2 c = search needs
 
 bare-requires-3 : tie.Need-bare-requires-3
 bare-requires-3 c κs = search needs
-
-enum-told-4 : tie.Need-enum-told-4
-enum-told-4 c = search needs
-
-bare-requires-4 : tie.Need-bare-requires-4
-bare-requires-4 c κs = search needs
-
-enum-told-5 : tie.Need-enum-told-5
-enum-told-5 c = search needs
-
-bare-requires-5 : tie.Need-bare-requires-5
-bare-requires-5 c κs = search needs
-
-enum-told-6 : tie.Need-enum-told-6
-enum-told-6 c = search needs
-
-bare-requires-6 : tie.Need-bare-requires-6
-bare-requires-6 c κs = search needs
-
-enum-told-7 : tie.Need-enum-told-7
-enum-told-7 c = search needs
-
-bare-requires-7 : tie.Need-bare-requires-7
-bare-requires-7 c κs = search needs
 
 returns : tie.Need-returns
 unfolding bedAnswer numberOf valuesOf
@@ -54,27 +37,11 @@ returns c = told canonicalSays _ (c .bare .ensures) (c .before .enum-told .given
 
 returns-2 : tie.Need-returns-2
 unfolding bedAnswer numberOf valuesOf
-returns-2 c = told canonicalSays _ (c .bare2 .ensures) (c .before .enum-told2 .given .1)
+returns-2 c = told canonicalSays _ (c .bare2 .ensures ∙ ap (λ (n : ℕ). threeOf n (pos 0) (pos 0)) (c .before .fault-number .ensures)) (c .before .before .before .answer .given .1)
 
 returns-3 : tie.Need-returns-3
 unfolding bedAnswer numberOf valuesOf
-returns-3 c = told canonicalSays _ (c .bare3 .ensures) (c .before .enum-told3 .given .1)
-
-returns-4 : tie.Need-returns-4
-unfolding bedAnswer numberOf valuesOf
-returns-4 c = told canonicalSays _ (c .bare4 .ensures) (c .before .enum-told4 .given .1)
-
-returns-5 : tie.Need-returns-5
-unfolding bedAnswer numberOf valuesOf
-returns-5 c = told canonicalSays _ (c .bare5 .ensures) (c .before .enum-told5 .given .1)
-
-returns-6 : tie.Need-returns-6
-unfolding bedAnswer numberOf valuesOf
-returns-6 c = told canonicalSays _ (c .bare6 .ensures) (c .before .enum-told6 .given .1)
-
-returns-7 : tie.Need-returns-7
-unfolding bedAnswer numberOf valuesOf
-returns-7 c = told canonicalSays _ (c .bare7 .ensures) (c .before .enum-told7 .given .1)
+returns-3 c = told canonicalSays _ (c .bare3 .ensures) (c .before .enum-told2 .given .1)
 
 pub of-canonical-spec : {M : Type 1} → statement M
 of-canonical-spec =
@@ -82,22 +49,11 @@ of-canonical-spec =
     (tie.spec
     enum-told
     bare-requires
-    enum-told-2
+    enum-known-answer
+    fault-number-requires
     bare-requires-2
-    enum-told-3
+    enum-told-2
     bare-requires-3
-    enum-told-4
-    bare-requires-4
-    enum-told-5
-    bare-requires-5
-    enum-told-6
-    bare-requires-6
-    enum-told-7
-    bare-requires-7
     returns
     returns-2
-    returns-3
-    returns-4
-    returns-5
-    returns-6
-    returns-7)
+    returns-3)

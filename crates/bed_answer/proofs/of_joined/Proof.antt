@@ -1,12 +1,13 @@
 -- `of_joined`, case by case.
 use mathlib.Core.Path.{ap, _∙_}
+use Prim.Native.Nat.{ℕ}
 use lib.IntN.{ℤ, pos}
 use mir.Syntax.{w64}
 use mir.ValLaws.{toZ-ofZ}
 use Rattle.read_standardised.specs.Says.{joinedSays}
 use Rattle.bed_answer.specs.Interface.{bedAnswer, numberOf, valuesOf, clip, carriesEntry, clipAnswer}
 use Rattle.bed_answer.specs.Inner.{threeOf}
-use Rattle.bed_answer.proofs.AnswerLaws.{told}
+use Rattle.bed_answer.proofs.AnswerLaws.{told, bare-clipped}
 use borrow.Author.Needs.{needs}
 use Rattle.bed_answer.proofs.of_joined.Statement.{statement}
 use Rattle.bed_answer.proofs.of_joined.Tie as tie
@@ -29,56 +30,35 @@ enum-told-3 c = search needs
 bare-requires-3 : tie.Need-bare-requires-3
 bare-requires-3 c κs = search needs
 
-enum-told-4 : tie.Need-enum-told-4
-enum-told-4 c = search needs
+enum-known-answer : tie.Need-enum-known-answer
+enum-known-answer c = search needs
+
+fault-number-requires : tie.Need-fault-number-requires
+fault-number-requires c κs = search needs
 
 bare-requires-4 : tie.Need-bare-requires-4
 bare-requires-4 c κs = search needs
 
-enum-told-5 : tie.Need-enum-told-5
-enum-told-5 c = search needs
-
-bare-requires-5 : tie.Need-bare-requires-5
-bare-requires-5 c κs = search needs
-
-enum-told-6 : tie.Need-enum-told-6
-enum-told-6 c = search needs
-
-bare-requires-6 : tie.Need-bare-requires-6
-bare-requires-6 c κs = search needs
-
-enum-told-7 : tie.Need-enum-told-7
-enum-told-7 c = search needs
-
-bare-requires-7 : tie.Need-bare-requires-7
-bare-requires-7 c κs = search needs
-
-enum-told-8 : tie.Need-enum-told-8
-enum-told-8 c = search needs
-
-bare-requires-8 : tie.Need-bare-requires-8
-bare-requires-8 c κs = search needs
-
-enum-known-answer : tie.Need-enum-known-answer
-enum-known-answer c = search needs
+enum-known-answer-2 : tie.Need-enum-known-answer-2
+enum-known-answer-2 c = search needs
 
 entry-requires : tie.Need-entry-requires
 entry-requires c κs = search needs
 
-enum-known-answer-2 : tie.Need-enum-known-answer-2
-enum-known-answer-2 c = search needs
+enum-known-answer-3 : tie.Need-enum-known-answer-3
+enum-known-answer-3 c = search needs
 
 entry-requires-2 : tie.Need-entry-requires-2
 entry-requires-2 c κs = search needs
 
-enum-known-answer-3 : tie.Need-enum-known-answer-3
-enum-known-answer-3 c = search needs
+enum-known-answer-4 : tie.Need-enum-known-answer-4
+enum-known-answer-4 c = search needs
 
 one-requires : tie.Need-one-requires
 one-requires c κs = search needs
 
-enum-known-answer-4 : tie.Need-enum-known-answer-4
-enum-known-answer-4 c = search needs
+enum-known-answer-5 : tie.Need-enum-known-answer-5
+enum-known-answer-5 c = search needs
 
 one-requires-2 : tie.Need-one-requires-2
 one-requires-2 c κs = search needs
@@ -97,39 +77,23 @@ returns-3 c = told (λ a. clipAnswer (joinedSays a)) _ (c .bare3 .ensures) (c .b
 
 returns-4 : tie.Need-returns-4
 unfolding bedAnswer numberOf valuesOf clipAnswer clip carriesEntry
-returns-4 c = told (λ a. clipAnswer (joinedSays a)) _ (c .bare4 .ensures) (c .before .enum-told4 .given .1)
+returns-4 c = told (λ a. clipAnswer (joinedSays a)) _ (c .bare4 .ensures ∙ ap (λ (n : ℕ). threeOf n (pos 0) (pos 0)) (c .before .fault-number .ensures) ∙ bare-clipped _) (c .before .before .before .answer .given .1)
 
 returns-5 : tie.Need-returns-5
 unfolding bedAnswer numberOf valuesOf clipAnswer clip carriesEntry
-returns-5 c = told (λ a. clipAnswer (joinedSays a)) _ (c .bare5 .ensures) (c .before .enum-told5 .given .1)
+returns-5 c = told (λ a. clipAnswer (joinedSays a)) _ (c .entry .ensures ∙ ap (λ (e : ℤ). threeOf 5 e (pos 0)) (toZ-ofZ w64 (c .before .before .answer2 .given .0 .0) (record { sfits = c .before .known-told2 .given .0 .1 }))) (c .before .before .answer2 .given .1)
 
 returns-6 : tie.Need-returns-6
 unfolding bedAnswer numberOf valuesOf clipAnswer clip carriesEntry
-returns-6 c = told (λ a. clipAnswer (joinedSays a)) _ (c .bare6 .ensures) (c .before .enum-told6 .given .1)
+returns-6 c = told (λ a. clipAnswer (joinedSays a)) _ (c .entry2 .ensures ∙ ap (λ (e : ℤ). threeOf 6 e (pos 0)) (toZ-ofZ w64 (c .before .before .answer3 .given .0 .0) (record { sfits = c .before .known-told3 .given .0 .1 }))) (c .before .before .answer3 .given .1)
 
 returns-7 : tie.Need-returns-7
 unfolding bedAnswer numberOf valuesOf clipAnswer clip carriesEntry
-returns-7 c = told (λ a. clipAnswer (joinedSays a)) _ (c .bare7 .ensures) (c .before .enum-told7 .given .1)
+returns-7 c = told (λ a. clipAnswer (joinedSays a)) _ (c .one .ensures) (c .before .before .answer4 .given .1)
 
 returns-8 : tie.Need-returns-8
 unfolding bedAnswer numberOf valuesOf clipAnswer clip carriesEntry
-returns-8 c = told (λ a. clipAnswer (joinedSays a)) _ (c .bare8 .ensures) (c .before .enum-told8 .given .1)
-
-returns-9 : tie.Need-returns-9
-unfolding bedAnswer numberOf valuesOf clipAnswer clip carriesEntry
-returns-9 c = told (λ a. clipAnswer (joinedSays a)) _ (c .entry .ensures ∙ ap (λ (e : ℤ). threeOf 5 e (pos 0)) (toZ-ofZ w64 (c .before .before .answer .given .0 .0) (record { sfits = c .before .known-told .given .0 .1 }))) (c .before .before .answer .given .1)
-
-returns-10 : tie.Need-returns-10
-unfolding bedAnswer numberOf valuesOf clipAnswer clip carriesEntry
-returns-10 c = told (λ a. clipAnswer (joinedSays a)) _ (c .entry2 .ensures ∙ ap (λ (e : ℤ). threeOf 6 e (pos 0)) (toZ-ofZ w64 (c .before .before .answer2 .given .0 .0) (record { sfits = c .before .known-told2 .given .0 .1 }))) (c .before .before .answer2 .given .1)
-
-returns-11 : tie.Need-returns-11
-unfolding bedAnswer numberOf valuesOf clipAnswer clip carriesEntry
-returns-11 c = told (λ a. clipAnswer (joinedSays a)) _ (c .one .ensures) (c .before .before .answer3 .given .1)
-
-returns-12 : tie.Need-returns-12
-unfolding bedAnswer numberOf valuesOf clipAnswer clip carriesEntry
-returns-12 c = told (λ a. clipAnswer (joinedSays a)) _ (c .one2 .ensures) (c .before .before .answer4 .given .1)
+returns-8 c = told (λ a. clipAnswer (joinedSays a)) _ (c .one2 .ensures) (c .before .before .answer5 .given .1)
 
 pub of-joined-spec : {M : Type 1} → statement M
 of-joined-spec =
@@ -141,23 +105,16 @@ of-joined-spec =
     bare-requires-2
     enum-told-3
     bare-requires-3
-    enum-told-4
-    bare-requires-4
-    enum-told-5
-    bare-requires-5
-    enum-told-6
-    bare-requires-6
-    enum-told-7
-    bare-requires-7
-    enum-told-8
-    bare-requires-8
     enum-known-answer
-    entry-requires
+    fault-number-requires
+    bare-requires-4
     enum-known-answer-2
-    entry-requires-2
+    entry-requires
     enum-known-answer-3
-    one-requires
+    entry-requires-2
     enum-known-answer-4
+    one-requires
+    enum-known-answer-5
     one-requires-2
     returns
     returns-2
@@ -166,8 +123,4 @@ of-joined-spec =
     returns-5
     returns-6
     returns-7
-    returns-8
-    returns-9
-    returns-10
-    returns-11
-    returns-12)
+    returns-8)

@@ -1,5 +1,6 @@
 -- `of_read`, case by case.
 use mathlib.Core.Path.{ap, _∙_}
+use Prim.Native.Nat.{ℕ}
 use lib.IntN.{ℤ, pos}
 use mir.Syntax.{w64}
 use mir.ValLaws.{toZ-ofZ}
@@ -23,44 +24,23 @@ enum-told-2 c = search needs
 bare-requires-2 : tie.Need-bare-requires-2
 bare-requires-2 c κs = search needs
 
-enum-told-3 : tie.Need-enum-told-3
-enum-told-3 c = search needs
+enum-known-answer : tie.Need-enum-known-answer
+enum-known-answer c = search needs
+
+fault-number-requires : tie.Need-fault-number-requires
+fault-number-requires c κs = search needs
 
 bare-requires-3 : tie.Need-bare-requires-3
 bare-requires-3 c κs = search needs
 
-enum-told-4 : tie.Need-enum-told-4
-enum-told-4 c = search needs
-
-bare-requires-4 : tie.Need-bare-requires-4
-bare-requires-4 c κs = search needs
-
-enum-told-5 : tie.Need-enum-told-5
-enum-told-5 c = search needs
-
-bare-requires-5 : tie.Need-bare-requires-5
-bare-requires-5 c κs = search needs
-
-enum-told-6 : tie.Need-enum-told-6
-enum-told-6 c = search needs
-
-bare-requires-6 : tie.Need-bare-requires-6
-bare-requires-6 c κs = search needs
-
-enum-told-7 : tie.Need-enum-told-7
-enum-told-7 c = search needs
-
-bare-requires-7 : tie.Need-bare-requires-7
-bare-requires-7 c κs = search needs
-
-enum-known-answer : tie.Need-enum-known-answer
-enum-known-answer c = search needs
+enum-known-answer-2 : tie.Need-enum-known-answer-2
+enum-known-answer-2 c = search needs
 
 entry-requires : tie.Need-entry-requires
 entry-requires c κs = search needs
 
-enum-known-answer-2 : tie.Need-enum-known-answer-2
-enum-known-answer-2 c = search needs
+enum-known-answer-3 : tie.Need-enum-known-answer-3
+enum-known-answer-3 c = search needs
 
 entry-requires-2 : tie.Need-entry-requires-2
 entry-requires-2 c κs = search needs
@@ -75,31 +55,15 @@ returns-2 c = told readSays _ (c .bare2 .ensures) (c .before .enum-told2 .given 
 
 returns-3 : tie.Need-returns-3
 unfolding bedAnswer numberOf valuesOf
-returns-3 c = told readSays _ (c .bare3 .ensures) (c .before .enum-told3 .given .1)
+returns-3 c = told readSays _ (c .bare3 .ensures ∙ ap (λ (n : ℕ). threeOf n (pos 0) (pos 0)) (c .before .fault-number .ensures)) (c .before .before .before .answer .given .1)
 
 returns-4 : tie.Need-returns-4
 unfolding bedAnswer numberOf valuesOf
-returns-4 c = told readSays _ (c .bare4 .ensures) (c .before .enum-told4 .given .1)
+returns-4 c = told readSays _ (c .entry .ensures ∙ ap (λ (e : ℤ). threeOf 5 e (pos 0)) (toZ-ofZ w64 (c .before .before .answer2 .given .0 .0) (record { sfits = c .before .known-told2 .given .0 .1 }))) (c .before .before .answer2 .given .1)
 
 returns-5 : tie.Need-returns-5
 unfolding bedAnswer numberOf valuesOf
-returns-5 c = told readSays _ (c .bare5 .ensures) (c .before .enum-told5 .given .1)
-
-returns-6 : tie.Need-returns-6
-unfolding bedAnswer numberOf valuesOf
-returns-6 c = told readSays _ (c .bare6 .ensures) (c .before .enum-told6 .given .1)
-
-returns-7 : tie.Need-returns-7
-unfolding bedAnswer numberOf valuesOf
-returns-7 c = told readSays _ (c .bare7 .ensures) (c .before .enum-told7 .given .1)
-
-returns-8 : tie.Need-returns-8
-unfolding bedAnswer numberOf valuesOf
-returns-8 c = told readSays _ (c .entry .ensures ∙ ap (λ (e : ℤ). threeOf 5 e (pos 0)) (toZ-ofZ w64 (c .before .before .answer .given .0 .0) (record { sfits = c .before .known-told .given .0 .1 }))) (c .before .before .answer .given .1)
-
-returns-9 : tie.Need-returns-9
-unfolding bedAnswer numberOf valuesOf
-returns-9 c = told readSays _ (c .entry2 .ensures ∙ ap (λ (e : ℤ). threeOf 6 e (pos 0)) (toZ-ofZ w64 (c .before .before .answer2 .given .0 .0) (record { sfits = c .before .known-told2 .given .0 .1 }))) (c .before .before .answer2 .given .1)
+returns-5 c = told readSays _ (c .entry2 .ensures ∙ ap (λ (e : ℤ). threeOf 6 e (pos 0)) (toZ-ofZ w64 (c .before .before .answer3 .given .0 .0) (record { sfits = c .before .known-told3 .given .0 .1 }))) (c .before .before .answer3 .given .1)
 
 pub of-read-spec : {M : Type 1} → statement M
 of-read-spec =
@@ -109,26 +73,15 @@ of-read-spec =
     bare-requires
     enum-told-2
     bare-requires-2
-    enum-told-3
-    bare-requires-3
-    enum-told-4
-    bare-requires-4
-    enum-told-5
-    bare-requires-5
-    enum-told-6
-    bare-requires-6
-    enum-told-7
-    bare-requires-7
     enum-known-answer
-    entry-requires
+    fault-number-requires
+    bare-requires-3
     enum-known-answer-2
+    entry-requires
+    enum-known-answer-3
     entry-requires-2
     returns
     returns-2
     returns-3
     returns-4
-    returns-5
-    returns-6
-    returns-7
-    returns-8
-    returns-9)
+    returns-5)

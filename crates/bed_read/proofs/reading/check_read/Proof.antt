@@ -24,20 +24,8 @@ enum-told c = search needs
 check-lists-requires : tie.Need-check-lists-requires
 check-lists-requires c κs = search needs
 
-enum-told-2 : tie.Need-enum-told-2
-enum-told-2 c = search needs
-
-enum-told-3 : tie.Need-enum-told-3
-enum-told-3 c = search needs
-
-enum-told-4 : tie.Need-enum-told-4
-enum-told-4 c = search needs
-
-enum-told-5 : tie.Need-enum-told-5
-enum-told-5 c = search needs
-
-enum-told-6 : tie.Need-enum-told-6
-enum-told-6 c = search needs
+enum-known-fault : tie.Need-enum-known-fault
+enum-known-fault c = search needs
 
 returns-3 : tie.Need-returns-3
 returns-3 c =
@@ -45,22 +33,13 @@ returns-3 c =
     read-lists _ _ _ _ _ _ (s .before .before .before .before .before .if1 .left) (s .before .before .before .before .if2 .left) _ (s .before .before .before .product-is .ensures) (s .before .before .if3 .taken) _ (sym (ap acceptSays (c .before .enum-told .given .1)) ∙ s .before .accept .ensures) (c .check-lists .ensures)
 
 returns-4 : tie.Need-returns-4
-returns-4 c = read-not-accepted _ _ _ _ _ _ (c .before .before .before .before .before .before .if1 .left) (c .before .before .before .before .before .if2 .left) _ (c .before .before .before .before .product-is .ensures) (c .before .before .before .if3 .taken) 18 (sym (ap acceptSays (c .enum-told2 .given .1)) ∙ c .before .before .accept .ensures)
+returns-4 c =
+    let s = c .before .before .before in
+    read-not-accepted _ _ _ _ _ _ (s .before .before .before .before .if1 .left) (s .before .before .before .if2 .left) _ (s .before .before .product-is .ensures) (s .before .if3 .taken) _
+    (sym (ap acceptSays (c .before .fault .given .1)) ∙ s .accept .ensures)
 
 returns-5 : tie.Need-returns-5
-returns-5 c = read-not-accepted _ _ _ _ _ _ (c .before .before .before .before .before .before .if1 .left) (c .before .before .before .before .before .if2 .left) _ (c .before .before .before .before .product-is .ensures) (c .before .before .before .if3 .taken) 1 (sym (ap acceptSays (c .enum-told3 .given .1)) ∙ c .before .before .accept .ensures)
-
-returns-6 : tie.Need-returns-6
-returns-6 c = read-not-accepted _ _ _ _ _ _ (c .before .before .before .before .before .before .if1 .left) (c .before .before .before .before .before .if2 .left) _ (c .before .before .before .before .product-is .ensures) (c .before .before .before .if3 .taken) 2 (sym (ap acceptSays (c .enum-told4 .given .1)) ∙ c .before .before .accept .ensures)
-
-returns-7 : tie.Need-returns-7
-returns-7 c = read-not-accepted _ _ _ _ _ _ (c .before .before .before .before .before .before .if1 .left) (c .before .before .before .before .before .if2 .left) _ (c .before .before .before .before .product-is .ensures) (c .before .before .before .if3 .taken) 3 (sym (ap acceptSays (c .enum-told5 .given .1)) ∙ c .before .before .accept .ensures)
-
-returns-8 : tie.Need-returns-8
-returns-8 c = read-not-accepted _ _ _ _ _ _ (c .before .before .before .before .before .before .if1 .left) (c .before .before .before .before .before .if2 .left) _ (c .before .before .before .before .product-is .ensures) (c .before .before .before .if3 .taken) 4 (sym (ap acceptSays (c .enum-told6 .given .1)) ∙ c .before .before .accept .ensures)
-
-returns-9 : tie.Need-returns-9
-returns-9 c = read-mismatch _ _ _ _ _ _ (c .before .before .before .if1 .left) (c .before .before .if2 .left) _ (c .before .product-is .ensures) (c .if3 .left)
+returns-5 c = read-mismatch _ _ _ _ _ _ (c .before .before .before .if1 .left) (c .before .before .if2 .left) _ (c .before .product-is .ensures) (c .if3 .left)
 
 pub check-read-spec : {M : Type 1} → statement M
 check-read-spec =
@@ -72,15 +51,7 @@ check-read-spec =
     accept-requires
     enum-told
     check-lists-requires
-    enum-told-2
-    enum-told-3
-    enum-told-4
-    enum-told-5
-    enum-told-6
+    enum-known-fault
     returns-3
     returns-4
-    returns-5
-    returns-6
-    returns-7
-    returns-8
-    returns-9)
+    returns-5)
