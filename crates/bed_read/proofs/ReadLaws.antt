@@ -4,7 +4,7 @@ use mathlib.Core.Bool.{Bool, true, false}
 use mathlib.Core.List.{List, [], _∷_}
 use mathlib.Core.Option.{some, none}
 use Prim.Native.Nat.{ℕ, _*_, _^_, _<_, _≤_}
-use borrow.Author.Tests.{eqb-true}
+use borrow.Author.Tests.{eq-eqb, eqb-true}
 use lib.Dec.{eqb}
 use lib.IntN.{ℤ}
 use lib.ListN.{length}
@@ -114,6 +114,16 @@ module _ (iids sids : ℕ) (il sl : List ℤ) where
       by-stage (lets f) =
           let g = lists-done (done []) (ap isDone (f (done []))) in f later ∙ e (g .0) (g .1) ∙ sym (f later′)
       by-stage (refuses n vs f) = f later ∙ sym (f later′)
+
+-- an accepted file is read with good lists into a buffer of the right length
+pub read-good :
+    (file : List ℕ) (iids sids : ℕ) (il sl : List ℤ) (valLength : ℕ) → isDone (acceptAnswer file iids sids) ≡ true
+    → length il * length sl ≡ valLength → firstBad iids il ≡ none → firstBad sids sl ≡ none → readAnswer file iids sids il sl valLength ≡ done []
+unfolding checkLists
+read-good file iids sids il sl valLength d e gi gs =
+    read-accepted file iids sids il sl valLength d
+    ∙ check-passes (eqb (length il * length sl) valLength) 15 _ (eq-eqb (length il * length sl) valLength e)
+    ∙ entry-passes (firstBad iids il) 5 _ gi ∙ entry-passes (firstBad sids sl) 6 _ gs
 
 -- ---- what is known where reading is done
 pub record Readable (file : List ℕ) (iids sids : ℕ) (il sl : List ℤ) (valLength : ℕ) : Type 0 where

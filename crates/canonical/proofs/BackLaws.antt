@@ -24,9 +24,10 @@ use Rattle.genotype.proofs.Tabulate.{length-tabulate, getD-tabulate, getD-insid
 use Rattle.genotype.proofs.Tests.{by-lt}
 use Rattle.bed_file.specs.File.{isMode1, items, blocks, checkMode, checkLength, checkFile, acceptAnswer}
 use Rattle.bed_read.specs.Calls.{codeIn, callCode}
-use Rattle.bed_read.specs.Reading.{checkLists, readAnswer, readCode, codesRead, valuesRead, readBuffer}
-use Rattle.bed_file.proofs.FileLaws.{Accepted, accepted, open-good}
+use Rattle.bed_read.specs.Reading.{readAnswer, readCode, codesRead, valuesRead, readBuffer}
+use Rattle.bed_file.proofs.FileLaws.{open-good}
 use Rattle.bed_read.proofs.CallLaws.{code-in-byte}
+use Rattle.bed_read.proofs.ReadLaws.{read-good}
 use Rattle.bed_write.specs.Writing.{bedFile}
 use Rattle.canonical.specs.Canonical.{fileOrder}
 use Rattle.bed_write.proofs.BedLaws.{bed-length, bed-byte}
@@ -80,7 +81,7 @@ module _ (iids sids : ℕ) (code : ℕ → ℕ → ℕ) (small : (a m : ℕ) →
       ∙ check-passes (eqb (length file) (fileLength iids sids)) 2 (done []) (eq-eqb (length file) (fileLength iids sids) l)
 
 -- ---- everything, in file order
-order-length : (n : ℕ) → length (fileOrder n) ≡ n
+pub order-length : (n : ℕ) → length (fileOrder n) ≡ n
 unfolding fileOrder
 order-length n = length-tabulate n pos
 
@@ -88,36 +89,23 @@ order-at : (n k : ℕ) → k < n → getD (fileOrder n) k (pos 0) ≡ pos k
 unfolding fileOrder
 order-at n k h = getD-tabulate n pos k (pos 0) h
 
-order-good : (n : ℕ) → firstBad n (fileOrder n) ≡ none
+pub order-good : (n : ℕ) → firstBad n (fileOrder n) ≡ none
 unfolding isGood
 order-good n =
     none-bad n (fileOrder n)
     (λ k h. let l = order-length n in let b : k < n = omega arith in ap (isGood n) (order-at n k b) ∙ lt-ltb k n b)
 
-order-means : (n k : ℕ) → k < n → means n (getD (fileOrder n) k (pos 0)) ≡ k
+pub order-means : (n k : ℕ) → k < n → means n (getD (fileOrder n) k (pos 0)) ≡ k
 unfolding means
 order-means n k h = ap (means n) (order-at n k h)
 
 module _ (file : List ℕ) (iids sids : ℕ) (d : isDone (acceptAnswer file iids sids) ≡ true) where
-  acc : Accepted file iids sids
-  acc = accepted file iids sids d
-
   -- reading everything is not refused
   pub all-answer : (len : ℕ) → len ≡ iids * sids → readAnswer file iids sids (fileOrder iids) (fileOrder sids) len ≡ done []
-  unfolding readAnswer checkLists
   all-answer len e =
-      let li = order-length iids in
-      let ls = order-length sids in
-      let p : length (fileOrder iids) * length (fileOrder sids) ≡ len = ap (λ (n : ℕ). n * length (fileOrder sids)) li ∙ ap (λ (n : ℕ). iids * n) ls ∙ sym e in
-      count-passes iids _ (acc .iids-fit)
-      ∙ count-passes sids _ (acc .sids-fit)
-      ∙ check-passes (eqb (length (fileOrder iids) * length (fileOrder sids)) len) 15 _ (eq-eqb (length (fileOrder iids) * length (fileOrder sids)) len p)
-      ∙ acc .heard-later _
-      ∙ by-mode (isMode1 file)
-    where
-      by-mode : (m : Bool) → checkLists m iids sids (fileOrder iids) (fileOrder sids) (done []) ≡ done []
-      by-mode true = simp (order-good iids, order-good sids)
-      by-mode false = simp (order-good iids, order-good sids)
+      read-good file iids sids (fileOrder iids) (fileOrder sids) len d
+      (ap (λ (n : ℕ). n * length (fileOrder sids)) (order-length iids) ∙ ap (λ (n : ℕ). iids * n) (order-length sids) ∙ sym e)
+      (order-good iids) (order-good sids)
 
   module _ (w : Width) (flag : Bool) (missing : w .Value) (order : Bool) (buffer : List (w .Value)) (l : length buffer ≡ iids * sids) where
     abbrev read : List (w .Value)

@@ -18,12 +18,13 @@ use Rattle.standardise.specs.Standardised.{value}
 use Rattle.read_standardised.specs.Ways.{Way, answersOf, valuesOf, statsOf}
 use Rattle.demands.specs.Demand.{IsAccepted, CallsAgree, GoodList, meant, NamesEachOnce, RightLengths}
 use Rattle.demands.specs.Alike.{Alike, AlikeBuffers, OfFormat}
+use Rattle.canonical.proofs.BackLaws.{order-length, order-good}
 use Rattle.canonical.proofs.Theorems.{canonical-left, canonical-again, canonical-equal}
 use Rattle.demands.proofs.Alike.{same-is-alike, same-buffers-alike, alike-buffers-same}
 use Rattle.demands.proofs.SumLaws.{names-length, meant-below}
-use Rattle.demands.proofs.ReadLaws.{length-order, order-good}
 use Rattle.demands.proofs.LengthLaws.{values-length}
-use Rattle.demands.proofs.SideLaws.{reads, files-answers, files-values, files-stats, lists-answers, lists-values, lists-stats}
+use Rattle.demands.proofs.Agree.{agree-answers, agree-values, agree-stats}
+use Rattle.demands.proofs.SideLaws.{reads, lists-answers, lists-values, lists-stats}
 
 -- ---- 1. canonical files. "Its canonical file is the bytes that the canonical call leaves in a packed buffer of the right length"
 module _ (file : List ℕ) (iids sids : ℕ)
@@ -76,15 +77,15 @@ module _ (file other : List ℕ) (iids sids : ℕ)
 
   -- "Afterwards every place of the statistics buffer is alike"
   pub files-same-stats : statsOf binary64 file iids sids flag iidList sidList order val stats way ≡ statsOf binary64 other iids sids flag iidList sidList order val stats way
-  files-same-stats = files-stats binary64 file other iids sids flag iidList sidList order val stats acc acc′ gi gs len agree way
+  files-same-stats = agree-stats file other iids sids acc acc′ agree iidList sidList binary64 flag order val stats way
 
   -- "and the refusals are equal, with what they carry, or neither side refuses"
   pub files-same-answers : answersOf binary64 file iids sids flag iidList sidList order val stats way ≡ answersOf binary64 other iids sids flag iidList sidList order val stats way
-  files-same-answers = files-answers binary64 file other iids sids flag iidList sidList order val stats acc acc′ gi gs len agree way
+  files-same-answers = agree-answers file other iids sids acc acc′ agree iidList sidList binary64 flag order val stats way
 
   -- "Where the files differ every value is alike."
   pub files-same-values : valuesOf binary64 file iids sids flag iidList sidList order val stats way ≡ valuesOf binary64 other iids sids flag iidList sidList order val stats way
-  files-same-values = files-values binary64 file other iids sids flag iidList sidList order val stats acc acc′ gi gs len agree way
+  files-same-values = agree-values file other iids sids acc acc′ agree iidList sidList binary64 flag order val stats way
 
   -- the reading itself is done
   pub files-read : readAnswer file iids sids iidList sidList (length val) ≡ done []
@@ -130,12 +131,12 @@ module _ (file : List ℕ) (iids sids : ℕ)
   lists-inside k h = (
     values-length binary64 file iids sids flag iidList sidList order val stats acc (names .good-list) gs len way,
     values-length binary64 file iids sids flag (fileOrder iids) sidList order val stats acc (order-good iids) gs in-file-order way,
-    subst (λ (n : ℕ). meant iids iidList k < n) (sym (length-order iids)) (meant-below iids iidList names k h),
+    subst (λ (n : ℕ). meant iids iidList k < n) (sym (order-length iids)) (meant-below iids iidList names k h),
   )
     where
       in-file-order : RightLengths (fileOrder iids) sidList val stats
       in-file-order = record {
-        for-15 = ap (λ (n : ℕ). n * length sidList) (length-order iids ∙ sym (names-length iids iidList names)) ∙ len .for-15;
+        for-15 = ap (λ (n : ℕ). n * length sidList) (order-length iids ∙ sym (names-length iids iidList names)) ∙ len .for-15;
         for-17 = len .for-17;
       }
 

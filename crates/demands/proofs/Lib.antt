@@ -2,11 +2,14 @@
 pub mod ReadLaws
 pub mod SumLaws
 pub mod SideLaws
+pub mod Agree
+pub mod BadLists
 pub mod LengthLaws
 pub mod Alike
 pub mod Demand3
 pub mod Computed
 pub mod Demand3Examples
+pub mod BadListsExamples
 pub mod Worked
 pub mod PlinkFileLaws
 pub mod PlinkFile

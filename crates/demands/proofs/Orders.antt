@@ -30,7 +30,7 @@ use Rattle.statistics.specs.Statistics.{noValue, markerStats, foundFor}
 use Rattle.standardise.specs.Standardised.{markerAnswer, markersAnswer, value, found, lowestRefused, standardiseAnswer}
 use Rattle.product.specs.Piece.{ataAnswer, aatAnswer}
 use Rattle.read_standardised.specs.Joined.{joinedAnswer}
-use Rattle.demands.specs.SmallHerds.{F}
+use Rattle.demands.specs.SmallHerds.{F, inMode0}
 
 -- ---- reading: "18, 15, 1 (under 3 bytes), 2 (first two bytes), 3, 4, 2 (length), 5, 6"
 abbrev animal0 : List ℤ
@@ -75,6 +75,11 @@ length-before-lists = (refl, refl)
 pub reading-5-before-6 : (readAnswer F 5 2 bad bad 1 ≡ refused 5 (pos 9 ∷ [])) × (readAnswer F 5 2 animal0 bad 1 ≡ refused 6 (pos 9 ∷ []))
 unfolding readAnswer isMode1 items blocks blockWidth firstBad isGood
 reading-5-before-6 = (refl, refl)
+
+-- "in either mode"
+pub mode-0-5-before-6 : (readAnswer inMode0 5 2 bad bad 1 ≡ refused 5 (pos 9 ∷ [])) × (readAnswer inMode0 5 2 animal0 bad 1 ≡ refused 6 (pos 9 ∷ []))
+unfolding readAnswer isMode1 items blocks blockWidth firstBad isGood
+mode-0-5-before-6 = (refl, refl)
 
 -- ---- the canonical call: "the reading's checks without 15, 5 and 6, then 4 for the length to be written, then 16"
 pub canonical-18-before-1 : (canonicalAnswer [] (2 ^ 63) 2 0 ≡ refused 18 []) × (canonicalAnswer [] 5 2 0 ≡ refused 1 [])

@@ -1,49 +1,31 @@
 -- What reading leaves: by the calls of the file, and cell by cell. Over plain numbers and lists.
-use mathlib.Core.Path.{_≡_, refl, sym, ap, subst, _∙_}
-use mathlib.Core.Bool.{Bool, true, false, cond}
-use mathlib.Core.List.{List, [], _∷_, map}
-use mathlib.Core.Option.{some}
-use Prim.Native.Nat.{ℕ, suc, _*_, _<_}
-use native.Mathlib.Omega.{arith}
-use borrow.Author.Tests.{eq-eqb, lt-ltb}
-use lib.Dec.{eqb}
+use mathlib.Core.Path.{_≡_, sym, ap, subst, _∙_}
+use mathlib.Core.Bool.{Bool}
+use mathlib.Core.List.{List, [], map}
+use Prim.Native.Nat.{ℕ, _*_, _<_}
 use lib.IntN.{ℤ, pos}
 use lib.ListN.{length, getD}
 use lib.Ieee.{Float, nan}
 use Rattle.genotype.specs.Answer.{done, isDone}
-use Rattle.genotype.specs.Entry.{isGood, means, firstBad}
+use Rattle.genotype.specs.Entry.{means}
 use Rattle.genotype.specs.Matrix.{matrixPlace}
 use Rattle.genotype.specs.Value.{Width, float, valueOf}
-use Rattle.genotype.proofs.AnswerLaws.{check-passes, count-passes, entry-passes}
 use Rattle.genotype.proofs.EntryLaws.{means-below}
 use Rattle.genotype.proofs.SpanLaws.{all-good}
-use Rattle.genotype.proofs.Tabulate.{length-tabulate, getD-tabulate}
 use Rattle.genotype.proofs.MatrixLaws.{length-matrix, getD-matrix, matrix-ext, map-matrix}
-use Rattle.bed_file.specs.File.{isMode1}
 use Rattle.bed_read.specs.Calls.{callCode}
-use Rattle.bed_read.specs.Reading.{checkLists, readAnswer, readCode, codesRead, valuesRead}
-use Rattle.bed_file.proofs.FileLaws.{accepted}
+use Rattle.bed_read.specs.Reading.{readAnswer, readCode, codesRead, valuesRead}
+use Rattle.bed_read.proofs.ReadLaws.{read-good}
 use Rattle.statistics.specs.Calls.{IsCall}
 use Rattle.standardise.specs.Standardised.{value}
-use Rattle.canonical.specs.Canonical.{fileOrder}
-use Rattle.demands.specs.Demand.{IsAccepted, CallsAgree, GoodList, meant}
+use Rattle.demands.specs.Demand.{IsAccepted, CallsAgree, GoodList}
 use Rattle.standardise.proofs.Theorems.{decoded-call}
 
 -- ---- an accepted file is read, with good lists and a buffer of the right length
-lists-pass : (m : Bool) (iids sids : ℕ) (il sl : List ℤ) → GoodList iids il → GoodList sids sl → checkLists m iids sids il sl (done []) ≡ done []
-unfolding checkLists
-lists-pass true iids sids il sl gi gs = entry-passes (firstBad iids il) 5 _ gi ∙ entry-passes (firstBad sids sl) 6 _ gs
-lists-pass false iids sids il sl gi gs = entry-passes (firstBad sids sl) 5 _ gs ∙ entry-passes (firstBad iids il) 6 _ gi
-
-module _ (file : List ℕ) (iids sids : ℕ) (il sl : List ℤ) (acc : IsAccepted file iids sids) (gi : GoodList iids il) (gs : GoodList sids sl) where
-  pub read-done : (n : ℕ) → length il * length sl ≡ n → readAnswer file iids sids il sl n ≡ done []
-  unfolding readAnswer
-  read-done n e =
-      let a = accepted file iids sids (ap isDone acc) in
-      count-passes iids _ (a .iids-fit) ∙ count-passes sids _ (a .sids-fit)
-      ∙ check-passes (eqb (length il * length sl) n) 15 _ (eq-eqb (length il * length sl) n e)
-      ∙ a .heard-later (checkLists (isMode1 file) iids sids il sl (done []))
-      ∙ lists-pass (isMode1 file) iids sids il sl gi gs
+pub read-done :
+    (file : List ℕ) (iids sids : ℕ) (il sl : List ℤ) → IsAccepted file iids sids → GoodList iids il → GoodList sids sl
+    → (n : ℕ) → length il * length sl ≡ n → readAnswer file iids sids il sl n ≡ done []
+read-done file iids sids il sl acc gi gs n e = read-good file iids sids il sl n (ap isDone acc) e gi gs
 
 -- ---- files whose calls agree are read alike, at every width, flag, missing value and order
 module _ (file other : List ℕ) (iids sids : ℕ) (il sl : List ℤ) (gi : GoodList iids il) (gs : GoodList sids sl) (agree : CallsAgree file other iids sids) where
@@ -81,25 +63,3 @@ module _ (flag order : Bool) (file : List ℕ) (iids sids : ℕ) (il sl : List �
 
     pub call-read : IsCall (value order (length il) (length sl) read k m)
     call-read = subst IsCall (sym cell-read) (decoded-call flag (readCode file iids sids il sl k m))
-
--- ---- file order
-pub length-order : (count : ℕ) → length (fileOrder count) ≡ count
-unfolding fileOrder
-length-order count = length-tabulate count pos
-
-pub order-means : (count k : ℕ) → k < count → meant count (fileOrder count) k ≡ k
-unfolding fileOrder meant means
-order-means count k h = ap (means count) (getD-tabulate count pos k (pos 0) h)
-
-no-bad : (count : ℕ) (list : List ℤ) → ((k : ℕ) → k < length list → isGood count (getD list k (pos 0)) ≡ true) → GoodList count list
-unfolding firstBad
-no-bad count [] g = refl
-no-bad count (e ∷ es) g =
-    ap (λ (b : Bool). cond b (firstBad count es) (some e)) (g 0 (omega arith)) ∙ no-bad count es (λ k h. g (suc k) (omega arith))
-
-pub order-good : (count : ℕ) → GoodList count (fileOrder count)
-unfolding fileOrder isGood
-order-good count =
-    no-bad count (fileOrder count)
-    (λ k h. let l : k < count = subst (λ (n : ℕ). k < n) (length-order count) h in
-    ap (isGood count) (getD-tabulate count pos k (pos 0) l) ∙ lt-ltb k count l)

@@ -1,4 +1,4 @@
--- Two sides that differ only in the file, and two that differ only in the animal list. Over the format.
+-- Two sides that differ only in the animal list. Over the format.
 use mathlib.Core.Path.{_≡_, sym, ap, subst, _∙_}
 use mathlib.Core.Bool.{Bool, true, false}
 use mathlib.Core.List.{List, [], _∷_}
@@ -21,10 +21,11 @@ use Rattle.standardise.proofs.Theorems.{reordered-lowest, reordered-new-stats, 
 use Rattle.read_standardised.specs.Joined.{readNan}
 use Rattle.canonical.specs.Canonical.{fileOrder}
 use Rattle.read_standardised.specs.Ways.{Way, inTurn, joinedCall, asRead, answersOf, valuesOf, statsOf}
-use Rattle.demands.specs.Demand.{IsAccepted, CallsAgree, GoodList, meant, NamesEachOnce, RightLengths}
+use Rattle.demands.specs.Demand.{IsAccepted, GoodList, meant, NamesEachOnce, RightLengths}
+use Rattle.canonical.proofs.BackLaws.{order-length, order-good, order-means}
 use Rattle.read_standardised.proofs.JoinLaws.{as-read-is, answer-is, values-are, stats-are}
 use Rattle.demands.proofs.SumLaws.{same-sums, names-length, meant-below}
-use Rattle.demands.proofs.ReadLaws.{read-done, values-same, length-read, cell-read, call-read, length-order, order-means, order-good}
+use Rattle.demands.proofs.ReadLaws.{read-done, length-read, cell-read, call-read}
 
 -- ---- a side whose file is accepted, whose lists are good, and whose buffers have the right lengths
 module _ (f : Format) (file : List ℕ) (iids sids : ℕ) (flag : Bool) (il sl : List ℤ) (order : Bool) (val stats : List Float)
@@ -42,46 +43,6 @@ module _ (f : Format) (file : List ℕ) (iids sids : ℕ) (flag : Bool) (il sl :
   unfolding readNan
   left-by-reading = as-read-is f file iids sids flag il sl order val stats is-read
 
--- ---- the files differ
-module _ (f : Format) (file other : List ℕ) (iids sids : ℕ) (flag : Bool) (il sl : List ℤ) (order : Bool) (val stats : List Float)
-    (acc : IsAccepted file iids sids) (acc′ : IsAccepted other iids sids) (gi : GoodList iids il) (gs : GoodList sids sl)
-    (len : RightLengths il sl val stats) (agree : CallsAgree file other iids sids) where
-  values-read : valuesRead float flag nan order file iids sids il sl ≡ valuesRead float flag nan order other iids sids il sl
-  values-read = values-same file other iids sids il sl gi gs agree float flag nan order
-
-  as-read-same : asRead f file iids sids flag il sl order val stats ≡ asRead f other iids sids flag il sl order val stats
-  as-read-same =
-      left-by-reading f file iids sids flag il sl order val stats acc gi gs len ∙ values-read
-      ∙ sym (left-by-reading f other iids sids flag il sl order val stats acc′ gi gs len)
-
-  pub files-answers : (way : Way) → answersOf f file iids sids flag il sl order val stats way ≡ answersOf f other iids sids flag il sl order val stats way
-  unfolding answersOf readNan
-  files-answers (inTurn useStats apply) =
-      ap (λ (x : Answer). x ∷ standardiseAnswer f order (length il) (length sl) (asRead f file iids sids flag il sl order val stats) useStats stats ∷ [])
-      (reads f file iids sids flag il sl order val stats acc gi gs len ∙ sym (reads f other iids sids flag il sl order val stats acc′ gi gs len))
-      ∙ ap (λ (x : List Float). readAnswer other iids sids il sl (length val) ∷ standardiseAnswer f order (length il) (length sl) x useStats stats ∷ []) as-read-same
-  files-answers joinedCall =
-      ap (λ (x : Answer). x ∷ [])
-      (answer-is f file iids sids flag il sl order val stats (right-17 f file iids sids flag il sl order val stats acc gi gs len) (is-read f file iids sids flag il sl order val stats acc gi gs len)
-      ∙ ap (λ (x : List Float). lowestRefused f order (length il) (length sl) x false stats) values-read
-      ∙ sym (answer-is f other iids sids flag il sl order val stats (right-17 f file iids sids flag il sl order val stats acc gi gs len) (is-read f other iids sids flag il sl order val stats acc′ gi gs len)))
-
-  pub files-values : (way : Way) → valuesOf f file iids sids flag il sl order val stats way ≡ valuesOf f other iids sids flag il sl order val stats way
-  unfolding valuesOf readNan
-  files-values (inTurn useStats apply) = ap (λ (x : List Float). laterValues f order (length il) (length sl) x useStats stats apply) as-read-same
-  files-values joinedCall =
-      values-are f file iids sids flag il sl order val stats (right-17 f file iids sids flag il sl order val stats acc gi gs len) (is-read f file iids sids flag il sl order val stats acc gi gs len)
-      ∙ ap (λ (x : List Float). newValues f order (length il) (length sl) x false stats true) values-read
-      ∙ sym (values-are f other iids sids flag il sl order val stats (right-17 f file iids sids flag il sl order val stats acc gi gs len) (is-read f other iids sids flag il sl order val stats acc′ gi gs len))
-
-  pub files-stats : (way : Way) → statsOf f file iids sids flag il sl order val stats way ≡ statsOf f other iids sids flag il sl order val stats way
-  unfolding statsOf readNan
-  files-stats (inTurn useStats apply) = ap (λ (x : List Float). laterStats f order (length il) (length sl) x useStats stats) as-read-same
-  files-stats joinedCall =
-      stats-are f file iids sids flag il sl order val stats (right-17 f file iids sids flag il sl order val stats acc gi gs len) (is-read f file iids sids flag il sl order val stats acc gi gs len)
-      ∙ ap (λ (x : List Float). newStats f order (length il) (length sl) x false stats) values-read
-      ∙ sym (stats-are f other iids sids flag il sl order val stats (right-17 f file iids sids flag il sl order val stats acc gi gs len) (is-read f other iids sids flag il sl order val stats acc′ gi gs len))
-
 -- ---- the animal lists differ: one names each animal once, the other is file order
 module _ (f : Format) (file : List ℕ) (iids sids : ℕ) (flag : Bool) (il sl : List ℤ) (order : Bool) (val stats : List Float)
     (acc : IsAccepted file iids sids) (names : NamesEachOnce iids il) (gs : GoodList sids sl) (len : RightLengths il sl val stats)
@@ -94,7 +55,7 @@ module _ (f : Format) (file : List ℕ) (iids sids : ℕ) (flag : Bool) (il sl :
 
   fo-long : length fo ≡ iids
   unfolding fo
-  fo-long = length-order iids
+  fo-long = order-length iids
 
   fo-good : GoodList iids fo
   unfolding fo

@@ -1,7 +1,7 @@
 -- The words of demand 3: accepted files, calls that agree, lists that name each animal once. The two ways to go are read_standardised's Ways. Definitions only.
 use mathlib.Core.Path.{_≡_}
-use mathlib.Core.List.{List, []}
-use mathlib.Core.Option.{none}
+use mathlib.Core.List.{List, [], _∷_}
+use mathlib.Core.Option.{some, none}
 use Prim.Native.Nat.{ℕ, _*_, _<_}
 use lib.IntN.{ℤ, pos}
 use lib.ListN.{length, getD}
@@ -23,6 +23,12 @@ CallsAgree file other iids sids = (a m : ℕ) → a < iids → m < sids → call
 -- "A list is good if no entry is bad."
 abbrev pub GoodList : ℕ → List ℤ → Type 0
 GoodList count list = firstBad count list ≡ none
+
+-- "first bad entry of the .. list; carries it": the values that a refusal by a list carries
+pub record CarriesFirstBad (count : ℕ) (list values : List ℤ) : Type 0 where
+  pub entry : ℤ
+  pub is-first-bad : firstBad count list ≡ some entry
+  pub is-carried : values ≡ entry ∷ []
 
 -- the number that the entry at place k means
 unfoldable pub meant : ℕ → List ℤ → ℕ → ℕ

@@ -70,7 +70,7 @@ unfolding checkCount
 count-done n later e = let d = check-done (leb n countLimit) 18 later e in (leb-true n countLimit (d .0), d .1)
 
 -- ---- a refusal by a number is not by a check that has another
-number : Answer → ℕ
+unfoldable pub number : Answer → ℕ
 number (done vs) = 0
 number (refused n vs) = n
 
@@ -82,6 +82,11 @@ check-other false n later m vs o e = absurd (o (ap number e))
 pub count-other : (n : ℕ) (later : Answer) (m : ℕ) (vs : List ℤ) → (18 ≡ m → ⊥) → checkCount n later ≡ refused m vs → later ≡ refused m vs
 unfolding checkCount
 count-other n later m vs o e = check-other (leb n countLimit) 18 later m vs o e
+
+pub entry-other : (o : Option ℤ) (n : ℕ) (later : Answer) (m : ℕ) (vs : List ℤ) → (n ≡ m → ⊥) → checkEntry o n later ≡ refused m vs → (o ≡ none) × (later ≡ refused m vs)
+unfolding checkEntry number
+entry-other none n later m vs d e = (refl, e)
+entry-other (some z) n later m vs d e = absurd (d (ap number e))
 
 -- ---- later buffers
 pub new-if-done : {A : Type 0} (a : Answer) (new old : A) → isDone a ≡ true → ifDone a new old ≡ new
