@@ -1,18 +1,18 @@
 -- "5 always means the animal list and 6 the marker list, in that order, in either mode": whichever refusal a reading or a joined call gives, and
 -- which one it gives where a list is bad.
-use mathlib.Core.Path.{_≡_, refl, sym, ap, _∙_}
-use mathlib.Core.Bool.{Bool, false}
+use mathlib.Core.Path.{_≡_, refl, sym, ap, subst, _∙_}
+use mathlib.Core.Bool.{Bool, true, false, cond}
 use mathlib.Core.List.{List, [], _∷_}
 use mathlib.Core.Option.{Option, some, none}
 use Prim.Native.Nat.{ℕ, zero, suc, _*_, _<_, _≤_}
 use native.Mathlib.Omega.{arith}
 use borrow.Author.Tests.{eq-eqb}
 use lib.Dec.{eqb}
-use lib.IntN.{ℤ}
-use lib.ListN.{length}
+use lib.IntN.{ℤ, pos}
+use lib.ListN.{length, getD}
 use lib.Ieee.{Float, Format}
 use Rattle.genotype.specs.Answer.{Answer, done, refused, check, checkEntry, isDone, ifDone}
-use Rattle.genotype.specs.Entry.{firstBad}
+use Rattle.genotype.specs.Entry.{isGood, firstBad}
 use Rattle.genotype.proofs.AnswerLaws.{check-passes, entry-passes, entry-refuses, number, check-other, count-other, entry-other}
 use Rattle.bed_read.specs.Reading.{checkLists, readAnswer}
 use Rattle.bed_file.proofs.FileLaws.{file-other}
@@ -25,7 +25,42 @@ use Rattle.read_standardised.specs.Joined.{joinedChecks, readNan, joinedAnswer}
 use Rattle.read_standardised.proofs.JoinLaws.{joined-accepted}
 use Rattle.demands.specs.Demand.{IsAccepted, GoodList, RightLengths, CarriesFirstBad}
 
--- ---- answers by their parts
+-- ---- the first bad entry, by its place
+good-from : (count : ℕ) (e : ℤ) (es : List ℤ) (n : ℕ) → isGood count e ≡ true
+    → ((k : ℕ) → k < n → isGood count (getD es k (pos 0)) ≡ true) → (k : ℕ) → k < suc n → isGood count (getD (e ∷ es) k (pos 0)) ≡ true
+good-from count e es n g h zero l = g
+good-from count e es n g h (suc k) l = h k (omega arith)
+
+-- what is in an option that holds something
+held : ℤ → Option ℤ → ℤ
+held d none = d
+held d (some e) = e
+
+first-bad-at : (count : ℕ) (list : List ℤ) (e : ℤ) → firstBad count list ≡ some e → CarriesFirstBad count list (e ∷ [])
+unfolding firstBad held
+first-bad-at count [] e q = absurd (let r : _≡_ {A = ℕ} 0 1 = cc in omega arith)
+first-bad-at count (x ∷ xs) e q = go (isGood count x) refl (first-bad-at count xs e) q
+  where
+    go : (b : Bool) → isGood count x ≡ b → (firstBad count xs ≡ some e → CarriesFirstBad count xs (e ∷ [])) → cond b (firstBad count xs) (some x) ≡ some e
+        → CarriesFirstBad count (x ∷ xs) (e ∷ [])
+    go true g rest q =
+        let r = rest q in
+        record {
+          place = suc (r .place);
+          in-list = let h = r .in-list in omega arith;
+          is-bad = r .is-bad;
+          good-before = good-from count x xs (r .place) g (r .good-before);
+          is-carried = r .is-carried;
+        }
+    go false g rest q =
+        record {
+          place = 0;
+          in-list = omega arith;
+          is-bad = g;
+          good-before = λ k h. absurd (omega arith);
+          is-carried = ap (λ (o : Option ℤ). held e o ∷ []) (sym q);
+        }
+
 carried : Answer → List ℤ
 carried (done vs) = vs
 carried (refused n vs) = vs
@@ -38,7 +73,7 @@ entry-own count list n later vs o e = go (firstBad count list) refl e
   where
     go : (b : Option ℤ) → firstBad count list ≡ b → checkEntry b n later ≡ refused n vs → CarriesFirstBad count list vs
     go none q e = absurd (o e)
-    go (some z) q e = record { entry = z; is-first-bad = q; is-carried = sym (ap carried e) }
+    go (some z) q e = subst (CarriesFirstBad count list) (ap carried e) (first-bad-at count list z q)
 
 -- refused by 13 or more, if at all
 abbrev High : Answer → Type 0

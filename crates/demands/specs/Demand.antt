@@ -1,13 +1,14 @@
 -- The words of demand 3: accepted files, calls that agree, lists that name each animal once. The two ways to go are read_standardised's Ways. Definitions only.
 use mathlib.Core.Path.{_≡_}
+use mathlib.Core.Bool.{true, false}
 use mathlib.Core.List.{List, [], _∷_}
-use mathlib.Core.Option.{some, none}
+use mathlib.Core.Option.{none}
 use Prim.Native.Nat.{ℕ, _*_, _<_}
 use lib.IntN.{ℤ, pos}
 use lib.ListN.{length, getD}
 use lib.Ieee.{Float}
 use Rattle.genotype.specs.Answer.{done}
-use Rattle.genotype.specs.Entry.{means, firstBad}
+use Rattle.genotype.specs.Entry.{isGood, means, firstBad}
 use Rattle.bed_file.specs.File.{acceptAnswer}
 use Rattle.bed_read.specs.Calls.{callCode}
 use Rattle.statistics.specs.Statistics.{statsPerMarker}
@@ -24,11 +25,14 @@ CallsAgree file other iids sids = (a m : ℕ) → a < iids → m < sids → call
 abbrev pub GoodList : ℕ → List ℤ → Type 0
 GoodList count list = firstBad count list ≡ none
 
--- "first bad entry of the .. list; carries it": the values that a refusal by a list carries
+-- "first bad entry of the .. list; carries it": the values that a refusal by a list carries are the entry at `place`, as given; it is bad, and
+-- those before it are good
 pub record CarriesFirstBad (count : ℕ) (list values : List ℤ) : Type 0 where
-  pub entry : ℤ
-  pub is-first-bad : firstBad count list ≡ some entry
-  pub is-carried : values ≡ entry ∷ []
+  pub place : ℕ
+  pub in-list : place < length list
+  pub is-bad : isGood count (getD list place (pos 0)) ≡ false
+  pub good-before : (k : ℕ) → k < place → isGood count (getD list k (pos 0)) ≡ true
+  pub is-carried : values ≡ getD list place (pos 0) ∷ []
 
 -- the number that the entry at place k means
 unfoldable pub meant : ℕ → List ℤ → ℕ → ℕ
