@@ -18,8 +18,8 @@ void fail(const char *format, ...) {
 /* For the refusals that no file, count or list of names brings about. */
 static const char *const words[] = {
     [BED_DONE] = "done",
-    [BED_IID_INDEX_TOO_BIG] = "an entry of a list is out of range",
-    [BED_SID_INDEX_TOO_BIG] = "an entry of a list is out of range",
+    [BED_IID_INDEX_TOO_BIG] = "an entry of the animal list is out of range",
+    [BED_SID_INDEX_TOO_BIG] = "an entry of the marker list is out of range",
     [BED_BAD_VALUE] = "a value is none of 0, 1, 2, missing",
     [BED_BOOL_ARRAY_VECTOR_WRONG_LENGTH] = "there are not as many marks as items",
     [BED_STEP_ZERO] = "the step is 0",

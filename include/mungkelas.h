@@ -29,8 +29,8 @@
 #include <stdint.h>
 
 /* The version; it stands here alone. MAJOR rises with every change that breaks a caller (CHANGELOG.md). */
-#define MUNGKELAS_VERSION_MAJOR 0
-#define MUNGKELAS_VERSION_MINOR 1
+#define MUNGKELAS_VERSION_MAJOR 1
+#define MUNGKELAS_VERSION_MINOR 0
 #define MUNGKELAS_VERSION_PATCH 0
 #define MUNGKELAS_TEXT_(a, b, c) #a "." #b "." #c
 #define MUNGKELAS_TEXT(a, b, c) MUNGKELAS_TEXT_(a, b, c)
@@ -53,8 +53,8 @@ enum {
     BED_ILL_FORMED = 2,                   /* byte 0 not 6C or byte 1 not 1B, or wrong length */
     BED_BAD_MODE = 3,                     /* byte 2 is neither 0 nor 1 */
     BED_INDEXES_TOO_BIG_FOR_FILES = 4,    /* block width times blocks, plus 3, passes 2^64 - 1 */
-    BED_IID_INDEX_TOO_BIG = 5,            /* first bad entry of the list within a block; first: the entry */
-    BED_SID_INDEX_TOO_BIG = 6,            /* first bad entry of the list of blocks; first: the entry */
+    BED_IID_INDEX_TOO_BIG = 5,            /* first bad entry of the animal list (bed_byte_span: of its list); first: the entry */
+    BED_SID_INDEX_TOO_BIG = 6,            /* first bad entry of the marker list; first: the entry */
     BED_BAD_VALUE = 7,                    /* a value is none of 0, 1, 2, missing; first: animal, second: marker (whole file) */
     BED_BOOL_ARRAY_VECTOR_WRONG_LENGTH = 8, /* marks and count differ */
     BED_STEP_ZERO = 9,                    /* step 0 */
@@ -91,7 +91,7 @@ bed_answer bed_byte_span(size_t count, const int64_t *index, size_t index_len);
 /* Reads file, iid_index and sid_index; writes val: the calls of the listed animals at the listed markers, as iid_len times sid_len
  * values in the order asked, missing_value where a call is missing.
  * Refusals: 18 (either count), 15 (val_len is not iid_len * sid_len), 1 (under 3 bytes), 2 (first two bytes), 3, 4, 2 (length), 5, 6.
- * In mode 1 the animal list is the one within a block; in mode 0 the marker list is, so a bad marker entry is then 5 and comes first. */
+ * In either mode 5 is the animal list's, 6 the marker list's, and a list is looked at even if the other is empty. */
 bed_answer bed_read_i8(const uint8_t *file, size_t file_len, size_t iid_count, size_t sid_count, bool is_a1_counted,
                        const int64_t *iid_index, size_t iid_len, const int64_t *sid_index, size_t sid_len,
                        int8_t missing_value, bool animal_order, int8_t *val, size_t val_len);

@@ -117,7 +117,7 @@ struct reading {
     bool flag, order;
 };
 
-/* The checks of reading; 15 asks for the product of the list lengths. */
+/* The checks of reading; 15 asks for the product of the list lengths. In either mode 5 is the animal list's and 6 the marker list's (document 02). */
 static bed_answer read_checks(const struct reading *r, size_t val_len, bool stats_fit) {
     int64_t e;
     if (r->iids >= TOO_LARGE || r->sids >= TOO_LARGE) return answer(18, 0, 0);
@@ -125,11 +125,8 @@ static bed_answer read_checks(const struct reading *r, size_t val_len, bool stat
     if (!stats_fit) return answer(17, 0, 0);
     bed_answer a = accept(r->file, r->len, r->iids, r->sids);
     if (a.number) return a;
-    bool mode_1 = r->file[2];
-    bool bad_iid = bad_entry(r->iids, r->iid_index, r->iid_len, &e);
-    if (mode_1 && bad_iid) return answer(5, e, 0);
-    if (bad_entry(r->sids, r->sid_index, r->sid_len, &e)) return answer(mode_1 ? 6 : 5, e, 0);
-    if (bad_iid) return bad_entry(r->iids, r->iid_index, r->iid_len, &e), answer(6, e, 0);
+    if (bad_entry(r->iids, r->iid_index, r->iid_len, &e)) return answer(5, e, 0);
+    if (bad_entry(r->sids, r->sid_index, r->sid_len, &e)) return answer(6, e, 0);
     return answer(0, 0, 0);
 }
 
@@ -240,6 +237,58 @@ static void files_and_widths(void) {
     end();
 }
 
+/* File F of document 01 and the file of mode 0 with the same calls, 5 animals and 2 markers: the same lists are refused alike. */
+static void lists_of_either_mode(void) {
+    static const uint8_t files[2][8] = {{0x6C, 0x1B, 0, 0x0C, 0x0D, 0x0A, 3, 8}, {0x6C, 0x1B, 1, 0xE4, 0, 0x2F, 2}};
+    static const struct {
+        size_t iid_len, sid_len;
+        int64_t iid_index[3], sid_index[3];
+        uint64_t number;
+        int64_t entry;
+    } rows[] = {
+        /* a bad animal: past the end, before the front, after good ones; the first of two */
+        {1, 1, {5}, {0}, 5, 5}, {1, 1, {-6}, {1}, 5, -6}, {3, 2, {4, -5, 5}, {-2, 1}, 5, 5}, {3, 1, {0, -6, 5}, {0}, 5, -6},
+        /* a bad marker, which would be a good animal */
+        {1, 1, {0}, {2}, 6, 2}, {1, 1, {4}, {-3}, 6, -3}, {2, 3, {-5, 4}, {-2, 1, 3}, 6, 3}, {1, 3, {0}, {1, -5, 4}, 6, -5},
+        /* both bad; the same entry in both; an entry that is good for one list alone */
+        {1, 1, {5}, {2}, 5, 5}, {2, 2, {0, 7}, {9, 2}, 5, 7}, {1, 1, {9}, {9}, 5, 9}, {2, 3, {4, -6}, {4, 2, 1}, 5, -6},
+        /* one list bad, the other empty */
+        {1, 0, {5}, {0}, 5, 5}, {2, 0, {4, -6}, {0}, 5, -6}, {0, 1, {0}, {2}, 6, 2}, {0, 2, {0}, {1, -3}, 6, -3},
+        /* good animals that would be bad markers */
+        {3, 1, {2, 4, -5}, {1}, 0, 0}, {2, 2, {-3, 3}, {-2, 1}, 0, 0}, {1, 0, {4}, {0}, 0, 0},
+    };
+    struct reading r = {.iids = 5, .sids = 2};
+    begin("lists of either mode");
+    for (size_t i = 0; i < sizeof rows / sizeof *rows; i++)
+        for (int choice = 0; choice < 8; choice++) {
+            double val[9], want[9], stats[6], want_stats[6];
+            int8_t small[9];
+            int mode = choice & 1;
+            bed_answer a = answer(rows[i].number, rows[i].entry, 0);
+            memcpy(r.file, files[mode], 8), r.len = mode ? 7 : 8;
+            memcpy(r.iid_index, rows[i].iid_index, sizeof rows[i].iid_index), memcpy(r.sid_index, rows[i].sid_index, sizeof rows[i].sid_index);
+            r.iid_len = rows[i].iid_len, r.sid_len = rows[i].sid_len, r.val_len = r.iid_len * r.sid_len;
+            r.flag = choice >> 1 & 1, r.order = choice >> 2;
+            for (size_t k = 0; k < 9; k++) val[k] = want[k] = small[k] = 9;
+            for (size_t k = 0; k < 6; k++) stats[k] = want_stats[k] = 7;
+            if (a.number == 0) read_values(&r, -127, want);
+            same(bed_read_i8(r.file, r.len, 5, 2, r.flag, r.iid_index, r.iid_len, r.sid_index, r.sid_len, -127, r.order, small, r.val_len), a);
+            for (size_t k = 0; k < 9; k++)
+                if (small[k] != want[k]) fail("a value");
+            same(bed_read_f64(r.file, r.len, 5, 2, r.flag, r.iid_index, r.iid_len, r.sid_index, r.sid_len, -127, r.order, val, r.val_len), a);
+            same_floats(val, want, 9, "a value");
+            for (size_t k = 0; k < 9; k++) val[k] = want[k] = 9;
+            if (a.number == 0) {
+                read_values(&r, NAN, want);
+                a = standardise(want, r.iid_len, r.sid_len, r.order, true, false, want_stats);
+            }
+            same(bed_read_standardised_f64(r.file, r.len, 5, 2, r.flag, r.iid_index, r.iid_len, r.sid_index, r.sid_len, r.order, val, r.val_len, stats, 2 * r.sid_len), a);
+            same_floats(val, want, 9, "a value");
+            same_floats(stats, want_stats, 6, "a statistic");
+        }
+    end();
+}
+
 static void reading_calls(void) {
     struct reading r;
     double val[ROOM], want[ROOM];
@@ -288,6 +337,8 @@ static void reading_calls(void) {
         same_floats(stats, want_stats, 64, "a statistic");
     }
     end();
+
+    lists_of_either_mode();
 
     begin("bed_canonical");
     for (int i = 0; i < 20000; i++) {

@@ -22,8 +22,8 @@ WORDS = {
     2: "no .bed file of these counts: the first two bytes or the length are wrong",
     3: "the mode byte is neither 0 nor 1",
     4: "a file of these counts would be too large",
-    5: "entry {first} of an index is none of -count to count - 1",
-    6: "entry {first} of an index is none of -count to count - 1",
+    5: "entry {first} of the animal list is none of -count to count - 1",
+    6: "entry {first} of the marker list is none of -count to count - 1",
     7: "a value is none of 0, 1, 2, missing: animal {first}, marker {second}",
     8: "there are not as many marks as the count",
     9: "the step is 0",
@@ -232,7 +232,7 @@ def try_div_4(in_iid_count, in_sid_count):
 
 
 def byte_span(count, index):
-    """The lowest byte of a block that the list touches, and how many from it to the highest."""
+    """The lowest byte of a block that the list touches, and how many from it to the highest. 5 whatever the list is of."""
     return _call(library.bed_byte_span, _size(count), _list(index))
 
 

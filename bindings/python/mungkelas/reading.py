@@ -135,9 +135,9 @@ class open_bed:
             raise ValueError("{} is closed".format(self.filepath))
         return self._file, self.iid_count, self.sid_count, self.count_A1
 
-    def _check(self, animals=_NO_ENTRIES, markers=_NO_ENTRIES, where=""):
+    def _check(self, animals=_NO_ENTRIES, markers=_NO_ENTRIES):
         """The core's checks of file, counts and lists; one list is empty, so that there is no matrix."""
-        with met(self.filepath + where):
+        with met(self.filepath):
             core.read_i8(*self._asked(), animals, markers, 0, False, _NO_VALUES)
 
     def _lists(self, index, out):
@@ -147,14 +147,8 @@ class open_bed:
             animals, markers = to_lists(index, self.iid_count, self.sid_count)
         if out is not None:
             animals, markers = (one.copy() if np.may_share_memory(one, out) else one for one in (animals, markers))
-        refused = []
-        for lists in ({"animals": animals, "where": ", animals"}, {"markers": markers, "where": ", markers"}):
-            try:
-                self._check(**lists)
-            except core.BedError as e:
-                refused.append(e)
-        if refused:  # of two bad lists the core names the one with the lower number
-            raise min(refused, key=lambda e: e.number)
+        self._check(animals=animals)  # 5 before 6, as one call has them
+        self._check(markers=markers)
         return animals, markers
 
     def _across(self, order):

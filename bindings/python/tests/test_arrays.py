@@ -379,7 +379,7 @@ def test_out():
 
 def test_refusals():
     """Every refusal is the core's own of one call with the same lists, and out is as it was."""
-    seen = set()
+    seen, met = set(), set()
     for turn in range(400):
         mode, iids, sids = draw.randint(2), draw.randint(1, 9), draw.randint(1, 9)
         file = drawn(mode, iids, sids)
@@ -419,11 +419,13 @@ def test_refusals():
                         same(str(e).startswith(path("drawn.bed")), True, "the file in words")
                         same((out == 9).all(), True, "out at a refusal")
                         seen.add(e.number)
-                        if e.number in (5, 6):
-                            good = [((one >= -n) & (one < n)).all() for one, n in zip(lists, (iids, sids))]
-                            named = ", animals:" in str(e), ", markers:" in str(e)
-                            same(named.count(True) == 1 and not good[named.index(True)], True, "the list in words")
+                        if e.number in (5, 6):  # in either mode the animal list's, then the marker list's
+                            bad = [(number, x) for number, one, n in ((5, lists[0], iids), (6, lists[1], sids))
+                                   for x in one.tolist() if not -n <= x < n]
+                            same((e.number, e.first), bad[0], "the first bad entry")
+                            met.add((mode, *sorted({number for number, _ in bad})))
     same(seen, {2, 3, 4, 5, 6, 18}, "the refusals drawn")
+    same(met, {(mode, *bad) for mode in (0, 1) for bad in ((5,), (6,), (5, 6))}, "the bad lists drawn")
     for content, number in ((b"", 1), (b"\x6c\x1b", 1), (b"\x6c\x1c\x01", 2)):
         e = raised((BedError, ValueError), open_bed, saved("bad.bed", content), 0, 0)
         same(e.number, number, "a bad header")

@@ -109,9 +109,19 @@ def test_reading():
     changed(4, 0, animals=2**63 - 1, markers=8)
     changed(2, 0, file=F[:-1])
     changed(2, 0, file=F + b"\x00")
-    changed(5, 5, iids=[5], sids=[2])
-    changed(5, -6, iids=[-6])
-    changed(6, 2, sids=[2])
+    for file in (F, F_MODE_0):  # 2 to 4 and -5 to -3 are animals and no markers
+        changed(5, 5, file=file, iids=[5], sids=[2])
+        changed(5, -6, file=file, iids=[-6])
+        changed(6, 2, file=file, sids=[2])
+        changed(6, -3, file=file, iids=[4], sids=[-3])
+        changed(5, -6, file=file, iids=[0, -6, 5], sids=[2], val=array("b", b"\x09\x09\x09"))
+        changed(6, 3, file=file, sids=[1, 3, -3], val=array("b", b"\x09\x09\x09"))
+        changed(5, 5, file=file, iids=[4, 5], sids=[], val=array("b"))
+        changed(6, 3, file=file, iids=[], sids=[1, 3], val=array("b"))
+        for animals, markers, number, entry in (([5], [2], 5, 5), ([4], [2], 6, 2), ([-6], [1], 5, -6)):
+            one = array("d", [9])
+            refused(number, entry, 0, core.read_f64, file, 5, 2, True, animals, markers, NAN, False, one)
+            same(one.tolist(), [9], "the values at a refusal")
     changed(15, 0, val=array("b", b"\x09\x09"))
     changed(18, 0, animals=2**63)
     changed(18, 0, markers=2**64 - 1)
@@ -174,7 +184,10 @@ def test_standardising():
         same((val.tolist(), one.tolist()), ([1, -1], record(1, 1, 2)), "read and standardised")
         refused(13, 0, 0, core.read_standardised_f64, F, 5, 2, True, [1, 1], [0], order, val, one)
         refused(17, 0, 0, core.read_standardised_f64, F, 5, 2, True, [0, 3], [0], order, val, array("d"))
-        refused(5, 9, 0, core.read_standardised_f64, F, 5, 2, True, [0, 9], [0], order, val, one)
+        for file in (F, F_MODE_0):
+            refused(5, 9, 0, core.read_standardised_f64, file, 5, 2, True, [0, 9], [0], order, val, one)
+            refused(5, 9, 0, core.read_standardised_f64, file, 5, 2, True, [0, 9], [2], order, val, one)
+            refused(6, 3, 0, core.read_standardised_f64, file, 5, 2, True, [0, 3], [3], order, val, one)
     same([core.root_f64(v) for v in (2, 9, 0, math.inf)], [math.sqrt(2), 3, 0, math.inf], "roots")
     same(floats([core.root_f64(-1.0), core.root_f64(NAN)]), ["NaN"] * 2, "roots of what has none")
 
@@ -310,6 +323,8 @@ def test_exceptions():
         same("67890" in str(e), number == 7, "what the words of {} name".format(number))
         again = pickle.loads(pickle.dumps(e))
         same((type(again), again.args, str(again)), (type(e), e.args, str(e)), "a pickled refusal")
+    same(["animal list" in str(core.refusal(n)) for n in (5, 6)], [True, False], "the list in the words of 5")
+    same(["marker list" in str(core.refusal(n)) for n in (5, 6)], [False, True], "the list in the words of 6")
     later = core.refusal(99, 1, 2)
     same((type(later), str(later)), (BedError, "refusal 99: carries 1 and 2"), "a number that is not known")
 

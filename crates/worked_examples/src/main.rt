@@ -1,4 +1,4 @@
-// The worked examples of document 01 that are not marked P, PLINK's published example, and one marker's block.
+// The worked examples of document 01 that are not marked P, PLINK's published example, bad entries for a file of mode 0, and one marker's block.
 // Each line says where it comes from and what that asks for, then what was seen; the file `stdout` beside src/ has them all.
 use bed_read::ReadAnswer;
 use bed_write::WriteAnswer;
@@ -185,6 +185,59 @@ fn plink_example() {
     plink_written(&val);
 }
 
+// A refusal for a list, and the entry that it carries.
+fn say_entry(refusal: &[u8], entry: i64) {
+    say(refusal);
+    if entry == 3 {
+        say(b"3");
+    } else if entry == 5 {
+        say(b"5");
+    } else {
+        say(b"other");
+    }
+}
+
+fn say_read(a: ReadAnswer) {
+    match a {
+        ReadAnswer::Done => say(b" done"),
+        ReadAnswer::IidIndexTooBig(e) => say_entry(b" 5 for ", e),
+        ReadAnswer::SidIndexTooBig(e) => say_entry(b" 6 for ", e),
+        _ => say(b" another refusal"),
+    }
+}
+
+// One animal at one marker of the file of mode 0 that has the calls of F.
+fn one_call(asked: &[u8], animal: i64, marker: i64) {
+    let file = b"\x6C\x1B\x00\x0C\x0D\x0A\x03\x08";
+    let iids = [animal];
+    let sids = [marker];
+    let mut val = [9.0];
+    let a = bed_read::read_no_alloc_f64(file, 5, 2, true, &iids, &sids, 0.0 / 0.0, false, &mut val);
+    say(asked);
+    say_read(a);
+    say(b", value");
+    say_floats(&val);
+    say(b"\n");
+}
+
+fn by_animal() {
+    one_call(
+        b"document 01, 6C 1B 00 0C 0D 0A 03 08, a file of mode 0, 5 animals, 2 markers, with the calls of F: animal 3 at marker 1 is 2: saw",
+        3,
+        1,
+    );
+    one_call(
+        b"document 02, in either mode a bad marker is 6, here marker 3, and the value keeps 9: saw",
+        3,
+        3,
+    );
+    one_call(
+        b"document 02, a bad animal is 5, here animal 5, and comes first: saw",
+        5,
+        3,
+    );
+}
+
 fn say_codes(bytes: &[u8]) {
     say(b"its codes of animals 1, 4 and 5, missing, two copies and refusal 5: saw");
     say_code(block::code_in_block(bytes, 5, IidIndex(1)));
@@ -303,6 +356,7 @@ fn columns() {
 
 fn main() {
     plink_example();
+    by_animal();
     one_block();
     columns();
 }

@@ -14,9 +14,9 @@ fn bits(values: &[f64]) -> Vec<u64> {
     values.iter().map(|v| v.to_bits()).collect()
 }
 
-/// File F of document 01, and a file of mode 0 with the same calls.
-const F: [u64; 7] = [0x6c, 0x1b, 1, 0xe4, 0, 0x2f, 2];
-const F_BY_ANIMAL: [u64; 8] = [0x6c, 0x1b, 0, 0xc, 0xd, 0xa, 3, 8];
+/// File F of document 01, and a file of mode 0 with the same calls: 5 animals, 2 markers.
+pub const F: [u64; 7] = [0x6c, 0x1b, 1, 0xe4, 0, 0x2f, 2];
+pub const F_BY_ANIMAL: [u64; 8] = [0x6c, 0x1b, 0, 0xc, 0xd, 0xa, 3, 8];
 
 /// Document 01's examples, the boundaries, and the smallest input of each difference in docs/DIFFERENCES.md.
 pub fn by_hand() -> Vec<Case> {
@@ -150,7 +150,11 @@ pub fn by_hand() -> Vec<Case> {
     read(&F, 5, 2, vec![], vec![neg(3)], 0);
     read(&F, 5, 2, vec![5], vec![], 0);
     read(&F_BY_ANIMAL, 5, 2, vec![9], vec![0, 2, 3], 3);
+    read(&F_BY_ANIMAL, 5, 2, vec![5], vec![2], 1);
+    read(&F_BY_ANIMAL, 5, 2, vec![0], vec![2], 1);
+    read(&F_BY_ANIMAL, 5, 2, vec![5], vec![0], 1);
     read(&F_BY_ANIMAL, 5, 2, vec![0, 5], vec![0], 2);
+    read(&F_BY_ANIMAL, 5, 2, vec![], vec![neg(3)], 0);
     read(&F_BY_ANIMAL, 5, 2, vec![5], vec![], 0);
     read(&F, 5, 2, vec![0, 1], vec![0], 1);
     read(&F, TOP + 1, 2, vec![0], vec![0], 1);
@@ -494,7 +498,7 @@ fn wrong(case: &Case, right: &Outcome) -> Vec<Outcome> {
 }
 
 /// Lines that must be reported as differing: of each call's shortest case by hand whose answer is done and in which no written buffer has fewer
-/// than two places, the answers that are wrong in one thing; then lines that break the form.
+/// than two places, the answers that are wrong in one thing; then wrong refusals of bad lists; then lines that break the form.
 fn controls(folder: &Folder) -> Vec<String> {
     let mut lines = vec![];
     for (name, _) in CALLS {
@@ -505,6 +509,14 @@ fn controls(folder: &Folder) -> Vec<String> {
         let all = by_hand().into_iter().filter(|case| case.name() == *name).filter_map(done);
         let (case, right) = all.min_by_key(|(case, _)| case.line().len()).expect("a case that is done");
         lines.extend(wrong(&case, &right).iter().map(|o| format!("2 {}|{}", case.line(), o.line())));
+    }
+    // Refusals of a file of mode 0: the marker list looked at first, a bad marker told as 5 and a bad animal as 6.
+    for name in ["read_i8", "read_f64", "read_standardised_f64"] {
+        for (iid, sid, number, entry) in [(5, 2, 6, 2), (5, 2, 5, 2), (0, 2, 5, 2), (5, 0, 6, 5)] {
+            let is_it = |case: &Case| case.name() == name && case.bits(0) == F_BY_ANIMAL && case.bits(4) == [iid] && case.bits(5) == [sid];
+            let case = by_hand().into_iter().find(is_it).expect("a case by hand");
+            lines.push(format!("2 {}|{}", case.line(), case.unwritten(number, entry, 0).line()));
+        }
     }
     // Call 2 of 4 and 1 is answered 0 1 0: a word too few or too many, a section too few or too many, no such call, a space too many, no digit, a
     // capital letter, more than 64 bits. A file of 65 bytes 9 is answered 2 0 0.
@@ -535,7 +547,7 @@ pub fn print(seed: u64, folder: &Folder) {
         "# was not run: its kept functions, cut unchanged out of its source, were compiled over small stand-ins for the crates that could not be"
     );
     println!("# had, and run on one thread. What indexing, views, strides and iteration order give is the stand-ins'. tools/differential says how.");
-    println!("# Made by: differential list seed={seed}. A line is a case, in hexadecimal words: whose answer it is (0 the original's; 1 document 01's, at a");
+    println!("# Made by: differential list seed={seed}. A line is a case, in hexadecimal words: whose answer it is (0 the original's; 1 document 01's or 02's, at a");
     println!("# difference that docs/DIFFERENCES.md names), the call, its parameters, the answer. tools/differential/README.md has the form.");
     for case in cases(seed, folder) {
         let want = want(&case, folder);
@@ -547,12 +559,12 @@ pub fn print(seed: u64, folder: &Folder) {
     controls(folder).iter().for_each(|line| println!("{line}"));
 }
 
-/// The cases by hand at which document 01 names a difference, with what the original did.
+/// The cases by hand at which document 01 or 02 names a difference, with what the original did.
 pub fn rows(folder: &Folder) {
     for case in by_hand() {
         let want = want(&case, folder);
         if let (Some(name), Some(outcome)) = (want.named, want.outcome) {
-            println!("{}: {name}; the original: {}; document 01: {}; {}", case.name(), want.did, outcome.number, case.line());
+            println!("{}: {name}; the original: {}; wanted: {}; {}", case.name(), want.did, outcome.number, case.line());
         }
     }
 }

@@ -18,7 +18,7 @@ use want::{Did, Folder};
 #[derive(Default)]
 struct Seen {
     cases: u64,
-    /// The library's number, and by whom it was compared: the original, or document 01's named difference.
+    /// The library's number, and by whom it was compared: the original, or document 01 or 02 at a named difference.
     numbers: BTreeMap<u64, (u64, u64)>,
     named: BTreeMap<&'static str, (u64, BTreeMap<Did, u64>, String)>,
     panicked: (u64, String),
@@ -112,7 +112,7 @@ fn print(name: &str, seen: &Seen) {
     println!("{name}: {} cases", seen.cases);
     for (number, (original, document)) in &seen.numbers {
         let number = if *number == 0 { "done".to_string() } else { format!("{number:4}") };
-        println!("    {number}  {original:9} as the original  {document:9} as document 01's named difference");
+        println!("    {number}  {original:9} as the original  {document:9} at a named difference");
     }
     for (name, (count, did, least)) in &seen.named {
         let did: Vec<String> = did.iter().map(|(did, n)| format!("{did} {n}")).collect();

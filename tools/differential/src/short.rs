@@ -1,6 +1,7 @@
 //! Short inputs, every one of a kind.
 use crate::case::Arg::{B, N};
 use crate::case::*;
+use crate::list::{F, F_BY_ANIMAL};
 
 const FLAGS: [u64; 2] = [0, 1];
 
@@ -73,24 +74,35 @@ pub fn each(name: &str, f: &mut dyn FnMut(Case)) {
                 }
             }
         }
-        // Every byte of a block of one byte, for every count that has one, and two blocks of one item each.
+        // Every byte of a block of one byte, for every count that has one; then F and its twin of mode 0 with every pair of lists of at most two of the
+        // entries about the ends of the count.
         "read_i8" | "read_f64" | "read_standardised_f64" => {
-            for mode in FLAGS {
-                for flag in FLAGS {
-                    for order in FLAGS {
+            let mut read = |file: &[u64], iids: u64, sids: u64, flag: u64, order: u64, iid_index: &[u64], sid_index: &[u64]| {
+                let old = || B(vec![9; iid_index.len() * sid_index.len()]);
+                let mut args = vec![B(file.to_vec()), N(iids), N(sids), N(flag), B(iid_index.to_vec()), B(sid_index.to_vec())];
+                match name {
+                    "read_i8" => args.extend([N(0x81), N(order), old()]),
+                    "read_f64" => args.extend([N(f64::NAN.to_bits()), N(order), old()]),
+                    _ => args.extend([N(order), old(), B(vec![9; 2 * sid_index.len()])]),
+                }
+                f(Case::new(name, args));
+            };
+            for flag in FLAGS {
+                for order in FLAGS {
+                    for mode in FLAGS {
                         for within in 1..=4u64 {
                             for byte in 0..256 {
                                 let (iids, sids) = if mode == 0 { (1, within) } else { (within, 1) };
                                 let all = |n: u64| (0..n).collect::<Vec<u64>>();
-                                let mut args = vec![B(vec![0x6c, 0x1b, mode, byte]), N(iids), N(sids), N(flag), B(all(iids)), B(all(sids))];
-                                match name {
-                                    "read_i8" => args.extend([N(0x81), N(order), B(vec![9; within as usize])]),
-                                    "read_f64" => args.extend([N(f64::NAN.to_bits()), N(order), B(vec![9; within as usize])]),
-                                    _ => args.extend([N(order), B(vec![9; within as usize]), B(vec![9; 2 * sids as usize])]),
-                                }
-                                f(Case::new(name, args));
+                                read(&[0x6c, 0x1b, mode, byte], iids, sids, flag, order, &all(iids), &all(sids));
                             }
                         }
+                    }
+                    let ends = |count: u64| [0, count - 1, count.wrapping_neg(), count, count.wrapping_neg() - 1];
+                    for file in [&F[..], &F_BY_ANIMAL] {
+                        lists(&ends(5), 2, &mut |iid_index| {
+                            lists(&ends(2), 2, &mut |sid_index| read(file, 5, 2, flag, order, iid_index, sid_index));
+                        });
                     }
                 }
             }

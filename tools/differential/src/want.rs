@@ -1,4 +1,4 @@
-//! What the library is to answer for a case: the original's answer, or document 01's where it names a difference.
+//! What the library is to answer for a case: the original's answer, or that of document 01 or 02 where it names a difference.
 use crate::case::*;
 use crate::original::*;
 use std::fmt;
@@ -31,7 +31,7 @@ pub struct Want {
     pub did: Did,
     /// `None`: the original panicked, so document 01 leaves the input out.
     pub outcome: Option<Outcome>,
-    /// The difference that document 01 names and that makes the outcome its own.
+    /// The difference that document 01 or 02 names and that makes the outcome its own.
     pub named: Option<&'static str>,
 }
 
@@ -159,7 +159,8 @@ fn product(shape: (usize, usize)) -> u128 {
     shape.0 as u128 * shape.1 as u128
 }
 
-/// Reading, after document 01's 18 and 15: what the original answers, with the buffer as it must then be. The bool: it wrote before a 6.
+/// Reading, after document 01's 18 and 15: what the original answers, by its own numbers, with the buffer as it must then be. The bool: it wrote before
+/// its 6, which in mode 0 is for the animal list.
 fn read_said<T: Copy + PartialEq + BedVal>(path: &Path, r: &Reading, missing: T, val: &mut Vec<T>, mode: Option<&u8>) -> (Option<Said>, bool)
 where
     T: ToBits,
@@ -208,6 +209,28 @@ impl ToBits for i8 {
 
 const BEFORE_6: &str = "6 after earlier blocks were written";
 
+/// The first entry that document 01 calls bad: one that is none of -count to count - 1.
+fn first_bad_entry(count: usize, list: &[i64]) -> Option<i64> {
+    list.iter().copied().find(|&i| !(-(count as i128)..count as i128).contains(&(i as i128)))
+}
+
+/// What a reading is to answer. In mode 0 the original has 5 for the marker list, which it looks at first, and 6 for the animal list; document 02 has 5
+/// for the animal list and then 6 for the marker list, as in mode 1. So there with one list bad only the number is another; with both bad the original
+/// has only to refuse, and document 02 says the number, the entry and the buffers.
+fn read_want(c: &Case, r: &Reading, mode: Option<&u8>, said: Option<Said>, before_6: bool, written: Vec<Vec<u64>>) -> Want {
+    let told = match said {
+        Some(s) if mode == Some(&0) && (s.number == 5 || s.number == 6) => s,
+        _ => return Want { named: before_6.then_some(BEFORE_6), ..original(said, written) },
+    };
+    let named = |s: Said, name| document(did(said), outcome(s, written), name);
+    match (first_bad_entry(r.iid_count, r.iid_index), first_bad_entry(r.sid_count, r.sid_index)) {
+        (Some(entry), Some(_)) => document(did(said), c.unwritten(5, entry, 0), "5 in mode 0, both lists bad: only the refusal is the original's"),
+        _ if told.number == 5 => named(Said { number: 6, ..told }, "6 in mode 0: 5 in the original"),
+        _ if before_6 => named(Said { number: 5, ..told }, "5 in mode 0: 6 in the original, after earlier blocks were written"),
+        _ => named(Said { number: 5, ..told }, "5 in mode 0: 6 in the original"),
+    }
+}
+
 fn read<T: Copy + PartialEq + BedVal + ToBits>(c: &Case, folder: &Folder, mut val: Vec<T>, missing: T, bits: fn(&[T]) -> Vec<u64>) -> Want {
     let file = c.u8s(0);
     let (iids, sids) = (c.i64s(4), c.i64s(5));
@@ -233,7 +256,7 @@ fn read<T: Copy + PartialEq + BedVal + ToBits>(c: &Case, folder: &Folder, mut va
     if c.num(1) > TOP || c.num(2) > TOP {
         return document(did(said), c.unwritten(18, 0, 0), "18 added");
     }
-    Want { named: before_6.then_some(BEFORE_6), ..original(said, vec![bits(&val)]) }
+    read_want(c, &r, file.get(2), said, before_6, vec![bits(&val)])
 }
 
 /// At 7 only the refusal is the original's: it has packed the groups of four before the bad value, and document 02 leaves every byte as it was.
@@ -379,7 +402,7 @@ fn joined(c: &Case, folder: &Folder) -> Want {
     fs::write(&folder.file, &file).unwrap();
     let (said, before_6) = read_said(&folder.file, &r, f64::NAN, &mut val, file.get(2));
     if said != Some(DONE) {
-        return Want { named: before_6.then_some(BEFORE_6), ..original(said, vec![f64_bits(&val), f64_bits(&stats)]) };
+        return read_want(c, &r, file.get(2), said, before_6, vec![f64_bits(&val), f64_bits(&stats)]);
     }
     let values = val.clone();
     let said = guarded(|| ask_impute(&mut val, shape, r.animal_order, true, false, &mut stats, shape.1));
