@@ -7,7 +7,7 @@ ghost use Rattle.bed_file.specs.Says.{openSays};
 ghost use Rattle.bed_read.specs.Says.{readSays};
 ghost use Rattle.bed_write.specs.Says.{encodeSays, writeSays};
 ghost use Rattle.canonical.specs.Says.{canonicalSays};
-ghost use Rattle.standardise.specs.Standardised.{standardiseSays};
+ghost use Rattle.standardise.specs.Says.{standardiseSays};
 ghost use Rattle.read_standardised.specs.Says.{joinedSays};
 ghost use Rattle.product.specs.Says.{pieceSays};
 ghost use Rattle.bed_answer.specs.Interface.{bedAnswer, clipped, clipAnswer};

@@ -16,7 +16,7 @@ use Rattle.genotype.specs.Value.{Width, values, valueOf}
 use Rattle.bed_file.specs.File.{isMode1, items, blocks}
 use Rattle.bed_read.specs.Calls.{block, codeIn, callCode}
 use Rattle.bed_read.specs.Reading.{readAnswer, readCode, codesRead, valuesRead, readBuffer}
-use Rattle.product.specs.Values.{leNumber, floatAt, floatsOf, valueAt, column, row}
+use Rattle.product.specs.Values.{leNumber, floatAt, floatsOf, matrixValue, column, row}
 use Rattle.product.specs.Dot.{dot, dotFrom}
 use Rattle.product.specs.Piece.{pieceOf, ataEntry, aatEntry, ataAnswer, ataLeaves, aatAnswer, aatLeaves}
 use Rattle.root.specs.Root.{count, IsRoot, root}
@@ -134,11 +134,11 @@ firstBytes =
     ∷ 0 ∷ 0 ∷ 0 ∷ 0 ∷ 0 ∷ 0 ∷ 0x08 ∷ 0x40 ∷ []
 
 pub ata-two-by-two : ataLeaves firstBytes 0 2 2 0 2 2 oldPiece ≡ one ∷ fin false 3 (pos 0) ∷ fin false 3 (pos 0) ∷ fin false 13 (pos 0) ∷ []
-unfolding ataLeaves ataAnswer pieceOf ataEntry dot dotFrom floatsOf floatAt leNumber column valueAt tabulate ifDone ofBits add mul
+unfolding ataLeaves ataAnswer pieceOf ataEntry dot dotFrom floatsOf floatAt leNumber column matrixValue tabulate ifDone ofBits add mul
 ata-two-by-two = refl
 
 pub aat-two-by-two : aatLeaves firstBytes 0 2 2 0 2 2 oldPiece ≡ fin false 1 (pos 2) ∷ plusZero ∷ fin false 3 (pos 1) ∷ fin false 5 (pos 1) ∷ []
-unfolding aatLeaves aatAnswer pieceOf aatEntry dot dotFrom floatsOf floatAt leNumber row valueAt tabulate ifDone ofBits add mul
+unfolding aatLeaves aatAnswer pieceOf aatEntry dot dotFrom floatsOf floatAt leNumber row matrixValue tabulate ifDone ofBits add mul
 aat-two-by-two = refl
 
 -- "each sum runs upward from +0": of the columns −0, −0 and 1, 2 no sum is −0
@@ -150,11 +150,11 @@ minusZeroBytes =
     ∷ 0 ∷ 0 ∷ 0 ∷ 0 ∷ 0 ∷ 0 ∷ 0 ∷ 0x40 ∷ []
 
 pub ata-of-minus-zero : ataLeaves minusZeroBytes 0 2 2 0 2 2 oldPiece ≡ plusZero ∷ plusZero ∷ plusZero ∷ fin false 5 (pos 0) ∷ []
-unfolding ataLeaves ataAnswer pieceOf ataEntry dot dotFrom floatsOf floatAt leNumber column valueAt tabulate ifDone ofBits add mul
+unfolding ataLeaves ataAnswer pieceOf ataEntry dot dotFrom floatsOf floatAt leNumber column matrixValue tabulate ifDone ofBits add mul
 ata-of-minus-zero = refl
 
 pub aat-of-minus-zero : aatLeaves minusZeroBytes 0 2 2 0 2 2 oldPiece ≡ one ∷ plusZero ∷ two ∷ fin false 1 (pos 2) ∷ []
-unfolding aatLeaves aatAnswer pieceOf aatEntry dot dotFrom floatsOf floatAt leNumber row valueAt tabulate ifDone ofBits add mul
+unfolding aatLeaves aatAnswer pieceOf aatEntry dot dotFrom floatsOf floatAt leNumber row matrixValue tabulate ifDone ofBits add mul
 aat-of-minus-zero = refl
 
 -- a 1 × 1 product of −0 and 1 alone is +0 too, since the sum runs from +0

@@ -3,4 +3,4 @@ pub mod Values
 pub mod Dot
 pub mod Piece
 pub mod Says
-pub mod Steps
+pub mod Private

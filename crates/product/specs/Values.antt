@@ -19,13 +19,13 @@ unfoldable pub floatsOf : List ℕ → ℕ → ℕ → List Float
 floatsOf bytes offset count = tabulate count (λ k. floatAt bytes (offset + 8 * k))
 
 -- "column-order": "row i of column j" is value j × rows + i
-unfoldable pub valueAt : List Float → ℕ → ℕ → ℕ → Float
-valueAt values rows i j = getD values (j * rows + i) nan
+unfoldable pub matrixValue : List Float → ℕ → ℕ → ℕ → Float
+matrixValue values rows i j = getD values (j * rows + i) nan
 
 -- column j, row by row
 unfoldable pub column : List Float → ℕ → ℕ → List Float
-column values rows j = tabulate rows (λ i. valueAt values rows i j)
+column values rows j = tabulate rows (λ i. matrixValue values rows i j)
 
 -- row i, column by column
 unfoldable pub row : List Float → ℕ → ℕ → ℕ → List Float
-row values rows columns i = tabulate columns (λ j. valueAt values rows i j)
+row values rows columns i = tabulate columns (λ j. matrixValue values rows i j)

@@ -4,7 +4,7 @@ use lib.IntN.{pos}
 use Rattle.genotype.specs.Answer.{Answer, done, refused}
 use Rattle.bed_file.specs.Says.{faultNumber}
 use Rattle.bed_read.specs.Says.{readSays}
-use Rattle.standardise.specs.Standardised.{standardiseSays}
+use Rattle.standardise.specs.Says.{standardiseSays}
 use Rattle.read_standardised.specs.declared.AnswersInTurn.{AnswersInTurn}
 use Rattle.read_standardised.specs.declared.JoinedAnswer.{JoinedAnswer}
 use Rattle.read_standardised.specs.declared.JoinedAnswer.the-variants as answers

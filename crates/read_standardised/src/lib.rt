@@ -3,7 +3,7 @@ ghost use mathlib.Core.Path.{_≡_};
 ghost use lib.Ieee.{binary64};
 ghost use Rattle.genotype.specs.Answer.{isDone};
 ghost use Rattle.bed_read.specs.Says.{readSays};
-ghost use Rattle.standardise.specs.Standardised.{standardiseSays};
+ghost use Rattle.standardise.specs.Says.{standardiseSays};
 ghost use Rattle.read_standardised.specs.Says.{joinedSays, inTurnSays};
 ghost use Rattle.read_standardised.specs.Joined.{joinedAnswer, joinedStats, joinedValues};
 ghost use Rattle.read_standardised.specs.Ways.{inTurn, answersOf, valuesOf, statsOf};

@@ -16,7 +16,7 @@ use Rattle.genotype.proofs.MatrixLaws.{length-matrix, getD-matrix, matrix-ext}
 use Rattle.statistics.specs.declared.Stats.{Stats}
 use Rattle.statistics.specs.Statistics.{one, isInfinite, standardised, statsAt}
 use Rattle.standardise.specs.Standardised.{value}
-use Rattle.standardise.specs.Steps.{scaledAt, IsLoaded, written, from, markersApplied, allApplied}
+use Rattle.standardise.specs.Private.{scaledAt, IsLoaded, written, from, markersApplied, allApplied}
 use Rattle.statistics.specs.Statistics.{scaledBy}
 use Rattle.standardise.proofs.StoreLaws.{written-places}
 use Rattle.standardise.proofs.CellLaws.{own-cells, written-cells, upTo, upTo-below, upTo-above, none-new, all-new}

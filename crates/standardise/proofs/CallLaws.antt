@@ -17,8 +17,8 @@ use Rattle.statistics.specs.declared.Stats.{Stats}
 use Rattle.statistics.specs.declared.MarkerStats.{MarkerStats}
 use Rattle.statistics.specs.declared.MarkerStats.the-variants.{Found, NoIndividuals, IllegalSnpMean}
 use Rattle.statistics.specs.Statistics.{statsPerMarker, statsAt, inPlaces, foundFor, standardised}
-use Rattle.standardise.specs.Standardised.{markerAnswer, markersAnswer, bufferChecks, keptOrNew, applied, value, found, lowestRefused, standardiseAnswer, newStats, mayChange, newValues, laterStats, laterValues}
-use Rattle.standardise.specs.Steps.{allApplied}
+use Rattle.standardise.specs.Standardised.{markerAnswer, markersAnswer, bufferChecks, keptOrNew, applied, value, found, lowestRefused, standardiseAnswer, newStats, mayChange, newValues, laterStats, laterValues, Standardises}
+use Rattle.standardise.specs.Private.{allApplied, Processes, FindsStats}
 
 -- ---- the checks, in order
 module _ (iids sids : ℕ) (val stats : List Float) (later : Answer) where
@@ -48,8 +48,7 @@ module _ (iids sids : ℕ) (val stats : List Float) (later : Answer) where
 -- ---- a refused call, and one whose buffers are right
 module _ (f : Format) (order : Bool) (iids sids : ℕ) (val : List Float) (useStats : Bool) (stats : List Float) (apply : Bool) where
   pub call-refused : (n : ℕ) → ((later : Answer) → bufferChecks iids sids val stats later ≡ refused n [])
-      → (refused n [] ≡ standardiseAnswer f order iids sids val useStats stats) × (val ≡ laterValues f order iids sids val useStats stats apply)
-      × (stats ≡ laterStats f order iids sids val useStats stats)
+      → Standardises f order iids sids val useStats stats apply (refused n []) val stats
   unfolding standardiseAnswer laterValues laterStats
   call-refused n h = (
     sym (h (lowestRefused f order iids sids val useStats stats)),
@@ -58,10 +57,8 @@ module _ (f : Format) (order : Bool) (iids sids : ℕ) (val : List Float) (useSt
   )
 
   pub call-made : ((later : Answer) → bufferChecks iids sids val stats later ≡ later) → (order′ : Bool) → order ≡ order′ → (answer : Answer) (values statistics : List Float)
-      → (answer ≡ lowestRefused f order′ iids sids val useStats stats) × (values ≡ newValues f order′ iids sids val useStats stats apply)
-      × (statistics ≡ newStats f order′ iids sids val useStats stats)
-      → (answer ≡ standardiseAnswer f order iids sids val useStats stats) × (values ≡ laterValues f order iids sids val useStats stats apply)
-      × (statistics ≡ laterStats f order iids sids val useStats stats)
+      → Processes f order′ iids sids val useStats stats apply answer values statistics
+      → Standardises f order iids sids val useStats stats apply answer values statistics
   unfolding standardiseAnswer laterValues laterStats
   call-made h order′ o answer values statistics (a, v, s) = (
     a ∙ ap (λ (b : Bool). lowestRefused f b iids sids val useStats stats) (sym o) ∙ sym (h (lowestRefused f order iids sids val useStats stats)),
@@ -88,8 +85,7 @@ module _ (f : Format) (order : Bool) (iids sids : ℕ) (val : List Float) (useSt
   lent-stats e = simp e
 
   pub as-not-lent : useStats ≡ false → (answer : Answer) (statistics : List Float)
-      → (answer ≡ lowestRefused f order iids sids val false stats) × (statistics ≡ newStats f order iids sids val false stats)
-      → (answer ≡ lowestRefused f order iids sids val useStats stats) × (statistics ≡ newStats f order iids sids val useStats stats)
+      → FindsStats f order iids sids val false stats answer statistics → FindsStats f order iids sids val useStats stats answer statistics
   as-not-lent e answer statistics (a, s) = (
     a ∙ ap (λ (b : Bool). lowestRefused f order iids sids val b stats) (sym e),
     s ∙ ap (λ (b : Bool). newStats f order iids sids val b stats) (sym e),

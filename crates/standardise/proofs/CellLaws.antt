@@ -13,7 +13,7 @@ use borrow.Author.Tests.{lt-ltb, le-ltb}
 use Rattle.genotype.specs.Matrix.{matrixPlace, matrix}
 use Rattle.genotype.proofs.Tests.{leb-both}
 use Rattle.genotype.proofs.MatrixLaws.{length-matrix, place-below, getD-matrix, matrix-ext}
-use Rattle.standardise.specs.Steps.{written}
+use Rattle.standardise.specs.Private.{written}
 use Rattle.standardise.proofs.StoreLaws.{length-written, getD-written}
 
 -- each place inside is that of a row and a column

@@ -13,7 +13,7 @@ use Rattle.statistics.specs.declared.MarkerStats.{MarkerStats}
 use Rattle.statistics.specs.declared.MarkerStats.the-variants.{Found}
 use Rattle.statistics.specs.Statistics.{one, isInfinite, standardised, inPlaces, statsPerMarker, markerStats, foundFor}
 use Rattle.standardise.specs.Standardised.{keptOrNew, applied}
-use Rattle.standardise.specs.Steps.{laterStat, laterValue, written, changed}
+use Rattle.standardise.specs.Private.{laterStat, laterValue, written, changed, storedStats}
 use Rattle.statistics.specs.Statistics.{scaledBy}
 use Rattle.standardise.proofs.StoreLaws.{written-ext, written-same, changed-ext}
 
@@ -63,7 +63,7 @@ module _ (xs : List Float) (m : ℕ) where
   kept g e = sym (written-same xs (λ c. m * statsPerMarker + c) statsPerMarker) ∙ written-ext xs (λ c. m * statsPerMarker + c) (λ c. getD xs (m * statsPerMarker + c) nan) g statsPerMarker (λ c h. e c)
 
   pub lent-kept : (useStats : Bool) (found : MarkerStats) → useStats ≡ true
-      → xs ≡ written xs (λ c. m * statsPerMarker + c) (λ c. laterStat useStats found c (getD xs (m * statsPerMarker + c) nan)) statsPerMarker
+      → xs ≡ storedStats useStats found m xs
   unfolding laterStat
   lent-kept useStats found e =
       kept (λ c. laterStat useStats found c (getD xs (m * statsPerMarker + c) nan))
@@ -71,14 +71,14 @@ module _ (xs : List Float) (m : ℕ) where
 
   pub found-stored : (useStats : Bool) (found : MarkerStats) (s : Stats) → useStats ≡ false → found ≡ Found s
       → written xs (λ c. m * statsPerMarker + c) (λ c. getD (inPlaces s) c nan) statsPerMarker
-      ≡ written xs (λ c. m * statsPerMarker + c) (λ c. laterStat useStats found c (getD xs (m * statsPerMarker + c) nan)) statsPerMarker
+      ≡ storedStats useStats found m xs
   unfolding laterStat keptOrNew
   found-stored useStats found s e g =
       written-ext xs (λ c. m * statsPerMarker + c) (λ c. getD (inPlaces s) c nan) (λ c. laterStat useStats found c (getD xs (m * statsPerMarker + c) nan)) statsPerMarker
       (λ c h. sym (ap (λ (b : Bool). laterStat b found c (getD xs (m * statsPerMarker + c) nan)) e ∙ ap (λ (x : MarkerStats). laterStat false x c (getD xs (m * statsPerMarker + c) nan)) g))
 
   pub refused-stats-kept : (useStats : Bool) (found : MarkerStats) → ((c : ℕ) (v : Float) → v ≡ keptOrNew found c v)
-      → xs ≡ written xs (λ c. m * statsPerMarker + c) (λ c. laterStat useStats found c (getD xs (m * statsPerMarker + c) nan)) statsPerMarker
+      → xs ≡ storedStats useStats found m xs
   unfolding laterStat
   refused-stats-kept true found e = kept (λ c. laterStat true found c (getD xs (m * statsPerMarker + c) nan)) (λ c. refl)
   refused-stats-kept false found e = kept (λ c. laterStat false found c (getD xs (m * statsPerMarker + c) nan)) (λ c. e c (getD xs (m * statsPerMarker + c) nan))

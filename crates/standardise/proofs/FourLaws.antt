@@ -11,7 +11,7 @@ use Rattle.statistics.specs.declared.Accumulator.{Accumulator}
 use Rattle.statistics.specs.Statistics.{one, counted, accumulated}
 use Rattle.statistics.proofs.CountLaws.{accumulated-more}
 use Rattle.statistics.proofs.FloatLaws.{number-counted}
-use Rattle.standardise.specs.Steps.{from, countedFour}
+use Rattle.standardise.specs.Private.{from, countedFour, Accumulates}
 
 -- one after the other
 pub each-counted :
@@ -51,23 +51,25 @@ accumulated-four f column n {a} {b} e s =
 -- one value more, and four numbers more, of any column
 module _ (f : Format) (a : Accumulator) (i : ℕ) (v0 v1 v2 v3 : Float) where
   pub one-passed :
-      (b : Accumulator) (j : ℕ) → j ≡ i + 1 → b ≡ counted f a v0
-      → (column : ℕ → Float) → v0 ≡ column i → v1 ≡ column (i + 1) → v2 ≡ column (i + 2) → v3 ≡ column (i + 3)
-      → a ≡ accumulated f column i → b ≡ accumulated f column j
-  one-passed b j k e column e0 e1 e2 e3 s = accumulated-more f column i (e ∙ ap (counted f a) e0) s ∙ ap (accumulated f column) (sym k)
+      (b : Accumulator) (j : ℕ) → j ≡ i + 1 → b ≡ counted f a v0 → Accumulates f a i v0 v1 v2 v3 b j
+  one-passed b j k e =
+      (omega arith, omega arith, λ column e0 e1 e2 e3 s. accumulated-more f column i (e ∙ ap (counted f a) e0) s ∙ ap (accumulated f column) (sym k))
 
   pub four-passed :
       ne v0 v0 ≡ false → ne v1 v1 ≡ false → ne v2 v2 ≡ false → ne v3 v3 ≡ false
-      → (column : ℕ → Float) → v0 ≡ column i → v1 ≡ column (i + 1) → v2 ≡ column (i + 2) → v3 ≡ column (i + 3)
-      → a ≡ accumulated f column i → more f (more f (more f (more f a v0) v1) v2) v3 ≡ accumulated f column (i + 4)
-  four-passed n0 n1 n2 n3 column e0 e1 e2 e3 s =
-      accumulated-four f column i {a = a} {b = more f (more f (more f (more f a v0) v1) v2) v3}
-      (four-counted f a v0 v1 v2 v3 n0 n1 n2 n3
-      ∙ ap (λ (x : Float). countedFour f a x v1 v2 v3) e0
-      ∙ ap (λ (x : Float). countedFour f a (column i) x v2 v3) e1
-      ∙ ap (λ (x : Float). countedFour f a (column i) (column (i + 1)) x v3) e2
-      ∙ ap (λ (x : Float). countedFour f a (column i) (column (i + 1)) (column (i + 2)) x) e3)
-      s
+      → Accumulates f a i v0 v1 v2 v3 (more f (more f (more f (more f a v0) v1) v2) v3) (i + 4)
+  four-passed n0 n1 n2 n3 = (
+    omega arith,
+    omega arith,
+    λ column e0 e1 e2 e3 s.
+        accumulated-four f column i {a = a} {b = more f (more f (more f (more f a v0) v1) v2) v3}
+        (four-counted f a v0 v1 v2 v3 n0 n1 n2 n3
+        ∙ ap (λ (x : Float). countedFour f a x v1 v2 v3) e0
+        ∙ ap (λ (x : Float). countedFour f a (column i) x v2 v3) e1
+        ∙ ap (λ (x : Float). countedFour f a (column i) (column (i + 1)) x v3) e2
+        ∙ ap (λ (x : Float). countedFour f a (column i) (column (i + 1)) (column (i + 2)) x) e3)
+        s,
+  )
 
 -- a place of a column
 pub column-place : (val : List Float) (start i j : ℕ) → getD val (start + i + j) nan ≡ from val start (i + j)

@@ -14,7 +14,7 @@ use Rattle.statistics.specs.declared.Stats.{Stats}
 use Rattle.statistics.specs.declared.MarkerStats.{MarkerStats}
 use Rattle.statistics.specs.Statistics.{statsPerMarker, statsAt, foundFor}
 use Rattle.standardise.specs.Standardised.{markerAnswer, markersAnswer, keptOrNew, applied, value, found, lowestRefused, newStats, mayChange, newValues}
-use Rattle.standardise.specs.Steps.{laterStat, laterValue, written, from, changed}
+use Rattle.standardise.specs.Private.{laterStat, laterValue, written, from, changed, storedStats, StatsIn}
 use Rattle.genotype.proofs.MatrixLaws.{length-matrix}
 use Rattle.standardise.proofs.CellLaws.{own-cells, upTo, column-more, column-old, none-new, all-new}
 use Rattle.statistics.proofs.CountLaws.{foundFor-ext}
@@ -58,7 +58,7 @@ module _ (sids : ℕ) (useStats : Bool) (found : ℕ → MarkerStats) (stats : L
     pub stats-length : length now ≡ statsPerMarker * sids
     stats-length = ap length (p .stored) ∙ length-matrix false statsPerMarker sids _
 
-    pub marker-inside : m < sids → m * statsPerMarker + statsPerMarker ≤ length now
+    pub marker-inside : m < sids → StatsIn now m
     marker-inside h = let l : length now ≡ 2 * sids = stats-length in omega arith
 
     module _ (h : m < sids) where
@@ -78,7 +78,7 @@ module _ (sids : ℕ) (useStats : Bool) (found : ℕ → MarkerStats) (stats : L
           ap (λ (x : Float). pairOf x (getD now (m * 2 + 1) nan)) z ∙ ap (pairOf (getD stats (m * 2) nan)) (stat-old 1 (omega arith))
 
       pub stats-passed-more : (answer′ : Answer) (later : List Float) (r : MarkerStats) → r ≡ found m → answer′ ≡ ifDone answer (markerAnswer m r) answer
-          → later ≡ written now (λ c. m * statsPerMarker + c) (λ c. laterStat useStats r c (oldStat now c m)) statsPerMarker
+          → later ≡ storedStats useStats r m now
           → StatsPassed (m + 1) answer′ later
       stats-passed-more answer′ later r g a w = record {
         within = omega arith;
@@ -195,7 +195,7 @@ module _ (f : Format) (iids sids : ℕ) (val : List Float) (useStats : Bool) (st
 
     pub passed-more : (answer′ : Answer) (values′ statistics′ : List Float) → answer′ ≡ ifDone answer (markerAnswer m r) answer
         → values′ ≡ changed values (m * iids) iids (laterValue f apply r)
-        → statistics′ ≡ written statistics (λ c. m * statsPerMarker + c) (λ c. laterStat useStats r c (oldStat statistics c m)) statsPerMarker
+        → statistics′ ≡ storedStats useStats r m statistics
         → Passed (m + 1) answer′ values′ statistics′
     passed-more answer′ values′ statistics′ a v s = record {
       counted = stats-passed-more sids useStats here stats (p .counted) h answer′ statistics′ r is-found a s;

@@ -20,7 +20,7 @@ use Rattle.statistics.specs.declared.MarkerStats.the-variants.{Found, NoIndivid
 use Rattle.statistics.specs.Statistics.{accumulated, mean, statsOf, noValue, markerStats, foundFor, statsPerMarker, statsAt}
 use Rattle.standardise.specs.Standardised.{markerAnswer, markersAnswer, bufferChecks, keptOrNew, applied, value, found, lowestRefused, newStats, laterStats, laterValues}
 use Rattle.standardise.specs.Refused.{IsRefused, IsFound, IsLowestRefused}
-use Rattle.standardise.specs.Steps.{laterValue}
+use Rattle.standardise.specs.Private.{laterValue}
 use Rattle.standardise.proofs.Theorems.{later-value, changes, either-same}
 
 -- ---- 1. the answer of the first n markers

@@ -10,7 +10,7 @@ use lib.Seq.{getD-set-same, getD-set-other, set-getD}
 use lib.Ieee.{Float, nan}
 use borrow.Author.Tests.{eqb-true, eqb-false}
 use Rattle.genotype.proofs.Tests.{by-test}
-use Rattle.standardise.specs.Steps.{written, from, changed}
+use Rattle.standardise.specs.Private.{written, from, changed}
 
 module _ (xs : List Float) (place : ℕ → ℕ) where
   pub length-written : (v : ℕ → Float) (k : ℕ) → length (written xs place v k) ≡ length xs

@@ -24,7 +24,7 @@ use Rattle.statistics.specs.Calls.{IsCall, isZero, isOne, isTwo, isMissing, Few
 use Rattle.statistics.proofs.CountLaws.{foundFor-ext}
 use Rattle.statistics.proofs.Exact.{reordered-stats, names-below, names-same}
 use Rattle.standardise.specs.Standardised.{markerAnswer, markersAnswer, bufferChecks, keptOrNew, applied, value, found, lowestRefused, standardiseAnswer, newStats, mayChange, newValues, laterStats, laterValues}
-use Rattle.standardise.specs.Steps.{laterValue}
+use Rattle.standardise.specs.Private.{laterValue}
 
 -- ---- what rests on what is found for the markers
 markersAnswer-ext : (g h : ℕ → MarkerStats) (n : ℕ) → ((m : ℕ) → m < n → g m ≡ h m) → markersAnswer g n ≡ markersAnswer h n

@@ -15,17 +15,13 @@ use Rattle.genotype.specs.Matrix.{matrixPlace}
 use Rattle.genotype.proofs.Tests.{by-test, leb-both}
 use Rattle.statistics.specs.declared.Accumulator.{Accumulator}
 use Rattle.statistics.specs.declared.MarkerStats.{MarkerStats}
-use Rattle.statistics.specs.Statistics.{plusZero, start, counted, accumulated, foundFor, statsPerMarker}
+use Rattle.statistics.specs.Statistics.{plusZero, start, counted, accumulated, foundFor}
 use Rattle.standardise.specs.Standardised.{value, found, markerAnswer}
-use Rattle.standardise.specs.Steps.{from, countedFour, accumulatorAt, laterStat, written}
+use Rattle.standardise.specs.Private.{from, countedFour, accumulatorAt, tileWidth, AreLong, storedStats}
 use Rattle.statistics.specs.Statistics.{statsFrom}
 use Rattle.statistics.proofs.CountLaws.{accumulated-more, stats-from}
 use Rattle.standardise.proofs.FourLaws.{accumulated-four}
-use Rattle.standardise.proofs.PassLaws.{StatsPassed, stats-passed-more, oldStat}
-
--- how many neighbouring markers are accumulated at a time
-abbrev pub tileWidth : ℕ
-tileWidth = 1024
+use Rattle.standardise.proofs.PassLaws.{StatsPassed, stats-passed-more}
 
 abbrev triple : Float → Float → Float → Accumulator
 triple x y z = record { count = x; sum = y; squares = z }
@@ -44,11 +40,6 @@ module _ (counts sums squares : List Float) (j : ℕ) (a : Accumulator) where
       ∙ ap (λ (y : Float). triple (getD counts k nan) y (getD (set squares j (a .squares)) k nan)) (getD-set-other sums j k (a .sum) nan n)
       ∙ ap (λ (z : Float). triple (getD counts k nan) (getD sums k nan) z) (getD-set-other squares j k (a .squares) nan n)
 
-pub record AreLong (counts sums squares : List Float) : Type 0 where
-  pub counts-long : length counts ≡ tileWidth
-  pub sums-long : length sums ≡ tileWidth
-  pub squares-long : length squares ≡ tileWidth
-
 -- ---- one animal, or four: the accumulators of the first j markers have made their step
 module _ (step : ℕ → Accumulator → Accumulator) (before : ℕ → Accumulator) where
   pub record RowCounted (j : ℕ) (counts sums squares : List Float) : Type 0 where
@@ -59,18 +50,18 @@ module _ (step : ℕ → Accumulator → Accumulator) (before : ℕ → Accumula
       → a ≡ step j (accumulatorAt counts sums squares j) → RowCounted (j + 1) (set counts j (a .count)) (set sums j (a .sum)) (set squares j (a .squares))
   row-more j counts sums squares a h p e = record {
     long = record {
-      counts-long = length-set counts j (a .count) ∙ p .long .counts-long;
-      sums-long = length-set sums j (a .sum) ∙ p .long .sums-long;
-      squares-long = length-set squares j (a .squares) ∙ p .long .squares-long;
+      first-long = length-set counts j (a .count) ∙ p .long .first-long;
+      second-long = length-set sums j (a .sum) ∙ p .long .second-long;
+      third-long = length-set squares j (a .squares) ∙ p .long .third-long;
     };
     each = λ k. by-test (eqb k j) (λ t. same k (eqb-true k j t)) (λ t. other k (eqb-false k j t));
   }
     where
       same : (k : ℕ) → k ≡ j → accumulatorAt (set counts j (a .count)) (set sums j (a .sum)) (set squares j (a .squares)) k ≡ cond (ltb k (j + 1)) (step k (before k)) (before k)
       same k q =
-          let l1 : length counts ≡ tileWidth = p .long .counts-long in
-          let l2 : length sums ≡ tileWidth = p .long .sums-long in
-          let l3 : length squares ≡ tileWidth = p .long .squares-long in
+          let l1 : length counts ≡ tileWidth = p .long .first-long in
+          let l2 : length sums ≡ tileWidth = p .long .second-long in
+          let l3 : length squares ≡ tileWidth = p .long .third-long in
           let old : accumulatorAt counts sums squares j ≡ before j = (p .each j ∙ ap (λ (b : Bool). cond b (step j (before j)) (before j)) (le-ltb j j (omega arith))) in
           ap (accumulatorAt (set counts j (a .count)) (set sums j (a .sum)) (set squares j (a .squares))) q
           ∙ at-same counts sums squares j a (omega arith) (omega arith) (omega arith)
@@ -186,7 +177,7 @@ module _ (f : Format) (iids sids : ℕ) (val : List Float) (base : ℕ) (answer�
   pub passed-from-more : (j : ℕ) (answer : Answer) (stats : List Float) → PassedFrom j answer stats → base + j < sids → (a : Accumulator) (r : MarkerStats) → r ≡ statsFrom f a
       → a ≡ accumulated f (λ i. value true iids sids val i (base + j)) iids → (answer′ : Answer) (stats′ : List Float) → answer′ ≡ ifDone answer (markerAnswer (base + j) r) answer
       → length stats′ ≡ length stats
-      → stats′ ≡ written stats (λ c. (base + j) * statsPerMarker + c) (λ c. laterStat false r c (oldStat stats c (base + j))) statsPerMarker
+      → stats′ ≡ storedStats false r (base + j) stats
       → PassedFrom (j + 1) answer′ stats′
   passed-from-more j answer stats p h a r e g answer′ stats′ u l w = record {
     long = l ∙ p .long;

@@ -2,4 +2,5 @@
 -- stand above it.
 pub mod Standardised
 pub mod Refused
-pub mod Steps
+pub mod Says
+pub mod Private

@@ -1,4 +1,5 @@
 -- What standardising answers and what it leaves in the two lent buffers. Definitions only.
+use mathlib.Core.Path.{_≡_}
 use mathlib.Core.Bool.{Bool, true, false, _&&_, cond}
 use mathlib.Core.List.{List, [], _∷_}
 use Prim.Native.Nat.{ℕ, zero, suc, _+_, _*_}
@@ -10,18 +11,7 @@ use Rattle.genotype.specs.Answer.{Answer, done, refused, check, checkCount, isD
 use Rattle.genotype.specs.Matrix.{matrixPlace, matrix}
 use Rattle.statistics.specs.declared.MarkerStats.{MarkerStats}
 use Rattle.statistics.specs.declared.MarkerStats.the-variants.{Found, NoIndividuals, IllegalSnpMean}
-use Rattle.standardise.specs.declared.StandardiseAnswer.{StandardiseAnswer}
-use Rattle.standardise.specs.declared.StandardiseAnswer.the-variants as answers
 use Rattle.statistics.specs.Statistics.{foundFor, statsPerMarker, inPlaces, statsAt, standardised}
-
--- document 01's number and values for each case
-abbrev pub standardiseSays : StandardiseAnswer → Answer
-standardiseSays answers.Done = done []
-standardiseSays answers.CountTooLarge = refused 18 []
-standardiseSays answers.IndexMismatch = refused 15 []
-standardiseSays answers.StatsMismatch = refused 17 []
-standardiseSays (answers.NoIndividuals m) = refused 13 (pos m ∷ [])
-standardiseSays (answers.IllegalSnpMean m) = refused 14 (pos m ∷ [])
 
 -- "13 and 14 carry the marker's place in the matrix, from 0"
 unfoldable pub markerAnswer : ℕ → MarkerStats → Answer
@@ -101,3 +91,7 @@ module _ (f : Format) (order : Bool) (iids sids : ℕ) (val : List Float) (useSt
   unfoldable pub laterValues : Bool → List Float
   unfolding ifDone bufferChecks newValues
   laterValues apply = ifDone (bufferChecks iids sids val stats (done [])) (newValues apply) val
+
+  -- a call's answer, and both buffers afterwards
+  abbrev pub Standardises : Bool → Answer → List Float → List Float → Type 0
+  Standardises apply said valAfter statsAfter = (said ≡ standardiseAnswer) × (valAfter ≡ laterValues apply) × (statsAfter ≡ laterStats)

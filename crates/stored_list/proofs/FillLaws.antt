@@ -8,7 +8,7 @@ use lib.ListN.{length, getD, set, length-set}
 use lib.Seq.{getD-set-same, getD-set-other}
 use Rattle.genotype.specs.Lists.{tabulate}
 use Rattle.genotype.proofs.Tabulate.{is-tabulate}
-use Rattle.product.proofs.Parts.{below-or}
+use Rattle.product.proofs.PartLaws.{below-or}
 
 -- the first i of n places have what f says
 pub record Filled {A : Type 0} (none : A) (f : ℕ → A) (n i : ℕ) (out : List A) : Type 0 where

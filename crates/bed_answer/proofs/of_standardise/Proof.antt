@@ -1,5 +1,5 @@
 -- `of_standardise`, case by case.
-use Rattle.standardise.specs.Standardised.{standardiseSays}
+use Rattle.standardise.specs.Says.{standardiseSays}
 use Rattle.bed_answer.specs.Interface.{bedAnswer, numberOf, valuesOf, clip, carriesEntry, clipAnswer}
 use Rattle.bed_answer.proofs.AnswerLaws.{told}
 use borrow.Author.Needs.{needs}

@@ -1,6 +1,6 @@
 -- `of_standardising`, variant by variant.
 use mathlib.Core.Path.{sym, ap}
-use Rattle.standardise.specs.Standardised.{standardiseSays}
+use Rattle.standardise.specs.Says.{standardiseSays}
 use borrow.Author.Needs.{needs}
 use Rattle.read_standardised.proofs.of_standardising.Statement.{statement}
 use Rattle.read_standardised.proofs.of_standardising.Tie as tie

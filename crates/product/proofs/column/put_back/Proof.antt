@@ -3,7 +3,7 @@ use mathlib.Core.Path.{_≡_, refl}
 use Prim.Native.Nat.{_-_, _≤_}
 use native.Mathlib.Omega.{arith}
 use lib.ListN.{length, length-set}
-use Rattle.product.proofs.Columns.{PutTo, put-none, put-more}
+use Rattle.product.proofs.ColumnLaws.{PutTo, put-none, put-more}
 use Rattle.product.proofs.column.put_back.Statement.{statement}
 use Rattle.product.proofs.column.put_back.Tie as tie
 
@@ -42,8 +42,10 @@ loop-less c = omega arith
 
 loop-again : tie.Need-loop-again Inv-loop μ-loop
 loop-again c =
+    let a = c .before .before .before .args in
+    let s = c .before .before .before .pre in
     let w = c .before .before .loop in
-    (omega arith, simp length-set (omega arith), put-more (c .before .before .before .args .src .now) (c .before .before .before .args .from) (c .before .before .before .args .width) (c .before .before .before .args .piece .now) (w .piece) (w .i) (c .before .before .before .pre .0) (omega (arith, c .before .before .before .pre .1 (w .i) (omega arith))) (w .inv .2))
+    (omega arith, simp length-set (omega arith), put-more (a .src .now) (a .from) (a .width) (a .piece .now) (w .piece) (w .i) (s .0) (omega (arith, s .1 (w .i) (omega arith))) (w .inv .2))
 
 same-length : tie.Need-same-length Inv-loop μ-loop
 same-length c = c .before .loop .inv .1

@@ -5,7 +5,7 @@ use native.Mathlib.Omega.{arith}
 use borrow.Author.Needs.{needs}
 use lib.ListN.{length, getD, length-set}
 use lib.Ieee.{nan}
-use Rattle.product.proofs.InPlace.{filled, filled-none, filled-step, filled-all}
+use Rattle.product.proofs.InPlaceLaws.{filled, filled-none, filled-step, filled-all}
 use Rattle.product.proofs.column.take_out.Statement.{statement}
 use Rattle.product.proofs.column.take_out.Tie as tie
 

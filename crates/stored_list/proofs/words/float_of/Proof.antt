@@ -1,7 +1,7 @@
 -- A pattern of a NaN, and one that is not.
 use mathlib.Core.Path.{sym}
 use lib.Ieee.{binary64, div, ofBits}
-use Rattle.product.proofs.Bytes.{pattern-nan, pattern-number}
+use Rattle.product.proofs.ByteLaws.{pattern-nan, pattern-number}
 use borrow.Author.Needs.{needs}
 use Rattle.stored_list.proofs.words.float_of.Statement.{statement}
 use Rattle.stored_list.proofs.words.float_of.Tie as tie
