@@ -3,7 +3,7 @@ use mathlib.Core.Path.{sym, _∙_}
 use Prim.Native.Nat.{_-_}
 use native.Mathlib.Omega.{arith}
 use Rattle.bed_write.specs.Writing.{bedFile}
-use Rattle.bed_write.specs.Inner.{byTable, placed}
+use Rattle.bed_write.specs.Private.{byTable, placed}
 use Rattle.bed_write.proofs.RowLaws.{Rows, byte-in, stored, row-done, tile-done, tile-starts, row-starts, all-done, whole-size, first-in, whole-byte, headed-length, headed-1, headed-2, headed-rows, headed-done}
 use Rattle.bed_write.proofs.write.write_i8.write_file_i8.Statement.{statement}
 use Rattle.bed_write.proofs.write.write_i8.write_file_i8.Tie as tie

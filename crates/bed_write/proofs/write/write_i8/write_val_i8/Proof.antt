@@ -3,8 +3,7 @@ use mathlib.Core.Path.{sym, ap, _∙_}
 use Prim.Native.Nat.{ℕ, _+_, _*_}
 use Rattle.genotype.specs.Value.{i8}
 use Rattle.bed_write.specs.Writing.{valueCode}
-use Rattle.bed_write.specs.Says.{badSays}
-use Rattle.bed_write.specs.Inner.{CodesOfBytes, byTable, placed}
+use Rattle.bed_write.specs.Private.{badSays, CodesOfBytes, byTable, placed}
 use Rattle.bed_write.proofs.ByteLaws.{as-given, held-found}
 use Rattle.bed_write.proofs.WriteLaws.{passed, value-coded, byte-same, none-called, same-file, write-bad, write-done, write-refused}
 use borrow.Author.Needs.{needs}
