@@ -10,7 +10,7 @@ use lib.Ieee.Fits.{up-pos, and-l}
 use lib.Ieee.Bits.{is-true, nanBits-is}
 use lib.Ieee.Positive.{positive}
 use Rattle.root.specs.Root.{root}
-use Rattle.root.proofs.Patterns.{pattern-of, number-at}
+use Rattle.root.proofs.PatternLaws.{pattern-of, number-at}
 use Rattle.root.proofs.Roots.{zero-value}
 
 wrong : {X : Type 0} (b : Bool) → b ≡ true → b ≡ false → X

@@ -6,8 +6,8 @@ use native.Mathlib.Nat.{le-trans, mul-le-mul, mul-le-mul-left, mul-le-mul-right,
 use native.Mathlib.Numerals.{add-one}
 use native.Mathlib.Omega.{arith}
 use lib.Pow.{pow-add}
-use Rattle.root.specs.Whole.{IsWholeRoot}
-use Rattle.root.proofs.Patterns.{here-or-on}
+use Rattle.root.specs.Private.{IsWholeRoot}
+use Rattle.root.proofs.PatternLaws.{here-or-on}
 
 -- ---- how large a root is
 pub root-under : (n s r b : ℕ) → IsWholeRoot n s r → n < b * b → s < b

@@ -10,10 +10,10 @@ use lib.Pow.{pow-add, pow-pos, pow-mono}
 use lib.Ieee.{Float, Format, binary32, binary64, prec, emax, low, hid, ones, ofBits}
 use lib.Ieee.Positive.{positive}
 use Rattle.root.specs.Root.{count, scaled, root}
-use Rattle.root.specs.Whole.{IsWholeRoot, IsScaled}
-use Rattle.root.proofs.Patterns.{At, at-count, subnormal-at, normal-at, hid-pos, here-or-on}
+use Rattle.root.specs.Private.{IsWholeRoot, IsScaled}
+use Rattle.root.proofs.PatternLaws.{At, at-count, subnormal-at, normal-at, hid-pos, here-or-on}
 use Rattle.root.proofs.Roots.{mid, mid-is, root-at, squared}
-use Rattle.root.proofs.Wholes.{root-under, root-over}
+use Rattle.root.proofs.WholeLaws.{root-under, root-over}
 
 -- ---- a format's numbers
 two-emax : (f : Format) → 2 ≤ emax f

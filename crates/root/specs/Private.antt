@@ -1,4 +1,4 @@
--- What the steps of the calculation promise each other. Nothing outside this crate rests on it. Definitions only.
+-- What only private functions speak in: what the steps of the calculation promise each other.
 use mathlib.Core.Path.{_≡_}
 use Prim.Native.Nat.{ℕ, _+_, _-_, _*_, _^_, _≤_, _<_}
 use lib.Ieee.{Float, Format, emax, hid}
