@@ -9,7 +9,7 @@ use Rattle.genotype.specs.Block.{divAnswer}
 use Rattle.genotype.specs.Entry.{entryAnswer}
 use Rattle.genotype.specs.Value.{Width, i8}
 use Rattle.index.specs.declared.Index.the-variants as Index
-use Rattle.index.specs.declared.SliceEnd.the-variants as SliceEnd
+use Rattle.index.specs.declared.slice.SliceEnd.the-variants as SliceEnd
 use Rattle.index.specs.Checks.{indexBuffer}
 use Rattle.bed_file.specs.File.{acceptAnswer}
 use Rattle.bed_read.specs.Reading.{readBuffer}

@@ -12,7 +12,7 @@ use lib.Seq.{take-suc}
 use Rattle.genotype.specs.Answer.{Answer, done, refused, check}
 use Rattle.genotype.specs.Lists.{tabulate}
 use Rattle.index.specs.Checks.{listAnswer, listBuffer}
-use Rattle.index.specs.Inner.{Listed, Checked}
+use Rattle.index.specs.Private.{Listed, Checked}
 
 -- a list at the front of a buffer
 abbrev pub laid : List ℤ → List ℤ → List ℤ

@@ -8,16 +8,16 @@ use borrow.Author.Tests.{eq-eqb, ne-eqb, le-leb, lt-leb}
 use lib.IntN.{ℤ, pos}
 use lib.ListN.{length}
 use Rattle.genotype.specs.Answer.{Answer, refused, check, checkCount, countLimit}
-use Rattle.index.specs.declared.RangeAny.{RangeAny}
-use Rattle.index.specs.declared.RangeNdSlice.{RangeNdSlice}
-use Rattle.index.specs.declared.SliceInfo1.{SliceInfo1}
+use Rattle.index.specs.declared.range.RangeAny.{RangeAny}
+use Rattle.index.specs.declared.slice.RangeNdSlice.{RangeNdSlice}
+use Rattle.index.specs.declared.slice.SliceInfo1.{SliceInfo1}
 use Rattle.index.specs.declared.Index.{Index}
 use Rattle.index.specs.declared.Index.the-variants as Index
 use Rattle.index.specs.Numbers.{marked, rangeList, sliceList, indexList}
 use Rattle.index.specs.Checks.{checkRange, checkSlice, checkIndex, listAnswer, listBuffer, indexAnswer, indexBuffer}
-use Rattle.index.specs.Inner.{walkOf, Walk, numbers, Listed, Checked}
-use Rattle.index.proofs.Buffers.{let-through, stopped}
-use Rattle.index.proofs.Slices.{consecutive}
+use Rattle.index.specs.Private.{walkOf, Walk, numbers, Listed, Checked}
+use Rattle.index.proofs.BufferLaws.{let-through, stopped}
+use Rattle.index.proofs.SliceLaws.{consecutive}
 
 module _ (index : Index) (count : ℕ) (vec : List ℤ) (marks : List ℕ) (old : List ℤ) where
   abbrev Promised : Answer → List ℤ → Type 0

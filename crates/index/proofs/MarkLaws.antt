@@ -10,7 +10,7 @@ use lib.IntN.{ℤ, pos}
 use lib.Dec.{eqb}
 use lib.ListN.{length, getD, length-append, length-map}
 use Rattle.index.specs.Numbers.{numbersBelow, marked}
-use Rattle.index.proofs.Below.{below-more, below-same, below-grows}
+use Rattle.index.proofs.BelowLaws.{below-more, below-same, below-grows}
 
 abbrev isMarked : List ℕ → ℕ → Bool
 isMarked marks i = not (eqb (getD marks i 0) 0)

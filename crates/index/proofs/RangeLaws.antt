@@ -8,16 +8,16 @@ use borrow.Author.Tests.{le-leb, lt-leb, leb-true}
 use lib.IntN.{ℤ, pos}
 use lib.Dec.{leb}
 use Rattle.genotype.specs.Answer.{Answer, done, refused, check, checkCount, countLimit}
-use Rattle.index.specs.declared.Bound.{Bound}
-use Rattle.index.specs.declared.RangeAny.{RangeAny}
-use Rattle.index.specs.declared.RangeNdSlice.{RangeNdSlice}
-use Rattle.index.specs.declared.Bound.the-variants as Bound
+use Rattle.index.specs.declared.range.Bound.{Bound}
+use Rattle.index.specs.declared.range.RangeAny.{RangeAny}
+use Rattle.index.specs.declared.slice.RangeNdSlice.{RangeNdSlice}
+use Rattle.index.specs.declared.range.Bound.the-variants as Bound
 use Rattle.index.specs.Numbers.{boundOr, rangeList}
 use Rattle.index.specs.Checks.{checkBound, checkRange, rangeAnswer}
-use Rattle.index.specs.Inner.{walkOf, Walk, numbers, Listed, Checked}
-use Rattle.index.proofs.Buffers.{let-through, stopped}
-use Rattle.index.proofs.Slices.{consecutive}
-use Rattle.index.proofs.Verdicts.{Verdict, passes, of-check, then, passed, refusing, inner, check-true}
+use Rattle.index.specs.Private.{walkOf, Walk, numbers, Listed, Checked}
+use Rattle.index.proofs.BufferLaws.{let-through, stopped}
+use Rattle.index.proofs.SliceLaws.{consecutive}
+use Rattle.index.proofs.VerdictLaws.{Verdict, passes, of-check, then, passed, refusing, inner, check-true}
 
 -- a bound is checked as what it is, since what it is if absent passes
 module _ (absent : ℕ) (a : absent ≤ countLimit) where

@@ -14,11 +14,11 @@ use mir.Val.{toZ}
 use mir.Facts.{toZ-pos}
 use Rattle.genotype.specs.Lists.{tabulate}
 use Rattle.genotype.proofs.Tabulate.{length-tabulate, map-tabulate}
-use Rattle.index.specs.declared.RangeNdSlice.{RangeNdSlice}
+use Rattle.index.specs.declared.slice.RangeNdSlice.{RangeNdSlice}
 use Rattle.index.specs.Numbers.{numbersBelow, distances, forward, backward}
-use Rattle.index.specs.Inner.{Walk, stepsBelow, numberAt, numbers}
-use Rattle.index.proofs.Below.{below-more, below-same}
-use Rattle.index.proofs.Buffers.{tabulate-suc}
+use Rattle.index.specs.Private.{Walk, stepsBelow, sliceNumber, numbers}
+use Rattle.index.proofs.BelowLaws.{below-more, below-same}
+use Rattle.index.proofs.BufferLaws.{tabulate-suc}
 
 module _ (n step k : ℕ) (p : 0 < step) where
   -- k is one of the steps exactly if k · step is below n
@@ -97,18 +97,18 @@ module _ (start end step : ℕ) (p : 0 < step) where
   backward-is = ap (map (λ (d : ℕ). pos (end - 1 - d))) (multiples step p (end - start)) ∙ map-tabulate (λ (d : ℕ). pos (end - 1 - d)) (stepsBelow (end - start) step) (λ k. k * step)
 
 -- the numbers of a slice, once as many are there as it has
-pub numbers-all : (s : RangeNdSlice) (n k : ℕ) → n ≡ stepsBelow (s .end - s .start) (s .step) → k ≤ n → n ≤ k → numbers s ≡ tabulate k (numberAt s)
-numbers-all s n k e a b = ap (λ (m : ℕ). tabulate m (numberAt s)) (omega arith)
+pub numbers-all : (s : RangeNdSlice) (n k : ℕ) → n ≡ stepsBelow (s .end - s .start) (s .step) → k ≤ n → n ≤ k → numbers s ≡ tabulate k (sliceNumber s)
+numbers-all s n k e a b = ap (λ (m : ℕ). tabulate m (sliceNumber s)) (omega arith)
 
 -- the number at a place, from the machine's bits
 module _ (s : RangeNdSlice) (k : ℕ) (w : Walk s) (h : s .start + k * s .step < s .end) where
-  pub from-end : s .«is_reversed» ≡ true → toZ w64 (s .end - 1 - k * s .step) ≡ numberAt s k
-  unfolding numberAt
+  pub from-end : s .«is_reversed» ≡ true → toZ w64 (s .end - 1 - k * s .step) ≡ sliceNumber s k
+  unfolding sliceNumber
   from-end r = simp r (toZ-pos w64 (omega (arith, w .endFits)))
 
-  pub from-start : s .«is_reversed» ≡ false → toZ w64 (s .start + k * s .step) ≡ numberAt s k
-  unfolding numberAt
+  pub from-start : s .«is_reversed» ≡ false → toZ w64 (s .start + k * s .step) ≡ sliceNumber s k
+  unfolding sliceNumber
   from-start r = simp r (toZ-pos w64 (omega (arith, w .endFits)))
 
 pub len-is : (s : RangeNdSlice) (n : ℕ) → n ≡ stepsBelow (s .end - s .start) (s .step) → length (numbers s) ≡ n
-len-is s n e = length-tabulate (stepsBelow (s .end - s .start) (s .step)) (numberAt s) ∙ sym e
+len-is s n e = length-tabulate (stepsBelow (s .end - s .start) (s .step)) (sliceNumber s) ∙ sym e

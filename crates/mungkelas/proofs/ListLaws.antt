@@ -7,10 +7,10 @@ use lib.IntN.{ℤ}
 use mir.Syntax.{w64}
 use mir.Val.{SFits, toZ, ofZ}
 use mir.ValLaws.{toZ-ofZ}
-use Rattle.index.specs.declared.Bound.{Bound}
-use Rattle.index.specs.declared.Bound.the-variants as Bound
-use Rattle.index.specs.declared.SliceEnd.{SliceEnd}
-use Rattle.index.specs.declared.SliceEnd.the-variants as SliceEnd
+use Rattle.index.specs.declared.range.Bound.{Bound}
+use Rattle.index.specs.declared.range.Bound.the-variants as Bound
+use Rattle.index.specs.declared.slice.SliceEnd.{SliceEnd}
+use Rattle.index.specs.declared.slice.SliceEnd.the-variants as SliceEnd
 use Rattle.index.specs.declared.Index.{Index}
 use Rattle.bed_answer.specs.declared.BedAnswer.{BedAnswer}
 use Rattle.mungkelas.specs.Interface.{boundOf, endOf, rangeOf, sliceOf}

@@ -4,9 +4,9 @@ use Prim.Native.Nat.{_≤_, _-_}
 use native.Mathlib.Omega.{arith}
 use lib.ListN.{length}
 use Rattle.index.specs.Numbers.{numbersBelow}
-use Rattle.index.proofs.Marks.{markedBefore, unmarked, one-more, all-marked}
-use Rattle.index.proofs.count_marked.Statement.{statement}
-use Rattle.index.proofs.count_marked.Tie as tie
+use Rattle.index.proofs.MarkLaws.{markedBefore, unmarked, one-more, all-marked}
+use Rattle.index.proofs.marks.count_marked.Statement.{statement}
+use Rattle.index.proofs.marks.count_marked.Tie as tie
 
 abbrev Inv-loop : tie.InvT-loop
 Inv-loop marks n₀ i₀ n i = (i ≤ length marks) × (n ≤ i) × (n ≡ length (markedBefore marks i))

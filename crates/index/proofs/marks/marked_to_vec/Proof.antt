@@ -7,10 +7,10 @@ use lib.ListN.{length}
 use mir.Facts.{toZ-pos}
 use mir.Syntax.{w64}
 use Rattle.index.specs.Numbers.{numbersBelow}
-use Rattle.index.proofs.Marks.{markedBefore, unmarked, is-marked, room-for, all-marked}
-use Rattle.index.proofs.Buffers.{too-short, placed, Filled, filled-none, filled-more, filled-as}
-use Rattle.index.proofs.marked_to_vec.Statement.{statement}
-use Rattle.index.proofs.marked_to_vec.Tie as tie
+use Rattle.index.proofs.MarkLaws.{markedBefore, unmarked, is-marked, room-for, all-marked}
+use Rattle.index.proofs.BufferLaws.{too-short, placed, Filled, filled-none, filled-more, filled-as}
+use Rattle.index.proofs.marks.marked_to_vec.Statement.{statement}
+use Rattle.index.proofs.marks.marked_to_vec.Tie as tie
 
 abbrev Inv-loop : tie.InvT-loop
 Inv-loop marks list₀ n at₀ i₀ list at i = (i ≤ length marks) × (n ≤ length list₀) × Filled (markedBefore marks i) list₀ at list

@@ -2,8 +2,8 @@
 use mathlib.Core.Path.{sym, ap}
 use borrow.Author.Needs.{needs}
 use Rattle.index.specs.Numbers.{boundOr}
-use Rattle.index.proofs.bound_or.Statement.{statement}
-use Rattle.index.proofs.bound_or.Tie as tie
+use Rattle.index.proofs.range.bound_or.Statement.{statement}
+use Rattle.index.proofs.range.bound_or.Tie as tie
 
 enum-told : tie.Need-enum-told
 enum-told c = search needs

@@ -2,9 +2,9 @@
 use mathlib.Core.Path.{sym, ap, _∙_}
 use borrow.Author.Needs.{needs}
 use Rattle.index.specs.Says.{rangeSays}
-use Rattle.index.proofs.Ranges.{range-walk, range-listed, range-stopped}
-use Rattle.index.proofs.range_to_vec.Statement.{statement}
-use Rattle.index.proofs.range_to_vec.Tie as tie
+use Rattle.index.proofs.RangeLaws.{range-walk, range-listed, range-stopped}
+use Rattle.index.proofs.range.range_to_vec.Statement.{statement}
+use Rattle.index.proofs.range.range_to_vec.Tie as tie
 
 to-range-requires : tie.Need-to-range-requires
 to-range-requires c κs = search needs

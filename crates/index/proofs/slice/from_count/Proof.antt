@@ -1,9 +1,9 @@
 -- `from_count` counts a negative number from the count.
 use native.Mathlib.Omega.{arith}
 use borrow.Author.Needs.{needs}
-use Rattle.index.proofs.Signed.{negative, non-negative, counts-back, counts-on, of-bits}
-use Rattle.index.proofs.from_count.Statement.{statement}
-use Rattle.index.proofs.from_count.Tie as tie
+use Rattle.index.proofs.SignedLaws.{negative, non-negative, counts-back, counts-on, of-bits}
+use Rattle.index.proofs.slice.from_count.Statement.{statement}
+use Rattle.index.proofs.slice.from_count.Tie as tie
 
 magnitude-requires : tie.Need-magnitude-requires
 magnitude-requires c κs = search needs

@@ -2,9 +2,9 @@
 use mathlib.Core.Path.{ap}
 use lib.IntN.{natAbs}
 use mir.Facts.{toZ-ofZ}
-use Rattle.index.proofs.Signed.{negative, non-negative, sfits, casts, reads-back, size-fits, size-is}
-use Rattle.index.proofs.magnitude.Statement.{statement}
-use Rattle.index.proofs.magnitude.Tie as tie
+use Rattle.index.proofs.SignedLaws.{negative, non-negative, sfits, casts, reads-back, size-fits, size-is}
+use Rattle.index.proofs.slice.magnitude.Statement.{statement}
+use Rattle.index.proofs.slice.magnitude.Tie as tie
 
 sub-result : tie.Need-sub-result
 sub-result c = let m = negative (c .before .fits .e) (c .if1 .taken) in sfits _ (m .k) (m .flipped) (m .small)

@@ -1,8 +1,8 @@
 -- `slice_to_vec`: what `new` made tells what the checks of a slice say.
 use borrow.Author.Needs.{needs}
-use Rattle.index.proofs.Slices.{slice-walk, slice-listed, zero-stopped, start-stopped, end-stopped}
-use Rattle.index.proofs.slice_to_vec.Statement.{statement}
-use Rattle.index.proofs.slice_to_vec.Tie as tie
+use Rattle.index.proofs.SliceLaws.{slice-walk, slice-listed, zero-stopped, start-stopped, end-stopped}
+use Rattle.index.proofs.slice.slice_to_vec.Statement.{statement}
+use Rattle.index.proofs.slice.slice_to_vec.Tie as tie
 
 new-requires : tie.Need-new-requires
 new-requires c κs = search needs

@@ -1,9 +1,9 @@
 -- `RangeAny::to_range` answers `rangeAnswer`: each test that the code makes is one of its checks.
 use mathlib.Core.Path.{sym}
 use borrow.Author.Needs.{needs}
-use Rattle.index.proofs.Ranges.{range-count, range-start, range-end, range-above, range-is}
-use Rattle.index.proofs.RangeAny.to_range.Statement.{statement}
-use Rattle.index.proofs.RangeAny.to_range.Tie as tie
+use Rattle.index.proofs.RangeLaws.{range-count, range-start, range-end, range-above, range-is}
+use Rattle.index.proofs.range.RangeAny.to_range.Statement.{statement}
+use Rattle.index.proofs.range.RangeAny.to_range.Tie as tie
 
 returns : tie.Need-returns
 returns c = sym (range-count _ _ (c .if1 .taken))

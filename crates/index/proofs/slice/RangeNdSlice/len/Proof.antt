@@ -2,10 +2,10 @@
 use mathlib.Core.Path.{refl, sym}
 use native.Mathlib.Omega.{arith}
 use borrow.Author.Needs.{needs}
-use Rattle.index.specs.Inner.{stepsBelow}
-use Rattle.index.proofs.Steps.{none}
-use Rattle.index.proofs.RangeNdSlice.len.Statement.{statement}
-use Rattle.index.proofs.RangeNdSlice.len.Tie as tie
+use Rattle.index.specs.Private.{stepsBelow}
+use Rattle.index.proofs.StepLaws.{none}
+use Rattle.index.proofs.slice.RangeNdSlice.len.Statement.{statement}
+use Rattle.index.proofs.slice.RangeNdSlice.len.Tie as tie
 
 returns : tie.Need-returns
 returns c = sym (none _ _ (c .before .before .pre .step) (omega (arith, c .if1 .taken)))

@@ -8,10 +8,10 @@ use mir.Syntax.{w64}
 use mir.Val.{SFits}
 use mir.Facts.{toZ-ofZ}
 use Rattle.index.specs.Numbers.{fromCount}
-use Rattle.index.proofs.Signed.{of-bits}
-use Rattle.index.proofs.Slices.{step-zero, start-above, end-above, no-end, with-end}
-use Rattle.index.proofs.RangeNdSlice.new.Statement.{statement}
-use Rattle.index.proofs.RangeNdSlice.new.Tie as tie
+use Rattle.index.proofs.SignedLaws.{of-bits}
+use Rattle.index.proofs.SliceLaws.{step-zero, start-above, end-above, no-end, with-end}
+use Rattle.index.proofs.slice.RangeNdSlice.new.Statement.{statement}
+use Rattle.index.proofs.slice.RangeNdSlice.new.Tie as tie
 
 step-bits : (c : tie.Start) → SFits w64 (c .args .nd-slice-info .step)
 step-bits c = search needs

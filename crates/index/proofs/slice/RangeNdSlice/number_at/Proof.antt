@@ -1,8 +1,8 @@
 -- `RangeNdSlice::number_at` is the number at a place.
 use borrow.Author.Needs.{needs}
-use Rattle.index.proofs.Steps.{from-end, from-start}
-use Rattle.index.proofs.RangeNdSlice.number_at.Statement.{statement}
-use Rattle.index.proofs.RangeNdSlice.number_at.Tie as tie
+use Rattle.index.proofs.StepLaws.{from-end, from-start}
+use Rattle.index.proofs.slice.RangeNdSlice.number_at.Statement.{statement}
+use Rattle.index.proofs.slice.RangeNdSlice.number_at.Tie as tie
 
 sub-result : tie.Need-sub-result
 sub-result c = search needs

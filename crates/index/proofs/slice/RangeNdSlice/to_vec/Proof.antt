@@ -6,14 +6,14 @@ use borrow.Author.Needs.{sfits-of}
 use lib.ListN.{length}
 use mir.Facts.{toZ-ofZ}
 use Rattle.genotype.specs.Lists.{tabulate}
-use Rattle.index.specs.Inner.{numberAt}
-use Rattle.index.proofs.Steps.{len-is, numbers-all, inside}
-use Rattle.index.proofs.Buffers.{too-short, placed, Filled, filled-none, filled-more, tabulate-more}
-use Rattle.index.proofs.RangeNdSlice.to_vec.Statement.{statement}
-use Rattle.index.proofs.RangeNdSlice.to_vec.Tie as tie
+use Rattle.index.specs.Private.{sliceNumber}
+use Rattle.index.proofs.StepLaws.{len-is, numbers-all, inside}
+use Rattle.index.proofs.BufferLaws.{too-short, placed, Filled, filled-none, filled-more, tabulate-more}
+use Rattle.index.proofs.slice.RangeNdSlice.to_vec.Statement.{statement}
+use Rattle.index.proofs.slice.RangeNdSlice.to_vec.Tie as tie
 
 abbrev Inv-loop : tie.InvT-loop
-Inv-loop self list₀ n room k₀ list k = (k ≤ n) × (n ≤ length list₀) × Filled (tabulate k (numberAt self)) list₀ k list
+Inv-loop self list₀ n room k₀ list k = (k ≤ n) × (n ≤ length list₀) × Filled (tabulate k (sliceNumber self)) list₀ k list
 
 abbrev μ-loop : tie.MeasureT-loop
 μ-loop self list₀ n room k₀ list k = n - k
