@@ -7,8 +7,8 @@ use mir.ValLaws.{toZ-ofZ}
 use Rattle.genotype.specs.Answer.{refused}
 use Rattle.bed_read.specs.Says.{readSays}
 use borrow.Author.Needs.{needs}
-use Rattle.read_standardised.proofs.of_reading.Statement.{statement}
-use Rattle.read_standardised.proofs.of_reading.Tie as tie
+use Rattle.read_standardised.proofs.answers.of_reading.Statement.{statement}
+use Rattle.read_standardised.proofs.answers.of_reading.Tie as tie
 
 enum-told : tie.Need-enum-told
 enum-told c = search needs

@@ -2,8 +2,8 @@
 use mathlib.Core.Path.{sym, ap}
 use Rattle.standardise.specs.Says.{standardiseSays}
 use borrow.Author.Needs.{needs}
-use Rattle.read_standardised.proofs.of_standardising.Statement.{statement}
-use Rattle.read_standardised.proofs.of_standardising.Tie as tie
+use Rattle.read_standardised.proofs.answers.of_standardising.Statement.{statement}
+use Rattle.read_standardised.proofs.answers.of_standardising.Tie as tie
 
 enum-told : tie.Need-enum-told
 enum-told c = search needs

@@ -3,8 +3,8 @@ use mathlib.Core.Path.{refl}
 use lib.Ieee.{binary64, ofBits, div}
 use Rattle.read_standardised.proofs.JoinLaws.{in-turn-left}
 use borrow.Author.Needs.{needs}
-use Rattle.read_standardised.proofs.read_then_standardise_f64.Statement.{statement}
-use Rattle.read_standardised.proofs.read_then_standardise_f64.Tie as tie
+use Rattle.read_standardised.proofs.in_turn.read_then_standardise_f64.Statement.{statement}
+use Rattle.read_standardised.proofs.in_turn.read_then_standardise_f64.Tie as tie
 
 read-no-alloc-f64-requires : tie.Need-read-no-alloc-f64-requires
 read-no-alloc-f64-requires c κs = search needs
