@@ -35,7 +35,9 @@ start-fits : (c : tie.Else2) → natAbs (c .before .before .before .before .befo
 start-fits c = subst (λ (n : ℕ). n ≤ c .before .before .before .before .before .before .before .before .args .count) (start-is (c .before)) (c .if2 .left)
 
 from-is : (c : tie.After-from-count) → c .from-count .result ≡ fromCount (c .before .before .before .before .before .before .before .before .before .before .args .count) (c .before .before .before .before .before .before .before .before .before .before .args .nd-slice-info .start)
-from-is c = c .from-count .ensures ∙ ap (fromCount (c .before .before .before .before .before .before .before .before .before .before .args .count)) (toZ-ofZ (start-bits (c .before .before .before .before .before .before .before .before .before .before)))
+from-is c =
+    let t = c .before .before .before .before .before .before .before .before .before .before in
+    c .from-count .ensures ∙ ap (fromCount (t .args .count)) (toZ-ofZ (start-bits (t)))
 
 end-is : (c : tie.After-magnitude3) → c .magnitude3 .result ≡ natAbs (c .before .before .slice-end .given .0 .0)
 end-is c = of-bits (end-bits (c .before)) (c .magnitude3 .ensures)
@@ -65,16 +67,22 @@ magnitude-requires-3 : tie.Need-magnitude-requires-3
 magnitude-requires-3 c κs = search needs
 
 returns-3 : tie.Need-returns-3
-returns-3 c = end-above _ _ (step-not-zero (c .before .before .before .before .before .before .before .before .before .before .before .before)) (start-fits (c .before .before .before .before .before .before .before)) _ (c .before .before .before .slice-end .given .1) (subst (λ (n : ℕ). c .before .before .before .before .before .before .before .before .before .before .before .before .before .before .before .args .count < n) (end-is (c .before)) (c .if3 .taken))
+returns-3 c =
+    let t = c .before .before .before .before .before .before .before .before .before .before .before .before in
+    end-above _ _ (step-not-zero (t)) (start-fits (c .before .before .before .before .before .before .before)) _ (c .before .before .before .slice-end .given .1) (subst (λ (n : ℕ). t .before .before .before .args .count < n) (end-is (c .before)) (c .if3 .taken))
 
 from-count-requires-2 : tie.Need-from-count-requires-2
 from-count-requires-2 c κs = search needs
 
 returns-4 : tie.Need-returns-4
-returns-4 c = no-end _ _ (step-not-zero (c .before .before .before .before .before .before .before .before .before)) (start-fits (c .before .before .before .before)) _ _ _ _ (step-bits (c .before .before .before .before .before .before .before .before .before .before .before .before)) (c .before .before .before .before .before .before .before .before .before .before .before .before .pre) (from-is (c .before .before)) (step-is (c .before .before .before .before .before .before .before .before .before .before)) (ap (λ (z : ℤ). ltZ z (pos 0)) (toZ-ofZ (step-bits (c .before .before .before .before .before .before .before .before .before .before .before .before)))) (c .enum-told .given .1) refl
+returns-4 c =
+    let t = c .before .before .before .before .before .before .before .before .before in
+    no-end _ _ (step-not-zero (t)) (start-fits (c .before .before .before .before)) _ _ _ _ (step-bits (t .before .before .before)) (t .before .before .before .pre) (from-is (c .before .before)) (step-is (t .before)) (ap (λ (z : ℤ). ltZ z (pos 0)) (toZ-ofZ (step-bits (t .before .before .before)))) (c .enum-told .given .1) refl
 
 returns-5 : tie.Need-returns-5
-returns-5 c = with-end _ _ (step-not-zero (c .before .before .before .before .before .before .before .before .before .before .before .before .before)) (start-fits (c .before .before .before .before .before .before .before .before)) _ _ _ _ (step-bits (c .before .before .before .before .before .before .before .before .before .before .before .before .before .before .before .before)) (c .before .before .before .before .before .before .before .before .before .before .before .before .before .before .before .before .pre) (from-is (c .before .before .before .before .before .before)) (step-is (c .before .before .before .before .before .before .before .before .before .before .before .before .before .before)) (ap (λ (z : ℤ). ltZ z (pos 0)) (toZ-ofZ (step-bits (c .before .before .before .before .before .before .before .before .before .before .before .before .before .before .before .before)))) _ (c .before .before .before .before .slice-end .given .1) (subst (λ (n : ℕ). n ≤ c .before .before .before .before .before .before .before .before .before .before .before .before .before .before .before .before .args .count) (end-is (c .before .before)) (c .before .if3 .left)) (c .from-count2 .ensures ∙ ap (fromCount (c .before .before .before .before .before .before .before .before .before .before .before .before .before .before .before .before .args .count)) (toZ-ofZ (end-bits (c .before .before .before))))
+returns-5 c =
+    let t = c .before .before .before .before .before .before .before .before in
+    with-end _ _ (step-not-zero (t .before .before .before .before .before)) (start-fits (t)) _ _ _ _ (step-bits (t .before .before .before .before .before .before .before .before)) (t .before .before .before .before .before .before .before .before .pre) (from-is (c .before .before .before .before .before .before)) (step-is (t .before .before .before .before .before .before)) (ap (λ (z : ℤ). ltZ z (pos 0)) (toZ-ofZ (step-bits (t .before .before .before .before .before .before .before .before)))) _ (c .before .before .before .before .slice-end .given .1) (subst (λ (n : ℕ). n ≤ t .before .before .before .before .before .before .before .before .args .count) (end-is (c .before .before)) (c .before .if3 .left)) (c .from-count2 .ensures ∙ ap (fromCount (t .before .before .before .before .before .before .before .before .args .count)) (toZ-ofZ (end-bits (c .before .before .before))))
 
 pub new-spec : {M : Type 1} → statement M
 new-spec =
