@@ -13,7 +13,7 @@ use mir.ValLaws.{toZ-pos}
 use Rattle.genotype.specs.Answer.{Answer, done, refused, countLimit}
 use Rattle.bed_answer.specs.declared.BedAnswer.{BedAnswer}
 use Rattle.bed_answer.specs.Interface.{bedAnswer, clipped, clip, carriesEntry, clipAnswer}
-use Rattle.bed_answer.specs.Inner.{threeOf}
+use Rattle.bed_answer.specs.Private.{threeOf}
 use Rattle.bed_answer.proofs.FitLaws.{AllBelow, Fits}
 
 -- what is told of a case is told of the answer that is this case

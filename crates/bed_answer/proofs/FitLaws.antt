@@ -15,12 +15,12 @@ use Rattle.genotype.specs.Block.{blockWidth, checkSize, fileLength, divAnswer}
 use Rattle.genotype.specs.Entry.{isGood, firstBad, least, greatest, byteOf, span, spanAnswer}
 use Rattle.genotype.proofs.EntryLaws.{means-below}
 use Rattle.genotype.proofs.Widths.{width-none, width-some}
-use Rattle.index.specs.declared.Bound.{Bound}
-use Rattle.index.specs.declared.SliceEnd.{SliceEnd}
-use Rattle.index.specs.declared.RangeAny.{RangeAny}
+use Rattle.index.specs.declared.range.Bound.{Bound}
+use Rattle.index.specs.declared.slice.SliceEnd.{SliceEnd}
+use Rattle.index.specs.declared.range.RangeAny.{RangeAny}
 use Rattle.index.specs.declared.Index.{Index}
-use Rattle.index.specs.declared.Bound.the-variants as Bound
-use Rattle.index.specs.declared.SliceEnd.the-variants as SliceEnd
+use Rattle.index.specs.declared.range.Bound.the-variants as Bound
+use Rattle.index.specs.declared.slice.SliceEnd.the-variants as SliceEnd
 use Rattle.index.specs.declared.Index.the-variants as Index
 use Rattle.index.specs.Numbers.{boundOr, indexList}
 use Rattle.index.specs.Checks.{checkBound, checkRange, checkEnd, checkSlice, checkIndex, listAnswer, indexAnswer, rangeAnswer}

@@ -1,3 +1,3 @@
 -- How an answer of the core crosses the C interface.
 pub mod Interface
-pub mod Inner
+pub mod Private

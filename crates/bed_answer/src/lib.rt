@@ -11,7 +11,7 @@ ghost use Rattle.standardise.specs.Says.{standardiseSays};
 ghost use Rattle.read_standardised.specs.Says.{joinedSays};
 ghost use Rattle.product.specs.Says.{pieceSays};
 ghost use Rattle.bed_answer.specs.Interface.{bedAnswer, clipped, clipAnswer};
-ghost use Rattle.bed_answer.specs.Inner.{threeOf};
+ghost use Rattle.bed_answer.specs.Private.{threeOf};
 use bed_file::OpenAnswer;
 use bed_read::ReadAnswer;
 use bed_write::EncodeAnswer;

@@ -21,7 +21,8 @@ use Rattle.genotype.proofs.Tests.{by-test}
 use Rattle.genotype.proofs.ValueLaws.{zero-code, one-code, two-code, missing-code, number-bad}
 use Rattle.bed_write.specs.Packing.{placeCode, encodeAnswer, encodeBuffer}
 use Rattle.bed_write.specs.Writing.{valueCode, firstBadCall}
-use Rattle.bed_write.specs.Inner.{orFour, byteIndex, CodesOfBytes, byTable}
+use Rattle.bed_write.specs.Groups.{orFour}
+use Rattle.bed_write.specs.Private.{byteIndex, CodesOfBytes, byTable}
 use Rattle.bed_write.proofs.FirstLaws.{code-found, code-lacking}
 use Rattle.genotype.proofs.Tabulate.{getD-inside}
 

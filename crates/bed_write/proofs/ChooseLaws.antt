@@ -6,7 +6,7 @@ use Prim.Native.Nat.{ℕ, _+_, _-_, _*_, _<_, _≤_}
 use native.Mathlib.Omega.{arith}
 use mir.Val.{boolByte}
 use Rattle.genotype.specs.Value.{Width, codeOf, sameOrNan}
-use Rattle.bed_write.specs.Inner.{orFour}
+use Rattle.bed_write.specs.Groups.{orFour}
 
 pub test-byte : (t : Bool) → boolByte t ≤ 1
 test-byte true = omega arith

@@ -19,7 +19,7 @@ use Rattle.genotype.specs.Value.{Width}
 use Rattle.genotype.proofs.CodeLaws.{packed-length, width-room}
 use Rattle.genotype.proofs.Tabulate.{length-tabulate, getD-tabulate}
 use Rattle.bed_write.specs.Packing.{placeCode, orZero, packedCodes, ifBad, firstBadAnimal, checkAnimal, encodeAnswer, encodeBuffer}
-use Rattle.bed_write.specs.Inner.{orFour, inGroup, Four}
+use Rattle.bed_write.specs.Groups.{orFour, inGroup, Four}
 use Rattle.bed_write.proofs.FirstLaws.{first-all, code-known, place-coded}
 use Rattle.bed_write.proofs.GroupLaws.{full-group, group-byte, good-four}
 

@@ -12,7 +12,7 @@ use Rattle.genotype.specs.Lists.{tabulate}
 use Rattle.genotype.proofs.Tests.{by-lt}
 use Rattle.genotype.proofs.Tabulate.{length-tabulate, getD-tabulate}
 use Rattle.bed_write.specs.Packing.{orZero}
-use Rattle.bed_write.specs.Inner.{orFour, inGroup, Four}
+use Rattle.bed_write.specs.Groups.{orFour, inGroup, Four}
 use Rattle.bed_write.proofs.FirstLaws.{zero-four}
 
 -- ---- what a group holds

@@ -25,7 +25,8 @@ use Rattle.genotype.proofs.Tests.{by-lt}
 use Rattle.genotype.proofs.Widths.{Sized, width-given, size-stage}
 use Rattle.bed_write.specs.Packing.{placeCode, orZero, firstOf, ifBad}
 use Rattle.bed_write.specs.Writing.{valueCode, firstBadCall, checkCall, checkBuffers, writeAnswer, bedFile, writeBuffer}
-use Rattle.bed_write.specs.Inner.{orFour, CodesOfBytes, byTable, byTests, inGroup, Four, ifOver, firstOver, placed}
+use Rattle.bed_write.specs.Groups.{orFour, inGroup, Four}
+use Rattle.bed_write.specs.Private.{CodesOfBytes, byTable, byTests, ifOver, firstOver, placed}
 use Rattle.bed_write.proofs.FirstLaws.{first-none, first-some, first-all, first-ext, bad-none, bad-some, zero-four, place-coded, code-read}
 use Rattle.bed_write.proofs.ByteLaws.{by-table}
 use Rattle.bed_write.proofs.GroupLaws.{good-four, group-byte}

@@ -3,4 +3,5 @@ pub mod Packing
 pub mod First
 pub mod Writing
 pub mod Says
-pub mod Inner
+pub mod Groups
+pub mod Private

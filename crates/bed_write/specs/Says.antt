@@ -1,15 +1,11 @@
 -- What each answer enum of the code says: document 01's number and the values for each of its cases.
 use mathlib.Core.List.{[], _∷_}
-use mathlib.Core.Option.{Option, some, none}
-use Prim.Native.Nat.{ℕ}
 use lib.IntN.{pos}
 use Rattle.genotype.specs.Answer.{Answer, done, refused}
 use Rattle.bed_write.specs.declared.encode.EncodeAnswer.{EncodeAnswer}
 use Rattle.bed_write.specs.declared.encode.EncodeAnswer.the-variants as encodes
 use Rattle.bed_write.specs.declared.write.WriteAnswer.{WriteAnswer}
 use Rattle.bed_write.specs.declared.write.WriteAnswer.the-variants as writes
-use Rattle.bed_write.specs.declared.write.BadCall.{BadCall}
-use Rattle.bed_write.specs.declared.write.BadCall.the-variants as bads
 
 abbrev pub encodeSays : EncodeAnswer → Answer
 encodeSays encodes.Done = done []
@@ -23,8 +19,3 @@ writeSays writes.IndexesTooBigForFiles = refused 4 []
 writeSays writes.IndexMismatch = refused 15 []
 writeSays writes.EncodingLength = refused 16 []
 writeSays (writes.BadValue animal marker) = refused 7 (pos (animal .0) ∷ pos (marker .0) ∷ [])
-
--- the animal and the marker that were found, if any
-abbrev pub badSays : BadCall → Option (ℕ × ℕ)
-badSays (bads.At animal marker) = some (animal .0, marker .0)
-badSays bads.Nothing = none

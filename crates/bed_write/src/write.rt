@@ -1,10 +1,8 @@
 // Writing a whole file.
 ghost use mathlib.Core.Path.{_≡_};
-ghost use mathlib.Core.Bool.{cond};
 ghost use mathlib.Core.List.{[]};
-ghost use Prim.Native.Nat.{_*_, _^_, _<_, _≤_};
+ghost use Prim.Native.Nat.{_<_, _≤_};
 ghost use Rattle.genotype.specs.Answer.{done, isDone};
-ghost use Rattle.genotype.specs.Matrix.{matrixPlace};
 ghost use Rattle.bed_write.specs.Writing.{checkBuffers};
 ghost use Rattle.bed_write.specs.Says.{writeSays};
 
@@ -56,37 +54,6 @@ fn is_done(answer: WriteAnswer) -> bool
     }
 }
 
-// The place of an animal and a marker in the matrix.
-fn matrix_place(
-    animal_order: bool,
-    iid_count: usize,
-    sid_count: usize,
-    iid: IidIndex,
-    sid: SidIndex,
-) -> usize
-    requires { ⌜ (iid .0 < «iid_count») × (sid .0 < «sid_count») × («iid_count» * «sid_count» < 2 ^ 64) ⌝ }
-    ensures { λ r. ⌜ r ≡ matrixPlace «animal_order» «iid_count» «sid_count» (iid .0) (sid .0) ⌝ }
-{
-    if animal_order {
-        return iid.0 * sid_count + sid.0;
-    }
-    sid.0 * iid_count + iid.0
-}
-
-// The larger of two codes.
-fn worse(a: u8, b: u8) -> u8
-    ensures { λ r. ⌜ (a ≤ r) × (b ≤ r) ⌝ }
-{
-    if a < b { b } else { a }
-}
-
-// How far apart the values of two neighbouring animals stand.
-fn animal_stride(animal_order: bool, sid_count: usize) -> usize
-    ensures { λ r. ⌜ r ≡ cond «animal_order» «sid_count» 1 ⌝ }
-{
-    if animal_order { sid_count } else { 1 }
-}
-
 // The end of the markers that are packed together from `from` on: one in marker order, and 16 in animal order, whose rows are read along.
 fn tile_end(animal_order: bool, from: usize, sid_count: usize) -> usize
     requires { ⌜ from < «sid_count» ⌝ }
@@ -99,10 +66,4 @@ fn tile_end(animal_order: bool, from: usize, sid_count: usize) -> usize
         return from + 16;
     }
     from + 1
-}
-
-// The first marker, and in it the first animal, with a bad value.
-pub enum BadCall {
-    At(IidIndex, SidIndex),
-    Nothing,
 }

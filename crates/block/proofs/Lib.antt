@@ -1,6 +1,6 @@
 pub mod CheckLaws
 pub mod ColumnLaws
 pub mod PackLaws
-pub mod Held
+pub mod HeldLaws
 pub mod Theorems
 pub mod Examples

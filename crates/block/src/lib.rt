@@ -42,7 +42,8 @@ impl<'a> MarkerBlock<'a> {
 
     // Every animal's value, into a lent column.
     pub fn decode_i8(self, is_a1_counted: bool, missing_value: i8, out: &mut [i8]) -> DecodeAnswer
-        ensures { λ r. ⌜ Decodes i8 «is_a1_counted» «missing_value» (now (self .entry .bytes)) (self .entry .«iid_count») (decodeSays r) (now (out .entry)) (now (out .exit)) ⌝ }
+        ensures { λ r. ⌜ Decodes i8 «is_a1_counted» «missing_value» (now (self .entry .bytes)) (self .entry .«iid_count»)
+            (decodeSays r) (now (out .entry)) (now (out .exit)) ⌝ }
     {
         decode::decode1_i8(
             self.bytes,
@@ -59,7 +60,8 @@ impl<'a> MarkerBlock<'a> {
         missing_value: f64,
         out: &mut [f64],
     ) -> DecodeAnswer
-        ensures { λ r. ⌜ Decodes float «is_a1_counted» «missing_value» (now (self .entry .bytes)) (self .entry .«iid_count») (decodeSays r) (now (out .entry)) (now (out .exit)) ⌝ }
+        ensures { λ r. ⌜ Decodes float «is_a1_counted» «missing_value» (now (self .entry .bytes)) (self .entry .«iid_count»)
+            (decodeSays r) (now (out .entry)) (now (out .exit)) ⌝ }
     {
         decode::decode1_f64(
             self.bytes,
@@ -80,7 +82,8 @@ impl<'a> MarkerBlockMut<'a> {
 
     // Packs a column into the block's bytes.
     pub fn encode1_i8(self, in_vector: &[i8], is_a1_counted: bool, missing: i8) -> PackAnswer
-        ensures { λ r. ⌜ Packs i8 «is_a1_counted» missing (now («in_vector» .entry)) (self .entry .«iid_count») (packSays r) (now (self .entry .bytes)) (now (self .exit .0)) ⌝ }
+        ensures { λ r. ⌜ Packs i8 «is_a1_counted» missing (now («in_vector» .entry)) (self .entry .«iid_count»)
+            (packSays r) (now (self .entry .bytes)) (now (self .exit .0)) ⌝ }
     {
         let iid_count = self.iid_count;
         pack::pack1_i8(
@@ -93,7 +96,8 @@ impl<'a> MarkerBlockMut<'a> {
     }
 
     pub fn encode1_f64(self, in_vector: &[f64], is_a1_counted: bool, missing: f64) -> PackAnswer
-        ensures { λ r. ⌜ Packs float «is_a1_counted» missing (now («in_vector» .entry)) (self .entry .«iid_count») (packSays r) (now (self .entry .bytes)) (now (self .exit .0)) ⌝ }
+        ensures { λ r. ⌜ Packs float «is_a1_counted» missing (now («in_vector» .entry)) (self .entry .«iid_count»)
+            (packSays r) (now (self .entry .bytes)) (now (self .exit .0)) ⌝ }
     {
         let iid_count = self.iid_count;
         pack::pack1_f64(

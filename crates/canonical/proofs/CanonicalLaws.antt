@@ -22,7 +22,7 @@ use Rattle.bed_file.proofs.FileLaws.{Accepted, accepted, file-stage}
 use Rattle.bed_read.proofs.CallLaws.{call-below}
 use Rattle.bed_write.specs.Packing.{orZero}
 use Rattle.canonical.specs.Canonical.{canonicalAnswer, canonicalFile, canonicalBuffer}
-use Rattle.bed_write.specs.Inner.{orFour, inGroup, Four}
+use Rattle.bed_write.specs.Groups.{orFour, inGroup, Four}
 use Rattle.canonical.specs.Inner.{writtenAnswer}
 use Rattle.bed_write.proofs.GroupLaws.{good-four, group-byte}
 

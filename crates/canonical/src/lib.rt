@@ -11,7 +11,7 @@ ghost use Rattle.bed_file.specs.File.{items};
 ghost use Rattle.bed_read.specs.Calls.{callCode};
 ghost use Rattle.bed_read.specs.Inner.{Shaped};
 ghost use Rattle.canonical.specs.Canonical.{canonicalAnswer, canonicalFile, canonicalBuffer};
-ghost use Rattle.bed_write.specs.Inner.{inGroup};
+ghost use Rattle.bed_write.specs.Groups.{inGroup};
 ghost use Rattle.canonical.specs.Inner.{writtenAnswer};
 ghost use Rattle.canonical.specs.Says.{canonicalSays};
 use bed_file::AcceptAnswer;

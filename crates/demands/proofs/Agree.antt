@@ -17,7 +17,7 @@ use Rattle.bed_read.proofs.ReadLaws.{Readable, readable, read-accepted, lists-d
 use Rattle.statistics.specs.Statistics.{statsPerMarker}
 use Rattle.standardise.specs.Standardised.{lowestRefused, newStats, newValues, standardiseAnswer, laterStats, laterValues}
 use Rattle.read_standardised.specs.Joined.{joinedChecks, readNan, joinedAnswer, joinedStats, joinedValues}
-use Rattle.read_standardised.specs.Ways.{Way, inTurn, joinedCall, asRead, answersOf, valuesOf, statsOf}
+use Rattle.read_standardised.specs.Ways.{Way, inTurn, joinedCall, asRead, answersOf, valuesLeft, statsLeft}
 use Rattle.read_standardised.proofs.JoinLaws.{joined-accepted}
 use Rattle.demands.specs.Demand.{IsAccepted, CallsAgree, GoodList}
 use Rattle.demands.proofs.ReadLaws.{values-same}
@@ -96,12 +96,12 @@ module _ (file other : List ℕ) (iids sids : ℕ)
         λ i. answer-same (length val) i ∷ standardiseAnswer f order (length iidList) (length sidList) (as-read-same i) useStats stats ∷ []
     agree-answers joinedCall = ap (λ (a : Answer). a ∷ []) joined-answer
 
-    pub agree-values : (way : Way) → valuesOf f file iids sids flag iidList sidList order val stats way ≡ valuesOf f other iids sids flag iidList sidList order val stats way
-    unfolding valuesOf joinedValues
+    pub agree-values : (way : Way) → valuesLeft f file iids sids flag iidList sidList order val stats way ≡ valuesLeft f other iids sids flag iidList sidList order val stats way
+    unfolding valuesLeft joinedValues
     agree-values (inTurn useStats apply) = ap (λ (x : List Float). laterValues f order (length iidList) (length sidList) x useStats stats apply) as-read-same
     agree-values joinedCall = left-same (λ x. newValues f order (length iidList) (length sidList) x false stats true) val
 
-    pub agree-stats : (way : Way) → statsOf f file iids sids flag iidList sidList order val stats way ≡ statsOf f other iids sids flag iidList sidList order val stats way
-    unfolding statsOf joinedStats
+    pub agree-stats : (way : Way) → statsLeft f file iids sids flag iidList sidList order val stats way ≡ statsLeft f other iids sids flag iidList sidList order val stats way
+    unfolding statsLeft joinedStats
     agree-stats (inTurn useStats apply) = ap (λ (x : List Float). laterStats f order (length iidList) (length sidList) x useStats stats) as-read-same
     agree-stats joinedCall = left-same (λ x. newStats f order (length iidList) (length sidList) x false stats) stats

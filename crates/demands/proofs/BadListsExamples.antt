@@ -14,7 +14,7 @@ use Rattle.genotype.specs.Value.{Width}
 use Rattle.bed_file.specs.File.{isMode1, items, blocks, acceptAnswer}
 use Rattle.bed_read.specs.Reading.{readAnswer, readBuffer}
 use Rattle.read_standardised.specs.Joined.{joinedAnswer, joinedStats, joinedValues}
-use Rattle.read_standardised.specs.Ways.{Way, joinedCall, answersOf, valuesOf, statsOf}
+use Rattle.read_standardised.specs.Ways.{Way, joinedCall, answersOf, valuesLeft, statsLeft}
 use Rattle.demands.specs.Demand.{IsAccepted, GoodList, RightLengths, CarriesFirstBad}
 use Rattle.demands.specs.SmallHerds.{F, inMode0}
 use Rattle.demands.proofs.Agree.{agree-read, agree-answers, agree-values, agree-stats}
@@ -112,18 +112,18 @@ module _ (a m : Bool) where
     pub answers-alike : answersOf binary64 F 5 2 flag (animals a) (markers m) order val stats way ≡ answersOf binary64 inMode0 5 2 flag (animals a) (markers m) order val stats way
     answers-alike = agree-answers F inMode0 5 2 (accepted true) (accepted false) modes-calls (animals a) (markers m) binary64 flag order val stats way
 
-    pub values-alike : valuesOf binary64 F 5 2 flag (animals a) (markers m) order val stats way ≡ valuesOf binary64 inMode0 5 2 flag (animals a) (markers m) order val stats way
+    pub values-alike : valuesLeft binary64 F 5 2 flag (animals a) (markers m) order val stats way ≡ valuesLeft binary64 inMode0 5 2 flag (animals a) (markers m) order val stats way
     values-alike = agree-values F inMode0 5 2 (accepted true) (accepted false) modes-calls (animals a) (markers m) binary64 flag order val stats way
 
-    pub stats-alike : statsOf binary64 F 5 2 flag (animals a) (markers m) order val stats way ≡ statsOf binary64 inMode0 5 2 flag (animals a) (markers m) order val stats way
+    pub stats-alike : statsLeft binary64 F 5 2 flag (animals a) (markers m) order val stats way ≡ statsLeft binary64 inMode0 5 2 flag (animals a) (markers m) order val stats way
     stats-alike = agree-stats F inMode0 5 2 (accepted true) (accepted false) modes-calls (animals a) (markers m) binary64 flag order val stats way
 
 -- what a refused joined call answers and leaves, computed
 pub joined-keeps : (mode1 order : Bool)
     → (answersOf binary64 (herd mode1) 5 2 true (animals true) (markers false) order four four joinedCall ≡ refused 6 (pos 2 ∷ []) ∷ [])
-    × (valuesOf binary64 (herd mode1) 5 2 true (animals true) (markers false) order four four joinedCall ≡ four)
-    × (statsOf binary64 (herd mode1) 5 2 true (animals true) (markers false) order four four joinedCall ≡ four)
-unfolding answersOf valuesOf statsOf joinedAnswer joinedValues joinedStats isMode1 items blocks blockWidth firstBad isGood ifDone
+    × (valuesLeft binary64 (herd mode1) 5 2 true (animals true) (markers false) order four four joinedCall ≡ four)
+    × (statsLeft binary64 (herd mode1) 5 2 true (animals true) (markers false) order four four joinedCall ≡ four)
+unfolding answersOf valuesLeft statsLeft joinedAnswer joinedValues joinedStats isMode1 items blocks blockWidth firstBad isGood ifDone
 joined-keeps true true = (refl, refl, refl)
 joined-keeps true false = (refl, refl, refl)
 joined-keeps false true = (refl, refl, refl)

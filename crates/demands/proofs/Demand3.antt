@@ -15,7 +15,7 @@ use Rattle.bed_read.specs.Reading.{readAnswer}
 use Rattle.canonical.specs.Canonical.{fileOrder, canonicalAnswer, canonicalBuffer}
 use Rattle.statistics.specs.Calls.{FewEnough}
 use Rattle.standardise.specs.Standardised.{value}
-use Rattle.read_standardised.specs.Ways.{Way, answersOf, valuesOf, statsOf}
+use Rattle.read_standardised.specs.Ways.{Way, answersOf, valuesLeft, statsLeft}
 use Rattle.demands.specs.Demand.{IsAccepted, CallsAgree, GoodList, meant, NamesEachOnce, RightLengths}
 use Rattle.demands.specs.Alike.{Alike, AlikeBuffers, OfFormat}
 use Rattle.canonical.proofs.BackLaws.{order-length, order-good}
@@ -76,7 +76,7 @@ module _ (file other : List ℕ) (iids sids : ℕ)
   agree = canonical-to-calls file iids sids acc fits out l out′ l′ other acc′ same
 
   -- "Afterwards every place of the statistics buffer is alike"
-  pub files-same-stats : statsOf binary64 file iids sids flag iidList sidList order val stats way ≡ statsOf binary64 other iids sids flag iidList sidList order val stats way
+  pub files-same-stats : statsLeft binary64 file iids sids flag iidList sidList order val stats way ≡ statsLeft binary64 other iids sids flag iidList sidList order val stats way
   files-same-stats = agree-stats file other iids sids acc acc′ agree iidList sidList binary64 flag order val stats way
 
   -- "and the refusals are equal, with what they carry, or neither side refuses"
@@ -84,7 +84,7 @@ module _ (file other : List ℕ) (iids sids : ℕ)
   files-same-answers = agree-answers file other iids sids acc acc′ agree iidList sidList binary64 flag order val stats way
 
   -- "Where the files differ every value is alike."
-  pub files-same-values : valuesOf binary64 file iids sids flag iidList sidList order val stats way ≡ valuesOf binary64 other iids sids flag iidList sidList order val stats way
+  pub files-same-values : valuesLeft binary64 file iids sids flag iidList sidList order val stats way ≡ valuesLeft binary64 other iids sids flag iidList sidList order val stats way
   files-same-values = agree-values file other iids sids acc acc′ agree iidList sidList binary64 flag order val stats way
 
   -- the reading itself is done
@@ -104,7 +104,7 @@ module _ (file : List ℕ) (iids sids : ℕ)
   enough = omega arith
 
   -- "Afterwards every place of the statistics buffer is alike"
-  pub lists-same-stats : statsOf binary64 file iids sids flag iidList sidList order val stats way ≡ statsOf binary64 file iids sids flag (fileOrder iids) sidList order val stats way
+  pub lists-same-stats : statsLeft binary64 file iids sids flag iidList sidList order val stats way ≡ statsLeft binary64 file iids sids flag (fileOrder iids) sidList order val stats way
   lists-same-stats = lists-stats binary64 file iids sids flag iidList sidList order val stats acc names gs len enough way
 
   -- "and the refusals are equal, with what they carry, or neither side refuses"
@@ -114,8 +114,8 @@ module _ (file : List ℕ) (iids sids : ℕ)
   -- "the value at place k of the animal list and place m of the marker list is alike to the one that file order gives, at the same m, for the
   -- animal that entry k means"; "All this holds at 13 too.": nothing is asked of the answers
   pub lists-moved-values : (k m : ℕ) → k < length iidList → m < length sidList
-      → value order (length iidList) (length sidList) (valuesOf binary64 file iids sids flag iidList sidList order val stats way) k m
-      ≡ value order (length (fileOrder iids)) (length sidList) (valuesOf binary64 file iids sids flag (fileOrder iids) sidList order val stats way)
+      → value order (length iidList) (length sidList) (valuesLeft binary64 file iids sids flag iidList sidList order val stats way) k m
+      ≡ value order (length (fileOrder iids)) (length sidList) (valuesLeft binary64 file iids sids flag (fileOrder iids) sidList order val stats way)
       (meant iids iidList k) m
   lists-moved-values = lists-values binary64 file iids sids flag iidList sidList order val stats acc names gs len enough way
 
@@ -125,8 +125,8 @@ module _ (file : List ℕ) (iids sids : ℕ)
 
   -- every place named is inside its buffer
   pub lists-inside : (k : ℕ) → k < length iidList
-      → (length (valuesOf binary64 file iids sids flag iidList sidList order val stats way) ≡ length iidList * length sidList)
-      × (length (valuesOf binary64 file iids sids flag (fileOrder iids) sidList order val stats way) ≡ length (fileOrder iids) * length sidList)
+      → (length (valuesLeft binary64 file iids sids flag iidList sidList order val stats way) ≡ length iidList * length sidList)
+      × (length (valuesLeft binary64 file iids sids flag (fileOrder iids) sidList order val stats way) ≡ length (fileOrder iids) * length sidList)
       × (meant iids iidList k < length (fileOrder iids))
   lists-inside k h = (
     values-length binary64 file iids sids flag iidList sidList order val stats acc (names .good-list) gs len way,
@@ -157,11 +157,11 @@ module _ (val val′ stats stats′ : List Float)
       (flag : Bool) (iidList sidList : List ℤ) (gi : GoodList iids iidList) (gs : GoodList sids sidList) (order : Bool)
       (len : RightLengths iidList sidList val stats) (way : Way) where
     -- "Afterwards every place of the statistics buffer is alike"
-    pub files-alike-stats : AlikeBuffers binary64 (statsOf binary64 file iids sids flag iidList sidList order val stats way) (statsOf binary64 other iids sids flag iidList sidList order val′ stats′ way)
+    pub files-alike-stats : AlikeBuffers binary64 (statsLeft binary64 file iids sids flag iidList sidList order val stats way) (statsLeft binary64 other iids sids flag iidList sidList order val′ stats′ way)
     files-alike-stats =
         same-buffers-alike binary64 _ _
         (files-same-stats file other iids sids acc acc′ fits out out′ l l′ same flag iidList sidList gi gs order val stats len way
-        ∙ (λ i. statsOf binary64 other iids sids flag iidList sidList order (val-same i) (stats-same i) way))
+        ∙ (λ i. statsLeft binary64 other iids sids flag iidList sidList order (val-same i) (stats-same i) way))
 
     -- "and the refusals are equal, with what they carry, or neither side refuses"
     pub files-equal-answers : answersOf binary64 file iids sids flag iidList sidList order val stats way ≡ answersOf binary64 other iids sids flag iidList sidList order val′ stats′ way
@@ -170,21 +170,21 @@ module _ (val val′ stats stats′ : List Float)
         ∙ (λ i. answersOf binary64 other iids sids flag iidList sidList order (val-same i) (stats-same i) way)
 
     -- "Where the files differ every value is alike."
-    pub files-alike-values : AlikeBuffers binary64 (valuesOf binary64 file iids sids flag iidList sidList order val stats way) (valuesOf binary64 other iids sids flag iidList sidList order val′ stats′ way)
+    pub files-alike-values : AlikeBuffers binary64 (valuesLeft binary64 file iids sids flag iidList sidList order val stats way) (valuesLeft binary64 other iids sids flag iidList sidList order val′ stats′ way)
     files-alike-values =
         same-buffers-alike binary64 _ _
         (files-same-values file other iids sids acc acc′ fits out out′ l l′ same flag iidList sidList gi gs order val stats len way
-        ∙ (λ i. valuesOf binary64 other iids sids flag iidList sidList order (val-same i) (stats-same i) way))
+        ∙ (λ i. valuesLeft binary64 other iids sids flag iidList sidList order (val-same i) (stats-same i) way))
 
   -- "or only in the animal list, one of them then reading in file order"
   module _ (file : List ℕ) (iids sids : ℕ) (acc : IsAccepted file iids sids) (few : iids ≤ 1000000000)
       (flag : Bool) (iidList sidList : List ℤ) (names : NamesEachOnce iids iidList) (gs : GoodList sids sidList) (order : Bool)
       (len : RightLengths iidList sidList val stats) (way : Way) where
-    pub lists-alike-stats : AlikeBuffers binary64 (statsOf binary64 file iids sids flag iidList sidList order val stats way) (statsOf binary64 file iids sids flag (fileOrder iids) sidList order val′ stats′ way)
+    pub lists-alike-stats : AlikeBuffers binary64 (statsLeft binary64 file iids sids flag iidList sidList order val stats way) (statsLeft binary64 file iids sids flag (fileOrder iids) sidList order val′ stats′ way)
     lists-alike-stats =
         same-buffers-alike binary64 _ _
         (lists-same-stats file iids sids acc few flag iidList sidList names gs order val stats len way
-        ∙ (λ i. statsOf binary64 file iids sids flag (fileOrder iids) sidList order (val-same i) (stats-same i) way))
+        ∙ (λ i. statsLeft binary64 file iids sids flag (fileOrder iids) sidList order (val-same i) (stats-same i) way))
 
     pub lists-equal-answers : answersOf binary64 file iids sids flag iidList sidList order val stats way ≡ answersOf binary64 file iids sids flag (fileOrder iids) sidList order val′ stats′ way
     lists-equal-answers =
@@ -194,9 +194,9 @@ module _ (val val′ stats stats′ : List Float)
     -- "the value at place k of the animal list and place m of the marker list is alike to the one that file order gives, at the same m, for the
     -- animal that entry k means"
     pub lists-alike-values : (k m : ℕ) → k < length iidList → m < length sidList
-        → Alike binary64 (value order (length iidList) (length sidList) (valuesOf binary64 file iids sids flag iidList sidList order val stats way) k m)
-        (value order (length (fileOrder iids)) (length sidList) (valuesOf binary64 file iids sids flag (fileOrder iids) sidList order val′ stats′ way) (meant iids iidList k) m)
+        → Alike binary64 (value order (length iidList) (length sidList) (valuesLeft binary64 file iids sids flag iidList sidList order val stats way) k m)
+        (value order (length (fileOrder iids)) (length sidList) (valuesLeft binary64 file iids sids flag (fileOrder iids) sidList order val′ stats′ way) (meant iids iidList k) m)
     lists-alike-values k m hk hm =
         same-is-alike binary64 _ _
         (lists-moved-values file iids sids acc few flag iidList sidList names gs order val stats len way k m hk hm
-        ∙ (λ i. value order (length (fileOrder iids)) (length sidList) (valuesOf binary64 file iids sids flag (fileOrder iids) sidList order (val-same i) (stats-same i) way) (meant iids iidList k) m))
+        ∙ (λ i. value order (length (fileOrder iids)) (length sidList) (valuesLeft binary64 file iids sids flag (fileOrder iids) sidList order (val-same i) (stats-same i) way) (meant iids iidList k) m))

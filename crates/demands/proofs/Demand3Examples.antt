@@ -20,7 +20,7 @@ use Rattle.standardise.specs.Standardised.{value, markerAnswer, markersAnswer, 
 use Rattle.bed_read.specs.Calls.{block, codeIn, callCode}
 use Rattle.bed_read.specs.Reading.{checkLists, readAnswer, readCode, codesRead, valuesRead}
 use Rattle.bed_file.specs.File.{isMode1, items, blocks, checkFile, acceptAnswer}
-use Rattle.read_standardised.specs.Ways.{Way, answersOf, valuesOf, statsOf}
+use Rattle.read_standardised.specs.Ways.{Way, answersOf, valuesLeft, statsLeft}
 use Rattle.demands.specs.Demand.{IsAccepted, CallsAgree, GoodList, meant, NamesEachOnce, RightLengths}
 use Rattle.demands.specs.Alike.{Alike, AlikeBuffers, OfFormat}
 use Rattle.read_standardised.specs.Joined.{joinedChecks, readNan, joinedAnswer}
@@ -28,7 +28,7 @@ use Rattle.demands.specs.SmallHerds.{F, lastByteF2, inMode0}
 use Rattle.canonical.specs.Canonical.{fileOrder, canonicalFile, canonicalAnswer, canonicalBuffer}
 use Rattle.bed_write.specs.Writing.{joined, bedFile}
 use Rattle.demands.proofs.Alike.{alike-is-same, same-buffers-alike}
-use Rattle.demands.proofs.Computed.{allBelow, all-below, namesTest, names-by-test}
+use Rattle.demands.proofs.ComputedLaws.{allBelow, all-below, namesTest, names-by-test}
 use Rattle.demands.proofs.Demand3.{canonical-is-done, canonical-is-accepted, canonical-is-itself, calls-to-canonical, canonical-to-calls, files-same-stats, files-same-answers, files-same-values, files-read, lists-same-stats, lists-same-answers, lists-moved-values, lists-read, lists-inside, files-alike-stats, files-equal-answers, files-alike-values, lists-alike-stats, lists-equal-answers, lists-alike-values}
 
 -- marker 1 all missing, and the same with other pads
@@ -162,22 +162,22 @@ stats-alike = same-buffers-alike binary64 stats stats refl
 
 -- ---- 2, 3 and 4, in both orders, under both flags and in every way
 module _ (flag order : Bool) (way : Way) where
-  pub pads-stats : statsOf binary64 F 5 2 flag moved markers order val stats way ≡ statsOf binary64 lastByteF2 5 2 flag moved markers order val stats way
+  pub pads-stats : statsLeft binary64 F 5 2 flag moved markers order val stats way ≡ statsLeft binary64 lastByteF2 5 2 flag moved markers order val stats way
   pads-stats = files-same-stats F lastByteF2 5 2 F-accepted F2-accepted short out out out-long out-long pads-same flag moved markers (moved-names .good-list) markers-good order val stats lengths way
 
-  pub pads-values : valuesOf binary64 F 5 2 flag moved markers order val stats way ≡ valuesOf binary64 lastByteF2 5 2 flag moved markers order val stats way
+  pub pads-values : valuesLeft binary64 F 5 2 flag moved markers order val stats way ≡ valuesLeft binary64 lastByteF2 5 2 flag moved markers order val stats way
   pads-values = files-same-values F lastByteF2 5 2 F-accepted F2-accepted short out out out-long out-long pads-same flag moved markers (moved-names .good-list) markers-good order val stats lengths way
 
   pub modes-answers : answersOf binary64 F 5 2 flag moved markers order val stats way ≡ answersOf binary64 inMode0 5 2 flag moved markers order val stats way
   modes-answers = files-same-answers F inMode0 5 2 F-accepted F0-accepted short out out out-long out-long modes-same flag moved markers (moved-names .good-list) markers-good order val stats lengths way
 
-  pub modes-values : valuesOf binary64 F 5 2 flag moved markers order val stats way ≡ valuesOf binary64 inMode0 5 2 flag moved markers order val stats way
+  pub modes-values : valuesLeft binary64 F 5 2 flag moved markers order val stats way ≡ valuesLeft binary64 inMode0 5 2 flag moved markers order val stats way
   modes-values = files-same-values F inMode0 5 2 F-accepted F0-accepted short out out out-long out-long modes-same flag moved markers (moved-names .good-list) markers-good order val stats lengths way
 
   pub missing-answers : answersOf binary64 M 5 2 flag moved markers order val stats way ≡ answersOf binary64 M2 5 2 flag moved markers order val stats way
   missing-answers = files-same-answers M M2 5 2 M-accepted M2-accepted short out out out-long out-long missing-same flag moved markers (moved-names .good-list) markers-good order val stats lengths way
 
-  pub moved-stats : statsOf binary64 F 5 2 flag moved markers order val stats way ≡ statsOf binary64 F 5 2 flag (fileOrder 5) markers order val stats way
+  pub moved-stats : statsLeft binary64 F 5 2 flag moved markers order val stats way ≡ statsLeft binary64 F 5 2 flag (fileOrder 5) markers order val stats way
   moved-stats = lists-same-stats F 5 2 F-accepted (lit≤ tt) flag moved markers moved-names markers-good order val stats lengths way
 
   pub moved-answers : answersOf binary64 M 5 2 flag moved markers order val stats way ≡ answersOf binary64 M 5 2 flag (fileOrder 5) markers order val stats way
@@ -190,36 +190,36 @@ module _ (flag order : Bool) (way : Way) where
   pub moved-read : readAnswer M 5 2 moved markers (length val) ≡ done []
   moved-read = lists-read M 5 2 M-accepted (lit≤ tt) flag moved markers moved-names markers-good order val stats lengths way
 
-  pub moved-inside : (length (valuesOf binary64 F 5 2 flag moved markers order val stats way) ≡ length moved * length markers)
-      × (length (valuesOf binary64 F 5 2 flag (fileOrder 5) markers order val stats way) ≡ length (fileOrder 5) * length markers) × (meant 5 moved 0 < length (fileOrder 5))
+  pub moved-inside : (length (valuesLeft binary64 F 5 2 flag moved markers order val stats way) ≡ length moved * length markers)
+      × (length (valuesLeft binary64 F 5 2 flag (fileOrder 5) markers order val stats way) ≡ length (fileOrder 5) * length markers) × (meant 5 moved 0 < length (fileOrder 5))
   moved-inside = lists-inside F 5 2 F-accepted (lit≤ tt) flag moved markers moved-names markers-good order val stats lengths way 0 (lit≤ tt)
 
   -- entry 0 is −1 and means animal 4
-  pub moved-value : value order 5 2 (valuesOf binary64 F 5 2 flag moved markers order val stats way) 0 1
-      ≡ value order (length (fileOrder 5)) 2 (valuesOf binary64 F 5 2 flag (fileOrder 5) markers order val stats way) (meant 5 moved 0) 1
+  pub moved-value : value order 5 2 (valuesLeft binary64 F 5 2 flag moved markers order val stats way) 0 1
+      ≡ value order (length (fileOrder 5)) 2 (valuesLeft binary64 F 5 2 flag (fileOrder 5) markers order val stats way) (meant 5 moved 0) 1
   moved-value = lists-moved-values F 5 2 F-accepted (lit≤ tt) flag moved markers moved-names markers-good order val stats lengths way 0 1 (lit≤ tt) (lit≤ tt)
 
   -- at 13 too
-  pub moved-value-13 : value order 5 2 (valuesOf binary64 M 5 2 flag moved markers order val stats way) 0 1
-      ≡ value order (length (fileOrder 5)) 2 (valuesOf binary64 M 5 2 flag (fileOrder 5) markers order val stats way) (meant 5 moved 0) 1
+  pub moved-value-13 : value order 5 2 (valuesLeft binary64 M 5 2 flag moved markers order val stats way) 0 1
+      ≡ value order (length (fileOrder 5)) 2 (valuesLeft binary64 M 5 2 flag (fileOrder 5) markers order val stats way) (meant 5 moved 0) 1
   moved-value-13 = lists-moved-values M 5 2 M-accepted (lit≤ tt) flag moved markers moved-names markers-good order val stats lengths way 0 1 (lit≤ tt) (lit≤ tt)
 
   -- alike
-  pub modes-alike-values : AlikeBuffers binary64 (valuesOf binary64 F 5 2 flag moved markers order val stats way) (valuesOf binary64 inMode0 5 2 flag moved markers order val stats way)
+  pub modes-alike-values : AlikeBuffers binary64 (valuesLeft binary64 F 5 2 flag moved markers order val stats way) (valuesLeft binary64 inMode0 5 2 flag moved markers order val stats way)
   modes-alike-values = files-alike-values val val stats stats val-fits val-fits stats-fits stats-fits val-alike stats-alike F inMode0 5 2 F-accepted F0-accepted short out out out-long out-long modes-same flag moved markers (moved-names .good-list) markers-good order lengths way
 
-  pub modes-alike-stats : AlikeBuffers binary64 (statsOf binary64 F 5 2 flag moved markers order val stats way) (statsOf binary64 inMode0 5 2 flag moved markers order val stats way)
+  pub modes-alike-stats : AlikeBuffers binary64 (statsLeft binary64 F 5 2 flag moved markers order val stats way) (statsLeft binary64 inMode0 5 2 flag moved markers order val stats way)
   modes-alike-stats = files-alike-stats val val stats stats val-fits val-fits stats-fits stats-fits val-alike stats-alike F inMode0 5 2 F-accepted F0-accepted short out out out-long out-long modes-same flag moved markers (moved-names .good-list) markers-good order lengths way
 
   pub modes-equal-answers : answersOf binary64 F 5 2 flag moved markers order val stats way ≡ answersOf binary64 inMode0 5 2 flag moved markers order val stats way
   modes-equal-answers = files-equal-answers val val stats stats val-fits val-fits stats-fits stats-fits val-alike stats-alike F inMode0 5 2 F-accepted F0-accepted short out out out-long out-long modes-same flag moved markers (moved-names .good-list) markers-good order lengths way
 
-  pub moved-alike-stats : AlikeBuffers binary64 (statsOf binary64 M 5 2 flag moved markers order val stats way) (statsOf binary64 M 5 2 flag (fileOrder 5) markers order val stats way)
+  pub moved-alike-stats : AlikeBuffers binary64 (statsLeft binary64 M 5 2 flag moved markers order val stats way) (statsLeft binary64 M 5 2 flag (fileOrder 5) markers order val stats way)
   moved-alike-stats = lists-alike-stats val val stats stats val-fits val-fits stats-fits stats-fits val-alike stats-alike M 5 2 M-accepted (lit≤ tt) flag moved markers moved-names markers-good order lengths way
 
   pub moved-equal-answers : answersOf binary64 M 5 2 flag moved markers order val stats way ≡ answersOf binary64 M 5 2 flag (fileOrder 5) markers order val stats way
   moved-equal-answers = lists-equal-answers val val stats stats val-fits val-fits stats-fits stats-fits val-alike stats-alike M 5 2 M-accepted (lit≤ tt) flag moved markers moved-names markers-good order lengths way
 
-  pub moved-alike-value : Alike binary64 (value order 5 2 (valuesOf binary64 M 5 2 flag moved markers order val stats way) 0 1)
-      (value order (length (fileOrder 5)) 2 (valuesOf binary64 M 5 2 flag (fileOrder 5) markers order val stats way) (meant 5 moved 0) 1)
+  pub moved-alike-value : Alike binary64 (value order 5 2 (valuesLeft binary64 M 5 2 flag moved markers order val stats way) 0 1)
+      (value order (length (fileOrder 5)) 2 (valuesLeft binary64 M 5 2 flag (fileOrder 5) markers order val stats way) (meant 5 moved 0) 1)
   moved-alike-value = lists-alike-values val val stats stats val-fits val-fits stats-fits stats-fits val-alike stats-alike M 5 2 M-accepted (lit≤ tt) flag moved markers moved-names markers-good order lengths way 0 1 (lit≤ tt) (lit≤ tt)

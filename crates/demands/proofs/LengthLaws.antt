@@ -11,7 +11,7 @@ use Rattle.genotype.proofs.MatrixLaws.{length-matrix}
 use Rattle.standardise.specs.Standardised.{applied, value, found, mayChange, newValues}
 use Rattle.standardise.proofs.Theorems.{same-length}
 use Rattle.read_standardised.specs.Joined.{readNan}
-use Rattle.read_standardised.specs.Ways.{Way, inTurn, joinedCall, asRead, valuesOf}
+use Rattle.read_standardised.specs.Ways.{Way, inTurn, joinedCall, asRead, valuesLeft}
 use Rattle.demands.specs.Demand.{IsAccepted, GoodList, RightLengths}
 use Rattle.read_standardised.proofs.JoinLaws.{values-are}
 use Rattle.demands.proofs.ReadLaws.{length-read}
@@ -31,8 +31,8 @@ module _ (f : Format) (order : Bool) (n s : ℕ) (xs : List Float) (useStats : B
 
 module _ (f : Format) (file : List ℕ) (iids sids : ℕ) (flag : Bool) (il sl : List ℤ) (order : Bool) (val stats : List Float)
     (acc : IsAccepted file iids sids) (gi : GoodList iids il) (gs : GoodList sids sl) (len : RightLengths il sl val stats) where
-  pub values-length : (way : Way) → length (valuesOf f file iids sids flag il sl order val stats way) ≡ length il * length sl
-  unfolding valuesOf readNan
+  pub values-length : (way : Way) → length (valuesLeft f file iids sids flag il sl order val stats way) ≡ length il * length sl
+  unfolding valuesLeft readNan
   values-length (inTurn useStats apply) =
       let l : length (asRead f file iids sids flag il sl order val stats) ≡ length il * length sl =
       ap length (left-by-reading f file iids sids flag il sl order val stats acc gi gs len) ∙ length-read flag order file iids sids il sl in

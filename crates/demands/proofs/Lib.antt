@@ -7,7 +7,7 @@ pub mod BadLists
 pub mod LengthLaws
 pub mod Alike
 pub mod Demand3
-pub mod Computed
+pub mod ComputedLaws
 pub mod Demand3Examples
 pub mod BadListsExamples
 pub mod Worked

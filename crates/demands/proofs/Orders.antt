@@ -16,8 +16,8 @@ use Rattle.genotype.specs.Matrix.{matrixPlace, matrix}
 use Rattle.genotype.specs.Value.{i8, sameInt, sameOrNan, values, valueOf, codeOf}
 use Rattle.index.specs.declared.Index.{Index}
 use Rattle.index.specs.declared.Index.the-variants as indexes
-use Rattle.index.specs.declared.SliceEnd.the-variants as ends
-use Rattle.index.specs.declared.Bound.the-variants as bounds
+use Rattle.index.specs.declared.slice.SliceEnd.the-variants as ends
+use Rattle.index.specs.declared.range.Bound.the-variants as bounds
 use Rattle.index.specs.Numbers.{boundOr, marked, numbersBelow, fromCount, sliceEnd, distances, forward, stepped, sliceList, indexList}
 use Rattle.index.specs.Checks.{checkBound, checkRange, checkEnd, checkSlice, checkIndex, listAnswer, indexAnswer}
 use Rattle.bed_file.specs.File.{isMode1, items, blocks, checkFile, acceptAnswer}

@@ -20,7 +20,7 @@ use Rattle.standardise.specs.Standardised.{value, lowestRefused, newStats, newV
 use Rattle.standardise.proofs.Theorems.{reordered-lowest, reordered-new-stats, reordered-new-values, reordered-same-answer, reordered-same-stats, reordered-moved-values}
 use Rattle.read_standardised.specs.Joined.{readNan}
 use Rattle.canonical.specs.Canonical.{fileOrder}
-use Rattle.read_standardised.specs.Ways.{Way, inTurn, joinedCall, asRead, answersOf, valuesOf, statsOf}
+use Rattle.read_standardised.specs.Ways.{Way, inTurn, joinedCall, asRead, answersOf, valuesLeft, statsLeft}
 use Rattle.demands.specs.Demand.{IsAccepted, GoodList, meant, NamesEachOnce, RightLengths}
 use Rattle.canonical.proofs.BackLaws.{order-length, order-good, order-means}
 use Rattle.read_standardised.proofs.JoinLaws.{as-read-is, answer-is, values-are, stats-are}
@@ -166,8 +166,8 @@ module _ (f : Format) (file : List ℕ) (iids sids : ℕ) (flag : Bool) (il sl :
       ∙ ap (λ (n : ℕ). lowestRefused f order n (length sl) there false stats) (sym fo-long)
       ∙ sym (answer-is f file iids sids flag fo sl order val stats here-17 there-read))
 
-  pub lists-stats : (way : Way) → statsOf f file iids sids flag il sl order val stats way ≡ statsOf f file iids sids flag (fileOrder iids) sl order val stats way
-  unfolding statsOf fo here there readNan
+  pub lists-stats : (way : Way) → statsLeft f file iids sids flag il sl order val stats way ≡ statsLeft f file iids sids flag (fileOrder iids) sl order val stats way
+  unfolding statsLeft fo here there readNan
   lists-stats (inTurn useStats apply) = stats-moved useStats
   lists-stats joinedCall =
       stats-are f file iids sids flag il sl order val stats here-17 here-read
@@ -177,9 +177,9 @@ module _ (f : Format) (file : List ℕ) (iids sids : ℕ) (flag : Bool) (il sl :
       ∙ sym (stats-are f file iids sids flag fo sl order val stats here-17 there-read)
 
   pub lists-values : (way : Way) (k m : ℕ) → k < length il → m < length sl
-      → value order (length il) (length sl) (valuesOf f file iids sids flag il sl order val stats way) k m
-      ≡ value order (length (fileOrder iids)) (length sl) (valuesOf f file iids sids flag (fileOrder iids) sl order val stats way) (meant iids il k) m
-  unfolding valuesOf fo here there readNan
+      → value order (length il) (length sl) (valuesLeft f file iids sids flag il sl order val stats way) k m
+      ≡ value order (length (fileOrder iids)) (length sl) (valuesLeft f file iids sids flag (fileOrder iids) sl order val stats way) (meant iids il k) m
+  unfolding valuesLeft fo here there readNan
   lists-values (inTurn useStats apply) k m hk hm = value-moved useStats apply k m hk hm
   lists-values joinedCall k m hk hm =
       ap (λ (x : List Float). value order (length il) (length sl) x k m) (values-are f file iids sids flag il sl order val stats here-17 here-read)

@@ -22,8 +22,7 @@ use Rattle.statistics.specs.Statistics.{plusZero, one, counted, accumulated, me
 use Rattle.statistics.specs.Calls.{two}
 use Rattle.standardise.specs.Standardised.{markerAnswer, markersAnswer, keptOrNew, applied, value, found, lowestRefused, standardiseAnswer, newStats, mayChange, newValues, laterStats, laterValues}
 use Rattle.read_standardised.specs.Joined.{readNan, joinedAnswer, joinedStats, joinedValues}
-use Rattle.read_standardised.specs.Ways.{Way, inTurn, joinedCall, asRead, answersOf, valuesOf}
-use Rattle.read_standardised.specs.Ways.{statsOf as sideStats}
+use Rattle.read_standardised.specs.Ways.{Way, inTurn, joinedCall, asRead, answersOf, valuesLeft, statsLeft}
 use Rattle.demands.proofs.Examples.{minusOne, root-one, byRoot}
 
 -- in mode 1 (true) and mode 0 (false); marker 1 with calls, and without one
@@ -52,8 +51,8 @@ stats = two ∷ two ∷ two ∷ two ∷ []
 -- what a side of demand 3 answers and leaves
 abbrev pub Leaves : List ℕ → List ℤ → Bool → Way → List Answer → List Float → List Float → Type 0
 Leaves file list order way answers after afterStats =
-    (answersOf binary64 file 3 2 true list markers order val stats way ≡ answers) × (valuesOf binary64 file 3 2 true list markers order val stats way ≡ after)
-    × (sideStats binary64 file 3 2 true list markers order val stats way ≡ afterStats)
+    (answersOf binary64 file 3 2 true list markers order val stats way ≡ answers) × (valuesLeft binary64 file 3 2 true list markers order val stats way ≡ after)
+    × (statsLeft binary64 file 3 2 true list markers order val stats way ≡ afterStats)
 
 -- one answer by itself, and after a reading that is done
 abbrev alone : Answer → List Answer
@@ -108,7 +107,7 @@ unfolding newStats keptOrNew matrix tabulate
 new-stats moved order = rw (marker-0 moved order, marker-1 moved order)
 
 pub joined-leaves : (mode1 moved order : Bool) → Leaves (T mode1) (animals moved) order joinedCall (done [] ∷ []) (after moved order) afterStats
-unfolding answersOf valuesOf sideStats asRead readBuffer readAnswer joinedAnswer joinedValues joinedStats readNan standardiseAnswer laterValues laterStats
+unfolding answersOf valuesLeft statsLeft asRead readBuffer readAnswer joinedAnswer joinedValues joinedStats readNan standardiseAnswer laterValues laterStats
     isMode1 items blocks blockWidth firstBad isGood means fileOrder valuesRead codesRead matrix tabulate readCode callCode codeIn block itemCode codeAt valueOf values ifDone
 joined-leaves true true true = (ap alone (new-answer true true), new-values true true, new-stats true true)
 joined-leaves true true false = (ap alone (new-answer true false), new-values true false, new-stats true false)
@@ -120,7 +119,7 @@ joined-leaves false false true = (ap alone (new-answer false true), new-values f
 joined-leaves false false false = (ap alone (new-answer false false), new-values false false, new-stats false false)
 
 pub in-turn-leaves : (mode1 moved order : Bool) → Leaves (T mode1) (animals moved) order (inTurn false true) (done [] ∷ done [] ∷ []) (after moved order) afterStats
-unfolding answersOf valuesOf sideStats asRead readBuffer readAnswer joinedAnswer joinedValues joinedStats readNan standardiseAnswer laterValues laterStats
+unfolding answersOf valuesLeft statsLeft asRead readBuffer readAnswer joinedAnswer joinedValues joinedStats readNan standardiseAnswer laterValues laterStats
     isMode1 items blocks blockWidth firstBad isGood means fileOrder valuesRead codesRead matrix tabulate readCode callCode codeIn block itemCode codeAt valueOf values ifDone
 in-turn-leaves true true true = (ap afterDone (new-answer true true), new-values true true, new-stats true true)
 in-turn-leaves true true false = (ap afterDone (new-answer true false), new-values true false, new-stats true false)
@@ -177,7 +176,7 @@ unfolding newStats keptOrNew matrix tabulate
 new-stats-13 moved order = rw (marker-0-13 moved order, marker-1-13 moved order)
 
 pub joined-leaves-13 : (mode1 moved order : Bool) → Leaves (T13 mode1) (animals moved) order joinedCall (refused 13 (pos 1 ∷ []) ∷ []) (after13 moved order) afterStats13
-unfolding answersOf valuesOf sideStats asRead readBuffer readAnswer joinedAnswer joinedValues joinedStats readNan standardiseAnswer laterValues laterStats
+unfolding answersOf valuesLeft statsLeft asRead readBuffer readAnswer joinedAnswer joinedValues joinedStats readNan standardiseAnswer laterValues laterStats
     isMode1 items blocks blockWidth firstBad isGood means fileOrder valuesRead codesRead matrix tabulate readCode callCode codeIn block itemCode codeAt valueOf values ifDone
 joined-leaves-13 true true true = (ap alone (new-answer-13 true true), new-values-13 true true, new-stats-13 true true)
 joined-leaves-13 true true false = (ap alone (new-answer-13 true false), new-values-13 true false, new-stats-13 true false)
@@ -189,7 +188,7 @@ joined-leaves-13 false false true = (ap alone (new-answer-13 false true), new-va
 joined-leaves-13 false false false = (ap alone (new-answer-13 false false), new-values-13 false false, new-stats-13 false false)
 
 pub in-turn-leaves-13 : (mode1 moved order : Bool) → Leaves (T13 mode1) (animals moved) order (inTurn false true) (done [] ∷ refused 13 (pos 1 ∷ []) ∷ []) (after13 moved order) afterStats13
-unfolding answersOf valuesOf sideStats asRead readBuffer readAnswer joinedAnswer joinedValues joinedStats readNan standardiseAnswer laterValues laterStats
+unfolding answersOf valuesLeft statsLeft asRead readBuffer readAnswer joinedAnswer joinedValues joinedStats readNan standardiseAnswer laterValues laterStats
     isMode1 items blocks blockWidth firstBad isGood means fileOrder valuesRead codesRead matrix tabulate readCode callCode codeIn block itemCode codeAt valueOf values ifDone
 in-turn-leaves-13 true true true = (ap afterDone (new-answer-13 true true), new-values-13 true true, new-stats-13 true true)
 in-turn-leaves-13 true true false = (ap afterDone (new-answer-13 true false), new-values-13 true false, new-stats-13 true false)

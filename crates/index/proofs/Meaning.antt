@@ -11,13 +11,13 @@ use Rattle.genotype.specs.Answer.{done, refused, check, checkCount, countLimit}
 use Rattle.genotype.specs.Lists.{tabulate}
 use Rattle.genotype.proofs.Tabulate.{length-tabulate, getD-tabulate}
 use Rattle.index.specs.declared.Index.{Index}
-use Rattle.index.specs.declared.Bound.the-variants as Bound
-use Rattle.index.specs.declared.SliceEnd.the-variants as SliceEnd
+use Rattle.index.specs.declared.range.Bound.the-variants as Bound
+use Rattle.index.specs.declared.slice.SliceEnd.the-variants as SliceEnd
 use Rattle.index.specs.declared.Index.the-variants as Index
 use Rattle.index.specs.Numbers.{numbersBelow, distances, forward, backward, stepped, sliceList, sliceEnd, fromCount, indexList, boundOr, rangeList, marked}
-use Rattle.index.specs.Inner.{stepsBelow}
+use Rattle.index.specs.Private.{stepsBelow}
 use Rattle.index.specs.Checks.{checkIndex, checkSlice, checkEnd, checkRange, checkBound, listAnswer, listBuffer, indexAnswer, indexBuffer, rangeAnswer}
-use Rattle.index.proofs.Steps.{inside, reached, forward-is, backward-is}
+use Rattle.index.proofs.StepLaws.{inside, reached, forward-is, backward-is}
 
 module _ (start end step k : ℕ) (p : 0 < step) where
   -- a forward slice has a place k exactly if start + k · step is below end, and that number stands there

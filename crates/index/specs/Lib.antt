@@ -2,4 +2,4 @@
 pub mod Numbers
 pub mod Checks
 pub mod Says
-pub mod Inner
+pub mod Private

@@ -6,13 +6,13 @@ use lib.IntN.{ℤ, pos, negsuc, natAbs}
 use lib.Dec.{eqb}
 use lib.ListN.{length, getD}
 use Rattle.genotype.specs.Lists.{tabulate}
-use Rattle.index.specs.declared.Bound.{Bound}
-use Rattle.index.specs.declared.SliceEnd.{SliceEnd}
-use Rattle.index.specs.declared.RangeAny.{RangeAny}
-use Rattle.index.specs.declared.SliceInfo1.{SliceInfo1}
+use Rattle.index.specs.declared.range.Bound.{Bound}
+use Rattle.index.specs.declared.slice.SliceEnd.{SliceEnd}
+use Rattle.index.specs.declared.range.RangeAny.{RangeAny}
+use Rattle.index.specs.declared.slice.SliceInfo1.{SliceInfo1}
 use Rattle.index.specs.declared.Index.{Index}
-use Rattle.index.specs.declared.Bound.the-variants as Bound
-use Rattle.index.specs.declared.SliceEnd.the-variants as SliceEnd
+use Rattle.index.specs.declared.range.Bound.the-variants as Bound
+use Rattle.index.specs.declared.slice.SliceEnd.the-variants as SliceEnd
 use Rattle.index.specs.declared.Index.the-variants as Index
 
 -- the numbers below n that pass a test, ascending

@@ -3,9 +3,9 @@ use mathlib.Core.List.{[], _∷_}
 use lib.IntN.{pos}
 use Rattle.genotype.specs.Answer.{Answer, done, refused}
 use Rattle.index.specs.declared.ListAnswer.{ListAnswer}
-use Rattle.index.specs.declared.RangeAnswer.{RangeAnswer}
+use Rattle.index.specs.declared.range.RangeAnswer.{RangeAnswer}
 use Rattle.index.specs.declared.ListAnswer.the-variants as ListAnswer
-use Rattle.index.specs.declared.RangeAnswer.the-variants as RangeAnswer
+use Rattle.index.specs.declared.range.RangeAnswer.the-variants as RangeAnswer
 
 abbrev pub listSays : ListAnswer → Answer
 listSays (ListAnswer.Length n) = done (pos n ∷ [])

@@ -4,19 +4,17 @@ use mathlib.Core.Bool.{Bool, true, false}
 use mathlib.Core.List.{List, []}
 use Prim.Native.Nat.{ℕ}
 use lib.IntN.{ℤ}
-use lib.ListN.{length}
 use mir.Syntax.{w64}
 use mir.Val.{SFits, toZ, ofZ}
 use mir.ValLaws.{toZ-ofZ}
-use Rattle.index.specs.declared.Bound.{Bound}
-use Rattle.index.specs.declared.Bound.the-variants as Bound
-use Rattle.index.specs.declared.SliceEnd.{SliceEnd}
-use Rattle.index.specs.declared.SliceEnd.the-variants as SliceEnd
+use Rattle.index.specs.declared.range.Bound.{Bound}
+use Rattle.index.specs.declared.range.Bound.the-variants as Bound
+use Rattle.index.specs.declared.slice.SliceEnd.{SliceEnd}
+use Rattle.index.specs.declared.slice.SliceEnd.the-variants as SliceEnd
 use Rattle.index.specs.declared.Index.{Index}
-use Rattle.index.specs.Checks.{indexAnswer, indexBuffer}
 use Rattle.bed_answer.specs.declared.BedAnswer.{BedAnswer}
-use Rattle.bed_answer.specs.Interface.{bedAnswer}
 use Rattle.mungkelas.specs.Interface.{boundOf, endOf, rangeOf, sliceOf}
+use Rattle.mungkelas.specs.Header.{BedIndex}
 
 pub bound-given : (has : Bool) (n : ℕ) → has ≡ true → Bound.At n ≡ boundOf has n
 unfolding boundOf
@@ -43,10 +41,8 @@ slice-is hasEnd e p q r = cc
 -- a list by an index is one by an index that is equal
 pub by-index :
     (count : ℕ) (old : List ℤ) {r : BedAnswer} {new : List ℤ} {index other : Index} → index ≡ other →
-    (r ≡ bedAnswer (indexAnswer index count [] [] (length old))) × (new ≡ indexBuffer index count [] [] old) →
-    (r ≡ bedAnswer (indexAnswer other count [] [] (length old))) × (new ≡ indexBuffer other count [] [] old)
-by-index count old {r} {new} e p =
-    subst (λ i. (r ≡ bedAnswer (indexAnswer i count [] [] (length old))) × (new ≡ indexBuffer i count [] [] old)) e p
+    BedIndex index count [] [] r old new → BedIndex other count [] [] r old new
+by-index count old {r} {new} e p = subst (λ i. BedIndex i count [] [] r old new) e p
 
 -- a slice as the machine holds its numbers
 pub slice-held :

@@ -2,12 +2,12 @@
 use mathlib.Core.Bool.{Bool, true, false}
 use Prim.Native.Nat.{ℕ}
 use lib.IntN.{ℤ}
-use Rattle.index.specs.declared.Bound.{Bound}
-use Rattle.index.specs.declared.SliceEnd.{SliceEnd}
-use Rattle.index.specs.declared.RangeAny.{RangeAny}
-use Rattle.index.specs.declared.SliceInfo1.{SliceInfo1}
-use Rattle.index.specs.declared.Bound.the-variants as Bound
-use Rattle.index.specs.declared.SliceEnd.the-variants as SliceEnd
+use Rattle.index.specs.declared.range.Bound.{Bound}
+use Rattle.index.specs.declared.slice.SliceEnd.{SliceEnd}
+use Rattle.index.specs.declared.range.RangeAny.{RangeAny}
+use Rattle.index.specs.declared.slice.SliceInfo1.{SliceInfo1}
+use Rattle.index.specs.declared.range.Bound.the-variants as Bound
+use Rattle.index.specs.declared.slice.SliceEnd.the-variants as SliceEnd
 
 -- "An absent bound's number is not looked at."
 unfoldable pub boundOf : Bool → ℕ → Bound

@@ -1,13 +1,13 @@
 // Counts, spans and lists.
 ghost use mathlib.Core.Path.{_≡_};
 ghost use mathlib.Core.List.{[]};
-ghost use lib.ListN.{length};
 ghost use Rattle.genotype.specs.Block.{divAnswer};
 ghost use Rattle.genotype.specs.Entry.{spanAnswer};
 ghost use Rattle.index.specs.declared.Index.the-variants as Index;
-ghost use Rattle.index.specs.Checks.{indexAnswer, indexBuffer, rangeAnswer};
+ghost use Rattle.index.specs.Checks.{rangeAnswer};
 ghost use Rattle.bed_answer.specs.Interface.{bedAnswer};
 ghost use Rattle.mungkelas.specs.Interface.{boundOf, rangeOf, endOf, sliceOf};
+ghost use Rattle.mungkelas.specs.Header.{BedIndex};
 use bed_answer::BedAnswer;
 use index::Bound;
 use index::Index;
@@ -88,10 +88,7 @@ pub extern "C" fn bed_to_range(
 
 // The list that an index chooses.
 fn list_of(index: Index, count: usize, vec: &[i64], marks: &[u8], list: &mut [i64]) -> BedAnswer
-    ensures { λ r. ⌜
-        (r ≡ bedAnswer (indexAnswer index count (now (vec .entry)) (now (marks .entry)) (length (now (list .entry)))))
-        × (now (list .exit) ≡ indexBuffer index count (now (vec .entry)) (now (marks .entry)) (now (list .entry)))
-        ⌝ }
+    ensures { λ r. ⌜ BedIndex index count (now (vec .entry)) (now (marks .entry)) r (now (list .entry)) (now (list .exit)) ⌝ }
 {
     let answer = index.to_vec(count, vec, marks, list);
     bed_answer::of_list(answer)
@@ -99,10 +96,7 @@ fn list_of(index: Index, count: usize, vec: &[i64], marks: &[u8], list: &mut [i6
 
 // The same, by an index that needs neither entries nor marks.
 fn list_by(index: Index, count: usize, list: &mut [i64]) -> BedAnswer
-    ensures { λ r. ⌜
-        (r ≡ bedAnswer (indexAnswer index count [] [] (length (now (list .entry)))))
-        × (now (list .exit) ≡ indexBuffer index count [] [] (now (list .entry)))
-        ⌝ }
+    ensures { λ r. ⌜ BedIndex index count [] [] r (now (list .entry)) (now (list .exit)) ⌝ }
 {
     let vec = [0i64; 0];
     let marks = [0u8; 0];
@@ -111,30 +105,21 @@ fn list_by(index: Index, count: usize, list: &mut [i64]) -> BedAnswer
 
 #[no_mangle]
 pub extern "C" fn bed_index_all(count: usize, list: &mut [i64]) -> BedAnswer
-    ensures { λ r. ⌜
-        (r ≡ bedAnswer (indexAnswer Index.All count [] [] (length (now (list .entry)))))
-        × (now (list .exit) ≡ indexBuffer Index.All count [] [] (now (list .entry)))
-        ⌝ }
+    ensures { λ r. ⌜ BedIndex Index.All count [] [] r (now (list .entry)) (now (list .exit)) ⌝ }
 {
     list_by(Index::All, count, list)
 }
 
 #[no_mangle]
 pub extern "C" fn bed_index_one(count: usize, one: i64, list: &mut [i64]) -> BedAnswer
-    ensures { λ r. ⌜
-        (r ≡ bedAnswer (indexAnswer (Index.One one) count [] [] (length (now (list .entry)))))
-        × (now (list .exit) ≡ indexBuffer (Index.One one) count [] [] (now (list .entry)))
-        ⌝ }
+    ensures { λ r. ⌜ BedIndex (Index.One one) count [] [] r (now (list .entry)) (now (list .exit)) ⌝ }
 {
     list_by(Index::One(one), count, list)
 }
 
 #[no_mangle]
 pub extern "C" fn bed_index_vec(count: usize, vec: &[i64], list: &mut [i64]) -> BedAnswer
-    ensures { λ r. ⌜
-        (r ≡ bedAnswer (indexAnswer Index.Vec count (now (vec .entry)) [] (length (now (list .entry)))))
-        × (now (list .exit) ≡ indexBuffer Index.Vec count (now (vec .entry)) [] (now (list .entry)))
-        ⌝ }
+    ensures { λ r. ⌜ BedIndex Index.Vec count (now (vec .entry)) [] r (now (list .entry)) (now (list .exit)) ⌝ }
 {
     let marks = [0u8; 0];
     list_of(Index::Vec, count, vec, &marks, list)
@@ -142,10 +127,7 @@ pub extern "C" fn bed_index_vec(count: usize, vec: &[i64], list: &mut [i64]) -> 
 
 #[no_mangle]
 pub extern "C" fn bed_index_bool(count: usize, marks: &[u8], list: &mut [i64]) -> BedAnswer
-    ensures { λ r. ⌜
-        (r ≡ bedAnswer (indexAnswer Index.VecBool count [] (now (marks .entry)) (length (now (list .entry)))))
-        × (now (list .exit) ≡ indexBuffer Index.VecBool count [] (now (marks .entry)) (now (list .entry)))
-        ⌝ }
+    ensures { λ r. ⌜ BedIndex Index.VecBool count [] (now (marks .entry)) r (now (list .entry)) (now (list .exit)) ⌝ }
 {
     let vec = [0i64; 0];
     list_of(Index::VecBool, count, &vec, marks, list)
@@ -160,10 +142,7 @@ pub extern "C" fn bed_index_range(
     end: usize,
     list: &mut [i64],
 ) -> BedAnswer
-    ensures { λ r. ⌜
-        (r ≡ bedAnswer (indexAnswer (Index.RangeAny (rangeOf «has_start» start «has_end» end)) count [] [] (length (now (list .entry)))))
-        × (now (list .exit) ≡ indexBuffer (Index.RangeAny (rangeOf «has_start» start «has_end» end)) count [] [] (now (list .entry)))
-        ⌝ }
+    ensures { λ r. ⌜ BedIndex (Index.RangeAny (rangeOf «has_start» start «has_end» end)) count [] [] r (now (list .entry)) (now (list .exit)) ⌝ }
 {
     let range = range_of(has_start, start, has_end, end);
     list_by(Index::RangeAny(range), count, list)
@@ -178,10 +157,7 @@ pub extern "C" fn bed_index_slice(
     step: i64,
     list: &mut [i64],
 ) -> BedAnswer
-    ensures { λ r. ⌜
-        (r ≡ bedAnswer (indexAnswer (Index.NDSliceInfo (sliceOf start «has_end» end step)) count [] [] (length (now (list .entry)))))
-        × (now (list .exit) ≡ indexBuffer (Index.NDSliceInfo (sliceOf start «has_end» end step)) count [] [] (now (list .entry)))
-        ⌝ }
+    ensures { λ r. ⌜ BedIndex (Index.NDSliceInfo (sliceOf start «has_end» end step)) count [] [] r (now (list .entry)) (now (list .exit)) ⌝ }
 {
     let slice = slice_of(start, has_end, end, step);
     list_by(Index::NDSliceInfo(slice), count, list)

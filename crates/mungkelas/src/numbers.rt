@@ -2,8 +2,7 @@
 ghost use mathlib.Core.Path.{_≡_};
 ghost use lib.Ieee.{binary64};
 ghost use Rattle.root.specs.Root.{root};
-ghost use Rattle.standardise.specs.Standardised.{standardiseAnswer, laterValues, laterStats};
-ghost use Rattle.bed_answer.specs.Interface.{bedAnswer};
+ghost use Rattle.mungkelas.specs.Header.{BedStandardise};
 use bed_answer::BedAnswer;
 
 #[no_mangle]
@@ -16,11 +15,8 @@ pub extern "C" fn bed_impute_and_zero_mean_snps_f64(
     use_stats: bool,
     stats: &mut [f64],
 ) -> BedAnswer
-    ensures { λ r. ⌜
-        (r ≡ bedAnswer (standardiseAnswer binary64 «animal_order» «iid_count» «sid_count» (now (val .entry)) «use_stats» (now (stats .entry))))
-        × (now (val .exit) ≡ laterValues binary64 «animal_order» «iid_count» «sid_count» (now (val .entry)) «use_stats» (now (stats .entry)) «apply_in_place»)
-        × (now (stats .exit) ≡ laterStats binary64 «animal_order» «iid_count» «sid_count» (now (val .entry)) «use_stats» (now (stats .entry)))
-        ⌝ }
+    ensures { λ r. ⌜ BedStandardise «iid_count» «sid_count» «animal_order» «apply_in_place» «use_stats»
+        r (now (val .entry)) (now (val .exit)) (now (stats .entry)) (now (stats .exit)) ⌝ }
 {
     let answer = standardise::impute_and_zero_mean_snps_f64(
         val,

@@ -1,7 +1,5 @@
 // The product pieces.
-ghost use mathlib.Core.Path.{_≡_};
-ghost use Rattle.product.specs.Piece.{ataAnswer, ataLeaves, aatAnswer, aatLeaves};
-ghost use Rattle.bed_answer.specs.Interface.{bedAnswer};
+ghost use Rattle.mungkelas.specs.Header.{BedAtaPiece, BedAatPiece};
 use bed_answer::BedAnswer;
 
 #[no_mangle]
@@ -15,10 +13,7 @@ pub extern "C" fn bed_file_ata_piece(
     width: usize,
     piece: &mut [f64],
 ) -> BedAnswer
-    ensures { λ r. ⌜
-        (r ≡ bedAnswer (ataAnswer (now (bytes .entry)) offset «row_count» «col_count» «col_start» height width (now (piece .entry))))
-        × (now (piece .exit) ≡ ataLeaves (now (bytes .entry)) offset «row_count» «col_count» «col_start» height width (now (piece .entry)))
-        ⌝ }
+    ensures { λ r. ⌜ BedAtaPiece (now (bytes .entry)) offset «row_count» «col_count» «col_start» height width r (now (piece .entry)) (now (piece .exit)) ⌝ }
 {
     let answer = product::file_ata_piece_f64(
         bytes,
@@ -44,10 +39,7 @@ pub extern "C" fn bed_file_aat_piece(
     width: usize,
     piece: &mut [f64],
 ) -> BedAnswer
-    ensures { λ r. ⌜
-        (r ≡ bedAnswer (aatAnswer (now (bytes .entry)) offset «row_count» «col_count» «row_start» height width (now (piece .entry))))
-        × (now (piece .exit) ≡ aatLeaves (now (bytes .entry)) offset «row_count» «col_count» «row_start» height width (now (piece .entry)))
-        ⌝ }
+    ensures { λ r. ⌜ BedAatPiece (now (bytes .entry)) offset «row_count» «col_count» «row_start» height width r (now (piece .entry)) (now (piece .exit)) ⌝ }
 {
     let answer = product::file_aat_piece_f64(
         bytes,

@@ -1,11 +1,8 @@
 // Reading a file, its canonical file, and reading and standardising in one call.
 ghost use mathlib.Core.Path.{_≡_};
-ghost use lib.Ieee.{binary64};
-ghost use lib.ListN.{length};
 ghost use Rattle.bed_file.specs.File.{openAnswer};
-ghost use Rattle.canonical.specs.Canonical.{canonicalAnswer, canonicalBuffer};
-ghost use Rattle.read_standardised.specs.Joined.{joinedAnswer, joinedValues, joinedStats};
 ghost use Rattle.bed_answer.specs.Interface.{bedAnswer};
+ghost use Rattle.mungkelas.specs.Header.{BedCanonical, BedReadStandardised};
 
 pub mod read_f64;
 pub mod read_i8;
@@ -27,10 +24,7 @@ pub extern "C" fn bed_canonical(
     sid_count: usize,
     out: &mut [u8],
 ) -> BedAnswer
-    ensures { λ r. ⌜
-        (r ≡ bedAnswer (canonicalAnswer (now (file .entry)) «iid_count» «sid_count» (length (now (out .entry)))))
-        × (now (out .exit) ≡ canonicalBuffer (now (file .entry)) «iid_count» «sid_count» (now (out .entry)))
-        ⌝ }
+    ensures { λ r. ⌜ BedCanonical (now (file .entry)) «iid_count» «sid_count» r (now (out .entry)) (now (out .exit)) ⌝ }
 {
     let answer = canonical::canonical(file, iid_count, sid_count, out);
     bed_answer::of_canonical(answer)
@@ -48,11 +42,8 @@ pub extern "C" fn bed_read_standardised_f64(
     val: &mut [f64],
     stats: &mut [f64],
 ) -> BedAnswer
-    ensures { λ r. ⌜
-        (r ≡ bedAnswer (joinedAnswer binary64 (now (file .entry)) «iid_count» «sid_count» «is_a1_counted» (now («iid_index» .entry)) (now («sid_index» .entry)) «animal_order» (now (val .entry)) (now (stats .entry))))
-        × (now (val .exit) ≡ joinedValues binary64 (now (file .entry)) «iid_count» «sid_count» «is_a1_counted» (now («iid_index» .entry)) (now («sid_index» .entry)) «animal_order» (now (val .entry)) (now (stats .entry)))
-        × (now (stats .exit) ≡ joinedStats binary64 (now (file .entry)) «iid_count» «sid_count» «is_a1_counted» (now («iid_index» .entry)) (now («sid_index» .entry)) «animal_order» (now (val .entry)) (now (stats .entry)))
-        ⌝ }
+    ensures { λ r. ⌜ BedReadStandardised (now (file .entry)) «iid_count» «sid_count» «is_a1_counted» (now («iid_index» .entry)) (now («sid_index» .entry))
+        «animal_order» r (now (val .entry)) (now (val .exit)) (now (stats .entry)) (now (stats .exit)) ⌝ }
 {
     let answer = read_standardised::read_standardised_f64(
         file,

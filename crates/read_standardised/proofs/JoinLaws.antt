@@ -21,8 +21,8 @@ use Rattle.bed_read.proofs.ReadLaws.{lists-stage}
 use Rattle.statistics.specs.Statistics.{statsPerMarker}
 use Rattle.standardise.specs.Standardised.{bufferChecks, lowestRefused, newStats, newValues, standardiseAnswer, laterStats, laterValues}
 use Rattle.standardise.proofs.CallLaws.{checks-pass}
-use Rattle.read_standardised.specs.Joined.{joinedChecks, readNan, joinedAnswer, joinedStats, joinedValues}
-use Rattle.read_standardised.specs.Ways.{inTurn, asRead, answersOf, valuesOf, statsOf}
+use Rattle.read_standardised.specs.Joined.{joinedChecks, readNan, joinedAnswer, joinedStats, joinedValues, Joins}
+use Rattle.read_standardised.specs.Ways.{inTurn, asRead, answersOf, valuesLeft, statsLeft, GoesBy}
 
 -- where a row of checks refuses, it does whatever comes later
 pub unheard : {F : Answer → Answer} → Stage F → isDone (F (done [])) ≡ false → (later : Answer) → F later ≡ F (done [])
@@ -105,13 +105,7 @@ module _ (f : Format) (file : List ℕ) (iids sids : ℕ) (flag : Bool) (il sl :
   checks : Answer → Answer
   checks later = joinedChecks file iids sids il sl (length val) (length stats) later
 
-  -- what is said of an answer and of later buffers
-  abbrev pub Left : Answer → List Float → List Float → Type 0
-  Left a v s =
-      (a ≡ joinedAnswer f file iids sids flag il sl order val stats) × (v ≡ joinedValues f file iids sids flag il sl order val stats)
-      × (s ≡ joinedStats f file iids sids flag il sl order val stats)
-
-  pub call-refused : (a : Answer) → isDone a ≡ false → ((later : Answer) → joinedChecks file iids sids il sl (length val) (length stats) later ≡ a) → Left a val stats
+  pub call-refused : (a : Answer) → isDone a ≡ false → ((later : Answer) → joinedChecks file iids sids il sl (length val) (length stats) later ≡ a) → Joins f file iids sids flag il sl order val stats a val stats
   unfolding joinedAnswer joinedValues joinedStats
   call-refused a n h = (
     sym (h (lowestRefused f order (length il) (length sl) (readNan f file iids sids flag il sl order val stats) false stats)),
@@ -140,10 +134,8 @@ module _ (f : Format) (file : List ℕ) (iids sids : ℕ) (flag : Bool) (il sl :
       → (a : Answer) (v s : List Float)
       → (a ≡ standardiseAnswer f order (length il) (length sl) v1 useStats stats) × (v ≡ laterValues f order (length il) (length sl) v1 useStats stats apply)
       × (s ≡ laterStats f order (length il) (length sl) v1 useStats stats)
-      → (rd ∷ a ∷ [] ≡ answersOf f file iids sids flag il sl order val stats (inTurn useStats apply))
-      × (v ≡ valuesOf f file iids sids flag il sl order val stats (inTurn useStats apply))
-      × (s ≡ statsOf f file iids sids flag il sl order val stats (inTurn useStats apply))
-  unfolding answersOf valuesOf statsOf
+      → GoesBy f file iids sids flag il sl order val stats (inTurn useStats apply) (rd ∷ a ∷ []) v s
+  unfolding answersOf valuesLeft statsLeft
   in-turn-left useStats apply rd v1 missing n (ra, rv) a v s (ea, ev, es) =
       let l = left-as-read v1 missing n rv in (
         λ i. ra i ∷ (ea ∙ ap (λ (x : List Float). standardiseAnswer f order (length il) (length sl) x useStats stats) l) i ∷ [],
@@ -167,7 +159,7 @@ module _ (f : Format) (file : List ℕ) (iids sids : ℕ) (flag : Bool) (il sl :
           (a : Answer) (v s : List Float)
           → (a ≡ standardiseAnswer f order (length il) (length sl) read false stats) × (v ≡ laterValues f order (length il) (length sl) read false stats true)
           × (s ≡ laterStats f order (length il) (length sl) read false stats)
-          → Left a v s
+          → Joins f file iids sids flag il sl order val stats a v s
       unfolding joinedAnswer joinedValues joinedStats standardiseAnswer laterValues laterStats
       call-made a v s (ea, ev, es) = (
         ea ∙ standardiser-hears (lowestRefused f order (length il) (length sl) read false stats)
@@ -215,7 +207,7 @@ module _ (f : Format) (file : List ℕ) (iids sids : ℕ) (flag : Bool) (il sl :
           (t : Bool) → t ≡ isDone rd → t ≡ true → (a b : Answer) (v s : List Float) → a ≡ b
           → (b ≡ standardiseAnswer f order (length il) (length sl) v1 false stats) × (v ≡ laterValues f order (length il) (length sl) v1 false stats true)
           × (s ≡ laterStats f order (length il) (length sl) v1 false stats)
-          → Left a v s
+          → Joins f file iids sids flag il sl order val stats a v s
       standardised-after t td tt′ a b v s ab (ea, ev, es) =
           call-made (sym (ap isDone ra) ∙ sym td ∙ tt′) a v s (
             ab ∙ ea ∙ ap (λ (x : List Float). standardiseAnswer f order (length il) (length sl) x false stats) left-is,
@@ -223,7 +215,7 @@ module _ (f : Format) (file : List ℕ) (iids sids : ℕ) (flag : Bool) (il sl :
             es ∙ ap (λ (x : List Float). laterStats f order (length il) (length sl) x false stats) left-is,
           )
 
-      pub refused-after : (t : Bool) → t ≡ isDone rd → t ≡ false → Left rd v1 stats
+      pub refused-after : (t : Bool) → t ≡ isDone rd → t ≡ false → Joins f file iids sids flag il sl order val stats rd v1 stats
       unfolding readBuffer
       refused-after t td tf =
           let d : isDone rd ≡ false = sym td ∙ tf in

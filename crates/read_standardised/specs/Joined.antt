@@ -1,4 +1,5 @@
 -- Document 01's joined call: what it answers and what it leaves in the two lent buffers. Definitions only.
+use mathlib.Core.Path.{_≡_}
 use mathlib.Core.Bool.{Bool, true, false}
 use mathlib.Core.List.{List, []}
 use Prim.Native.Nat.{ℕ, _*_}
@@ -50,3 +51,7 @@ module _ (f : Format) (file : List ℕ) (iids sids : ℕ) (flag : Bool) (iidList
   joinedValues =
       ifDone (joinedChecks file iids sids iidList sidList (length val) (length stats) (done []))
       (newValues f order (length iidList) (length sidList) readNan false stats true) val
+
+  -- a call's answer, and both buffers afterwards
+  abbrev pub Joins : Answer → List Float → List Float → Type 0
+  Joins said valAfter statsAfter = (said ≡ joinedAnswer) × (valAfter ≡ joinedValues) × (statsAfter ≡ joinedStats)

@@ -5,9 +5,9 @@ use Rattle.genotype.specs.Answer.{Answer, done, refused}
 use Rattle.bed_file.specs.Says.{faultNumber}
 use Rattle.bed_read.specs.Says.{readSays}
 use Rattle.standardise.specs.Says.{standardiseSays}
-use Rattle.read_standardised.specs.declared.AnswersInTurn.{AnswersInTurn}
-use Rattle.read_standardised.specs.declared.JoinedAnswer.{JoinedAnswer}
-use Rattle.read_standardised.specs.declared.JoinedAnswer.the-variants as answers
+use Rattle.read_standardised.specs.declared.in_turn.AnswersInTurn.{AnswersInTurn}
+use Rattle.read_standardised.specs.declared.answers.JoinedAnswer.{JoinedAnswer}
+use Rattle.read_standardised.specs.declared.answers.JoinedAnswer.the-variants as answers
 
 abbrev pub joinedSays : JoinedAnswer → Answer
 joinedSays answers.Done = done []

@@ -1,4 +1,5 @@
 -- Demand 3's two ways to go: reading and then standardising, or the joined call; what each answers and leaves. Definitions only.
+use mathlib.Core.Path.{_≡_}
 use mathlib.Core.Bool.{Bool}
 use mathlib.Core.List.{List, [], _∷_}
 use Prim.Native.Nat.{ℕ}
@@ -31,11 +32,15 @@ module _ (f : Format) (file : List ℕ) (iids sids : ℕ) (flag : Bool) (iidList
   answersOf joinedCall = joinedAnswer f file iids sids flag iidList sidList order val stats ∷ []
 
   -- "Afterwards": the value buffer
-  unfoldable pub valuesOf : Way → List Float
-  valuesOf (inTurn useStats apply) = laterValues f order (length iidList) (length sidList) asRead useStats stats apply
-  valuesOf joinedCall = joinedValues f file iids sids flag iidList sidList order val stats
+  unfoldable pub valuesLeft : Way → List Float
+  valuesLeft (inTurn useStats apply) = laterValues f order (length iidList) (length sidList) asRead useStats stats apply
+  valuesLeft joinedCall = joinedValues f file iids sids flag iidList sidList order val stats
 
   -- and the statistics buffer
-  unfoldable pub statsOf : Way → List Float
-  statsOf (inTurn useStats apply) = laterStats f order (length iidList) (length sidList) asRead useStats stats
-  statsOf joinedCall = joinedStats f file iids sids flag iidList sidList order val stats
+  unfoldable pub statsLeft : Way → List Float
+  statsLeft (inTurn useStats apply) = laterStats f order (length iidList) (length sidList) asRead useStats stats
+  statsLeft joinedCall = joinedStats f file iids sids flag iidList sidList order val stats
+
+  -- a side that goes a way: what it answers, and both buffers afterwards
+  abbrev pub GoesBy : Way → List Answer → List Float → List Float → Type 0
+  GoesBy way said valAfter statsAfter = (said ≡ answersOf way) × (valAfter ≡ valuesLeft way) × (statsAfter ≡ statsLeft way)

@@ -11,19 +11,33 @@ fn say(text: &[u8]) {
     io::write_all(1, text);
 }
 
-// The names of the calls, thirty places each.
+// The name of a call, in thirty places.
 fn say_name(call: usize) {
-    let names =
-        *b"open_and_check                try_div_4                     byte_span                     to_range                      read_i8                       read_f64                      encode1_i8                    encode1_f64                   write_i8                      write_f64                     canonical                     impute_and_zero_mean_snps_f64 read_standardised_f64         index_all                     index_one                     index_vec                     index_bool                    index_range                   index_slice                   file_ata_piece                file_aat_piece                root_f64                      ";
-    if call > 0 {
-        if call < 23 {
-            let at = 30 * (call - 1);
-            let end = at + 30;
-            say(&names[at..end]);
-            return;
-        }
+    match call {
+        1 => say(b"open_and_check                "),
+        2 => say(b"try_div_4                     "),
+        3 => say(b"byte_span                     "),
+        4 => say(b"to_range                      "),
+        5 => say(b"read_i8                       "),
+        6 => say(b"read_f64                      "),
+        7 => say(b"encode1_i8                    "),
+        8 => say(b"encode1_f64                   "),
+        9 => say(b"write_i8                      "),
+        10 => say(b"write_f64                     "),
+        11 => say(b"canonical                     "),
+        12 => say(b"impute_and_zero_mean_snps_f64 "),
+        13 => say(b"read_standardised_f64         "),
+        14 => say(b"index_all                     "),
+        15 => say(b"index_one                     "),
+        16 => say(b"index_vec                     "),
+        17 => say(b"index_bool                    "),
+        18 => say(b"index_range                   "),
+        19 => say(b"index_slice                   "),
+        20 => say(b"file_ata_piece                "),
+        21 => say(b"file_aat_piece                "),
+        22 => say(b"root_f64                      "),
+        _ => say(b"unknown"),
     }
-    say(b"unknown");
 }
 
 // Whether the library agrees with a line of the form.

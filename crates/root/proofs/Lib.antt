@@ -1,7 +1,7 @@
 -- The laws of the root, over the format and on plain numbers. `Roots` is what another crate cites.
-mod Patterns
+mod PatternLaws
 pub mod Roots
-mod Wholes
-mod Rounded
-mod Cases
+mod WholeLaws
+mod RoundedLaws
+mod CaseLaws
 mod Examples

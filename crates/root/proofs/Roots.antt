@@ -19,7 +19,7 @@ use lib.Ieee.Bits.{is-true, is-false, ofBits-toBits, ofBits-fits}
 use lib.Ieee.Exact.{HasValue}
 use lib.Ieee.Positive.{positive}
 use Rattle.root.specs.Root.{count, before, after, lower, upper, scaled, IsRoot, firstFrom, belowUpper, root}
-use Rattle.root.proofs.Patterns.{At, fields, at-value, at-count, next-count, count-step, count-lt, count-le, hid-pos, two-ones, inf-count, inf-pattern, last-count, plus, positive-plus, Pattern, pattern-of, pattern-pos, positive-at, bits-at, here-or-on}
+use Rattle.root.proofs.PatternLaws.{At, fields, at-value, at-count, next-count, count-step, count-lt, count-le, hid-pos, two-ones, inf-count, inf-pattern, last-count, plus, positive-plus, Pattern, pattern-of, pattern-pos, positive-at, bits-at, here-or-on}
 
 -- ---- the search
 record Found (test : ℕ → Bool) (k j r : ℕ) : Type 0 where

@@ -1,2 +1,2 @@
 pub mod Root
-pub mod Whole
+pub mod Private

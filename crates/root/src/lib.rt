@@ -3,7 +3,7 @@ ghost use mathlib.Core.Path.{_≡_};
 ghost use Prim.Native.Nat.{_+_, _*_, _≤_, _<_};
 ghost use lib.Ieee.{binary64, hid, ones, ofBits};
 ghost use Rattle.root.specs.Root.{root};
-ghost use Rattle.root.specs.Whole.{IsWholeRoot, IsScaled};
+ghost use Rattle.root.specs.Private.{IsWholeRoot, IsScaled};
 
 // 2 ^ 52, the weight of an f64's leading binary digit.
 const LEADING: u64 = 4503599627370496;

@@ -15,7 +15,7 @@ use lib.Ieee.Scale.{round-same}
 use borrow.Author.Tests.{ltb-true, lt-ltb}
 use Rattle.statistics.specs.declared.Accumulator.{Accumulator}
 use Rattle.statistics.specs.Statistics.{plusZero, one, counted, accumulated, markerStats, statsFrom}
-use Rattle.statistics.specs.Calls.{two, IsCall, isZero, isOne, isTwo, isMissing, whole, present, copies, total, FewEnough, Calls, SameSums, SumsAgree}
+use Rattle.statistics.specs.Calls.{two, IsCall, isZero, isOne, isTwo, isMissing, whole, present, copyCount, total, FewEnough, Calls, SameSums, SumsAgree}
 use Rattle.statistics.proofs.CountLaws.{stats-from}
 
 -- ---- sums of whole numbers
@@ -87,8 +87,8 @@ none-more f a n s q p =
     record { count-exact = p .count-exact ∙ ap (whole f) x; sum-exact = p .sum-exact ∙ ap (whole f) y; squares-exact = p .squares-exact ∙ ap (whole f) z }
 
 call-more : (f : Format) (a : Accumulator) (n s q : ℕ) (v : Float) → IsCall v → n ≤ 2 ^ prec f → s ≤ 2 ^ prec f → q ≤ 2 ^ prec f → Exactly f a n s q
-    → Exactly f (counted f a v) (n + present v) (s + copies v) (q + copies v * copies v)
-unfolding counted present copies isNan
+    → Exactly f (counted f a v) (n + present v) (s + copyCount v) (q + copyCount v * copyCount v)
+unfolding counted present copyCount isNan
 call-more f a n s q v isZero hn hs hq p =
     one-more f a n s q plusZero 0 0 hn hs hq p (refl, refl) (subst (λ (x : Float). HasValue x false 0 1) (sym (zero-squared f)) (refl, refl))
 call-more f a n s q v isOne hn hs hq p =
@@ -98,8 +98,8 @@ call-more f a n s q v isTwo hn hs hq p =
 call-more f a n s q v isMissing hn hs hq p = none-more f a n s q p
 
 -- ---- the sums are small
-call-small : (v : Float) → IsCall v → (present v ≤ 4) × (copies v ≤ 4) × (copies v * copies v ≤ 4)
-unfolding present copies isNan
+call-small : (v : Float) → IsCall v → (present v ≤ 4) × (copyCount v ≤ 4) × (copyCount v * copyCount v ≤ 4)
+unfolding present copyCount isNan
 call-small v isZero = (lit≤ tt, lit≤ tt, lit≤ tt)
 call-small v isOne = (lit≤ tt, lit≤ tt, lit≤ tt)
 call-small v isTwo = (lit≤ tt, lit≤ tt, lit≤ tt)
@@ -113,24 +113,24 @@ total-small h (suc n) s = let a : total h n ≤ 4 * n = total-small h n (λ i l.
 -- ---- count, sum and sum of squares are exact
 module _ (f : Format) (column : ℕ → Float) where
   sums : (n : ℕ) → Calls column n → FewEnough f n
-      → Exactly f (accumulated f column n) (total (λ i. present (column i)) n) (total (λ i. copies (column i)) n) (total (λ i. copies (column i) * copies (column i)) n)
+      → Exactly f (accumulated f column n) (total (λ i. present (column i)) n) (total (λ i. copyCount (column i)) n) (total (λ i. copyCount (column i) * copyCount (column i)) n)
   unfolding accumulated total
   sums zero calls few = record { count-exact = whole-zero f; sum-exact = whole-zero f; squares-exact = whole-zero f }
   sums (suc n) calls few =
-      let small : (i : ℕ) → i < n → (present (column i) ≤ 4) × (copies (column i) ≤ 4) × (copies (column i) * copies (column i) ≤ 4) = (λ i l. call-small (column i) (calls i (omega arith))) in
+      let small : (i : ℕ) → i < n → (present (column i) ≤ 4) × (copyCount (column i) ≤ 4) × (copyCount (column i) * copyCount (column i) ≤ 4) = (λ i l. call-small (column i) (calls i (omega arith))) in
       let a : total (λ i. present (column i)) n ≤ 4 * n = total-small (λ i. present (column i)) n (λ i l. small i l .0) in
-      let b : total (λ i. copies (column i)) n ≤ 4 * n = total-small (λ i. copies (column i)) n (λ i l. small i l .1) in
-      let c : total (λ i. copies (column i) * copies (column i)) n ≤ 4 * n = total-small (λ i. copies (column i) * copies (column i)) n (λ i l. small i l .2) in
-      call-more f (accumulated f column n) (total (λ i. present (column i)) n) (total (λ i. copies (column i)) n) (total (λ i. copies (column i) * copies (column i)) n) (column n)
+      let b : total (λ i. copyCount (column i)) n ≤ 4 * n = total-small (λ i. copyCount (column i)) n (λ i l. small i l .1) in
+      let c : total (λ i. copyCount (column i) * copyCount (column i)) n ≤ 4 * n = total-small (λ i. copyCount (column i) * copyCount (column i)) n (λ i l. small i l .2) in
+      call-more f (accumulated f column n) (total (λ i. present (column i)) n) (total (λ i. copyCount (column i)) n) (total (λ i. copyCount (column i) * copyCount (column i)) n) (column n)
       (calls n (omega arith)) (omega arith) (omega arith) (omega arith) (sums n (λ i l. calls i (omega arith)) (omega arith))
 
   pub exact-count : (n : ℕ) → Calls column n → FewEnough f n → accumulated f column n .count ≡ whole f (total (λ i. present (column i)) n)
   exact-count n calls few = sums n calls few .count-exact
 
-  pub exact-sum : (n : ℕ) → Calls column n → FewEnough f n → accumulated f column n .sum ≡ whole f (total (λ i. copies (column i)) n)
+  pub exact-sum : (n : ℕ) → Calls column n → FewEnough f n → accumulated f column n .sum ≡ whole f (total (λ i. copyCount (column i)) n)
   exact-sum n calls few = sums n calls few .sum-exact
 
-  pub exact-squares : (n : ℕ) → Calls column n → FewEnough f n → accumulated f column n .squares ≡ whole f (total (λ i. copies (column i) * copies (column i)) n)
+  pub exact-squares : (n : ℕ) → Calls column n → FewEnough f n → accumulated f column n .squares ≡ whole f (total (λ i. copyCount (column i) * copyCount (column i)) n)
   exact-squares n calls few = sums n calls few .squares-exact
 
 -- ---- animals reordered
@@ -142,9 +142,9 @@ module _ (f : Format) (xs ys : ℕ → Float) (n : ℕ) (calls : Calls xs n) (ca
   unfolding triple
   reordered-accumulator =
       let a : accumulated f xs n .count ≡ accumulated f ys n .count = (exact-count f xs n calls few ∙ ap (whole f) (same present) ∙ sym (exact-count f ys n calls′ few)) in
-      let b : accumulated f xs n .sum ≡ accumulated f ys n .sum = (exact-sum f xs n calls few ∙ ap (whole f) (same copies) ∙ sym (exact-sum f ys n calls′ few)) in
+      let b : accumulated f xs n .sum ≡ accumulated f ys n .sum = (exact-sum f xs n calls few ∙ ap (whole f) (same copyCount) ∙ sym (exact-sum f ys n calls′ few)) in
       let c : accumulated f xs n .squares ≡ accumulated f ys n .squares = (
-      exact-squares f xs n calls few ∙ ap (whole f) (same (λ v. copies v * copies v)) ∙ sym (exact-squares f ys n calls′ few)
+      exact-squares f xs n calls few ∙ ap (whole f) (same (λ v. copyCount v * copyCount v)) ∙ sym (exact-squares f ys n calls′ few)
       ) in
       λ i. triple (a i) (b i) (c i)
 

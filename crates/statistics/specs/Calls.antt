@@ -26,10 +26,10 @@ whole f n = ofInt f (pos n)
 unfoldable pub present : Float → ℕ
 present v = cond (isNan v) 0 1
 
-unfoldable pub copies : Float → ℕ
-copies nan = 0
-copies (inf s) = 0
-copies (fin s m e) = m * up e
+unfoldable pub copyCount : Float → ℕ
+copyCount nan = 0
+copyCount (inf s) = 0
+copyCount (fin s m e) = m * up e
 
 -- the sum of h over the first n places
 unfoldable pub total : (ℕ → ℕ) → ℕ → ℕ

@@ -1,18 +1,23 @@
 -- A line, read byte by byte into words: words are of hexadecimal digits, a space stands between two words, `|` between two sections.
-use mathlib.Core.Bool.{true, false, cond}
+use mathlib.Core.Bool.{Bool, true, false, cond}
 use mathlib.Core.List.{List}
 use Prim.Native.Nat.{ℕ, _+_, _-_, _*_}
 use lib.Dec.{ltb, eqb}
 use lib.ListN.{set}
 use Rattle.stored_list.specs.declared.line.Line.{Line}
 
+-- a line from its six parts
+abbrev pub lineOf : ℕ → ℕ → ℕ → Bool → Bool → Bool → Line
+lineOf sections count word isWord isComment isBad =
+    record { sections = sections; count = count; word = word; «is_word» = isWord; «is_comment» = isComment; «is_bad» = isBad }
+
 -- nothing was read
 abbrev pub newLine : Line
-newLine = record { sections = 0; count = 0; word = 0; «is_word» = false; «is_comment» = false; «is_bad» = false }
+newLine = lineOf 0 0 0 false false false
 
 -- a line that breaks the form
 abbrev pub broken : Line → Line
-broken l = record { sections = l .sections; count = l .count; word = l .word; «is_word» = l .«is_word»; «is_comment» = l .«is_comment»; «is_bad» = true }
+broken l = lineOf (l .sections) (l .count) (l .word) (l .«is_word») (l .«is_comment») true
 
 -- the value of a byte as a hexadecimal digit, `0` to `9` and `a` to `f`, or 16
 unfoldable pub digitOf : ℕ → ℕ
@@ -23,7 +28,7 @@ unfoldable pub digitRead : Line → ℕ → Line
 digitRead l b =
     cond (ltb 15 (digitOf b)) (broken l)
     (cond (ltb (l .word) 1152921504606846976)
-    (record { sections = l .sections; count = l .count; word = l .word * 16 + digitOf b; «is_word» = true; «is_comment» = l .«is_comment»; «is_bad» = l .«is_bad» })
+    (lineOf (l .sections) (l .count) (l .word * 16 + digitOf b) true (l .«is_comment») (l .«is_bad»))
     (broken l))
 
 -- by whether there is a word, and a place for it
@@ -32,7 +37,7 @@ byWord l stored none = cond (l .«is_word») (cond (ltb 10 (l .sections)) none (
 
 -- a word ends
 unfoldable pub wordEnded : Line → Line
-wordEnded l = byWord l (record { sections = l .sections; count = l .count + 1; word = 0; «is_word» = false; «is_comment» = l .«is_comment»; «is_bad» = l .«is_bad» }) (broken l)
+wordEnded l = byWord l (lineOf (l .sections) (l .count + 1) 0 false (l .«is_comment») (l .«is_bad»)) (broken l)
 
 unfoldable pub wordStored : Line → List ℕ → List ℕ
 wordStored l ws = byWord l (set ws (65 * l .sections + 1 + l .count) (l .word)) ws
@@ -46,7 +51,7 @@ lastStored l ws = cond (l .«is_word») (wordStored l ws) ws
 
 -- a section ends after its last word
 unfoldable pub closed : Line → Line
-closed l = cond (ltb 10 (l .sections)) (broken l) (record { sections = l .sections + 1; count = 0; word = 0; «is_word» = false; «is_comment» = false; «is_bad» = l .«is_bad» })
+closed l = cond (ltb 10 (l .sections)) (broken l) (lineOf (l .sections + 1) 0 0 false false (l .«is_bad»))
 
 unfoldable pub closedWords : Line → List ℕ → List ℕ
 closedWords l ws = cond (ltb 10 (l .sections)) ws (set ws (65 * l .sections) (l .count))
@@ -56,15 +61,20 @@ unfoldable pub hashed : Line → Line
 hashed l =
     cond (ltb 0 (l .sections)) (broken l)
     (cond (ltb 0 (l .count)) (broken l)
-    (cond (l .«is_word») (broken l) (record { sections = 0; count = 0; word = 0; «is_word» = false; «is_comment» = true; «is_bad» = false })))
+    (cond (l .«is_word») (broken l) (lineOf 0 0 0 false true false)))
 
 -- by the byte: of a comment nothing is read; `#`, a space, `|` or a line feed, any other
 abbrev pub byByte : {A : Type 0} → Line → ℕ → A → A → A → A → A → A
-byByte l b comment hash space bar other = cond (l .«is_comment») comment (cond (eqb b 35) hash (cond (eqb b 32) space (cond (eqb b 124) bar (cond (eqb b 10) bar other))))
+byByte l b comment hash space bar other =
+    cond (l .«is_comment») comment
+    (cond (eqb b 35) hash
+    (cond (eqb b 32) space
+    (cond (eqb b 124) bar
+    (cond (eqb b 10) bar other))))
 
 -- the line, and its words, after one byte more
-unfoldable pub stepped : Line → ℕ → Line
-stepped l b = byByte l b l (hashed l) (wordEnded l) (closed (lastWord l)) (digitRead l b)
+unfoldable pub lineAfter : Line → ℕ → Line
+lineAfter l b = byByte l b l (hashed l) (wordEnded l) (closed (lastWord l)) (digitRead l b)
 
-unfoldable pub steppedWords : Line → ℕ → List ℕ → List ℕ
-steppedWords l b ws = byByte l b ws ws (wordStored l ws) (closedWords (lastWord l) (lastStored l ws)) ws
+unfoldable pub wordsAfter : Line → ℕ → List ℕ → List ℕ
+wordsAfter l b ws = byByte l b ws ws (wordStored l ws) (closedWords (lastWord l) (lastStored l ws)) ws

@@ -1,6 +1,7 @@
 // A line, read byte by byte.
 ghost use mathlib.Core.Path.{_≡_};
-ghost use Rattle.stored_list.specs.Lines.{newLine, broken, digitOf, digitRead, wordEnded, wordStored, lastWord, lastStored, closed, closedWords, hashed, stepped, steppedWords};
+ghost use Rattle.stored_list.specs.Lines.{newLine, broken, digitOf, digitRead, wordEnded, wordStored, lastWord, lastStored};
+ghost use Rattle.stored_list.specs.Lines.{closed, closedWords, hashed, lineAfter, wordsAfter};
 
 // How far a line was read: the sections before, the words of this section, the word so far; whether it is a comment, and whether it breaks the form.
 pub struct Line {
@@ -165,7 +166,7 @@ fn hash(line: Line) -> Line
 
 // Reads one byte: a digit, a space after a word, or | or a line feed after a section.
 pub fn step(line: Line, byte: u8, words: &mut [usize; 715]) -> Line
-    ensures { λ r. ⌜ (r ≡ stepped line byte) × (now (words .exit) ≡ steppedWords line byte (now (words .entry))) ⌝ }
+    ensures { λ r. ⌜ (r ≡ lineAfter line byte) × (now (words .exit) ≡ wordsAfter line byte (now (words .entry))) ⌝ }
 {
     if line.is_comment {
         return line;

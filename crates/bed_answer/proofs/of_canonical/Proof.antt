@@ -4,7 +4,7 @@ use Prim.Native.Nat.{ℕ}
 use lib.IntN.{pos}
 use Rattle.canonical.specs.Says.{canonicalSays}
 use Rattle.bed_answer.specs.Interface.{bedAnswer, numberOf, valuesOf}
-use Rattle.bed_answer.specs.Inner.{threeOf}
+use Rattle.bed_answer.specs.Private.{threeOf}
 use Rattle.bed_answer.proofs.AnswerLaws.{told}
 use borrow.Author.Needs.{needs}
 use Rattle.bed_answer.proofs.of_canonical.Statement.{statement}

@@ -6,7 +6,7 @@ use mir.Syntax.{w64}
 use mir.ValLaws.{toZ-ofZ}
 use Rattle.read_standardised.specs.Says.{joinedSays}
 use Rattle.bed_answer.specs.Interface.{bedAnswer, numberOf, valuesOf, clip, carriesEntry, clipAnswer}
-use Rattle.bed_answer.specs.Inner.{threeOf}
+use Rattle.bed_answer.specs.Private.{threeOf}
 use Rattle.bed_answer.proofs.AnswerLaws.{told, bare-clipped}
 use borrow.Author.Needs.{needs}
 use Rattle.bed_answer.proofs.of_joined.Statement.{statement}

@@ -6,7 +6,7 @@ use mir.Syntax.{w64}
 use mir.ValLaws.{toZ-ofZ}
 use Rattle.bed_read.specs.Says.{readSays}
 use Rattle.bed_answer.specs.Interface.{bedAnswer, numberOf, valuesOf}
-use Rattle.bed_answer.specs.Inner.{threeOf}
+use Rattle.bed_answer.specs.Private.{threeOf}
 use Rattle.bed_answer.proofs.AnswerLaws.{told}
 use borrow.Author.Needs.{needs}
 use Rattle.bed_answer.proofs.of_read.Statement.{statement}

@@ -5,7 +5,7 @@ use mir.Syntax.{w64}
 use mir.ValLaws.{toZ-ofZ}
 use Rattle.genotype.specs.Says.{spanSays}
 use Rattle.bed_answer.specs.Interface.{bedAnswer, numberOf, valuesOf, clip, carriesEntry, clipAnswer}
-use Rattle.bed_answer.specs.Inner.{threeOf}
+use Rattle.bed_answer.specs.Private.{threeOf}
 use Rattle.bed_answer.proofs.AnswerLaws.{told}
 use borrow.Author.Needs.{needs}
 use Rattle.bed_answer.proofs.of_span.Statement.{statement}

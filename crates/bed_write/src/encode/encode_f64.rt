@@ -7,7 +7,10 @@ ghost use Rattle.genotype.specs.Block.{blockWidth};
 ghost use mathlib.Core.Option.{none};
 ghost use Rattle.bed_write.specs.Says.{encodeSays};
 use super::EncodeAnswer;
-use crate::write::BadCall;
+use crate::group;
+use crate::group::group_f64;
+use crate::search::BadCall;
+use crate::search::search_f64;
 
 // Packs one marker's values, none of which is bad: the groups of four that are full, then the one that is not.
 pub(crate) fn pack_f64(column: &[f64], is_a1_counted: bool, missing: f64, out: &mut [u8])
@@ -19,15 +22,15 @@ pub(crate) fn pack_f64(column: &[f64], is_a1_counted: bool, missing: f64, out: &
     let mut b = 0;
     while b < full {
         let start = 4 * b;
-        let g = crate::group_good_f64(column, start, 1, 4, is_a1_counted);
-        out[b] = crate::byte_of(g);
+        let g = group_f64::group_good_f64(column, start, 1, 4, is_a1_counted);
+        out[b] = group::byte_of(g);
         b += 1;
     }
     if b < out.len() {
         let start = 4 * b;
         let left = column.len() - start;
-        let g = crate::group_good_f64(column, start, 1, left, is_a1_counted);
-        out[b] = crate::byte_of(g);
+        let g = group_f64::group_good_f64(column, start, 1, left, is_a1_counted);
+        out[b] = group::byte_of(g);
     }
 }
 
@@ -45,14 +48,7 @@ pub fn encode1_f64(
     if out_vector.len() != genotype::blocks::block_width(iid_count) {
         return EncodeAnswer::EncodingLength;
     }
-    let bad = crate::write::write_f64::search_f64(
-        in_vector,
-        iid_count,
-        1,
-        false,
-        is_a1_counted,
-        missing,
-    );
+    let bad = search_f64::search_f64(in_vector, iid_count, 1, false, is_a1_counted, missing);
     if let BadCall::At(animal, _) = bad {
         return EncodeAnswer::BadValue(animal);
     }

@@ -1,90 +1,21 @@
 // Writing values of type f64.
 ghost use mathlib.Core.Path.{_≡_};
 ghost use mathlib.Core.Bool.{cond};
-ghost use Prim.Native.Nat.{ℕ, _+_, _*_, _<_};
+ghost use Prim.Native.Nat.{_+_, _*_, _<_};
 ghost use lib.ListN.{length};
 ghost use Rattle.genotype.specs.Block.{blockWidth};
 ghost use Rattle.genotype.specs.Value.{float};
 ghost use Rattle.bed_write.specs.Writing.{bedFile, Writes};
-ghost use Rattle.bed_write.specs.Inner.{byTests, placed, Finds, GoodMatrix, blockByte};
-ghost use Rattle.bed_write.specs.Says.{writeSays, badSays};
-use super::BadCall;
+ghost use Rattle.bed_write.specs.Private.{byTests, placed, GoodMatrix, blockByte};
+ghost use Rattle.bed_write.specs.Says.{writeSays};
 use super::WriteAnswer;
+use crate::group;
+use crate::group::group_f64;
+use crate::matrix;
+use crate::search::BadCall;
+use crate::search::search_f64;
 use genotype::entries::IidIndex;
 use genotype::entries::SidIndex;
-
-// How many values are bad, along the grain.
-fn bad_count_f64(val: &[f64], is_a1_counted: bool, missing: f64) -> usize
-    ensures { λ r. ⌜ (r ≡ 0 → (k : ℕ) → k < length (now (val .entry)) → byTests float «is_a1_counted» missing (now (val .entry)) k < 4) ⌝ }
-{
-    let mut bad = 0;
-    let mut i = 0;
-    while i < val.len() {
-        bad += crate::number_f64(val[i], is_a1_counted, missing) / 4;
-        i += 1;
-    }
-    bad
-}
-
-fn first_bad_f64(
-    val: &[f64],
-    iid_count: usize,
-    sid_count: usize,
-    animal_order: bool,
-    is_a1_counted: bool,
-    missing: f64,
-) -> BadCall
-    requires { ⌜ «iid_count» * «sid_count» ≡ length (now val) ⌝ }
-    ensures { λ r. ⌜ Finds float «is_a1_counted» missing «animal_order» «iid_count» «sid_count» (now (val .entry)) (badSays r) ⌝ }
-{
-    let mut marker = 0;
-    let found = 'markers: loop {
-        if marker >= sid_count {
-            break 'markers BadCall::Nothing;
-        }
-        let mut animal = 0;
-        while animal < iid_count {
-            let at = super::matrix_place(
-                animal_order,
-                iid_count,
-                sid_count,
-                IidIndex(animal),
-                SidIndex(marker),
-            );
-            if crate::code_f64(val[at], is_a1_counted, missing) > 3 {
-                break 'markers BadCall::At(IidIndex(animal), SidIndex(marker));
-            }
-            animal += 1;
-        }
-        marker += 1;
-    };
-    found
-}
-
-// The same, found at once where no value is bad.
-pub(crate) fn search_f64(
-    val: &[f64],
-    iid_count: usize,
-    sid_count: usize,
-    animal_order: bool,
-    is_a1_counted: bool,
-    missing: f64,
-) -> BadCall
-    requires { ⌜ «iid_count» * «sid_count» ≡ length (now val) ⌝ }
-    ensures { λ r. ⌜ Finds float «is_a1_counted» missing «animal_order» «iid_count» «sid_count» (now (val .entry)) (badSays r) ⌝ }
-{
-    if bad_count_f64(val, is_a1_counted, missing) == 0 {
-        return BadCall::Nothing;
-    }
-    first_bad_f64(
-        val,
-        iid_count,
-        sid_count,
-        animal_order,
-        is_a1_counted,
-        missing,
-    )
-}
 
 // Byte b of the packed block of marker m, of a matrix without bad values.
 fn byte_at_f64(
@@ -104,15 +35,15 @@ fn byte_at_f64(
 {
     let first = 4 * b;
     let left = iid_count - first;
-    let start = super::matrix_place(
+    let start = matrix::matrix_place(
         animal_order,
         iid_count,
         sid_count,
         IidIndex(first),
         SidIndex(m),
     );
-    let g = crate::group_good_f64(val, start, stride, left, is_a1_counted);
-    crate::byte_of(g)
+    let g = group_f64::group_good_f64(val, start, stride, left, is_a1_counted);
+    group::byte_of(g)
 }
 
 // The file of a matrix without bad values.
@@ -137,7 +68,7 @@ fn write_file_f64(
     if width == 0 {
         return;
     }
-    let stride = super::animal_stride(animal_order, sid_count);
+    let stride = matrix::animal_stride(animal_order, sid_count);
     let mut from = 0;
     while from < sid_count {
         let until = super::tile_end(animal_order, from, sid_count);
@@ -180,7 +111,7 @@ pub fn write_val_f64(
 {
     let checked = super::check_write(iid_count, sid_count, val.len(), out.len());
     if super::is_done(checked) {
-        let bad = search_f64(
+        let bad = search_f64::search_f64(
             val,
             iid_count,
             sid_count,

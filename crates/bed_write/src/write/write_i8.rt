@@ -1,94 +1,22 @@
 // Writing values of type i8.
 ghost use mathlib.Core.Path.{_≡_};
 ghost use mathlib.Core.Bool.{cond};
-ghost use Prim.Native.Nat.{ℕ, _+_, _*_, _<_, _≤_};
-ghost use lib.IntN.{pos};
-ghost use lib.ListN.{length, getD};
-ghost use lib.Signed.{mag};
+ghost use Prim.Native.Nat.{_+_, _*_, _<_};
+ghost use lib.ListN.{length};
 ghost use Rattle.genotype.specs.Block.{blockWidth};
 ghost use Rattle.genotype.specs.Value.{i8};
 ghost use Rattle.bed_write.specs.Writing.{bedFile, Writes};
-ghost use Rattle.bed_write.specs.Inner.{byTests, byTable, placed, Finds, GoodMatrix, blockByte};
-ghost use Rattle.bed_write.specs.Says.{writeSays, badSays};
-use super::BadCall;
+ghost use Rattle.bed_write.specs.Private.{byTable, placed, GoodMatrix, blockByte};
+ghost use Rattle.bed_write.specs.Says.{writeSays};
 use super::WriteAnswer;
+use crate::codes::codes_i8;
+use crate::group;
+use crate::group::group_i8;
+use crate::matrix;
+use crate::search::BadCall;
+use crate::search::search_i8;
 use genotype::entries::IidIndex;
 use genotype::entries::SidIndex;
-
-// The largest number of all values, along the grain: below 4 if none is bad.
-fn worst_i8(val: &[i8], is_a1_counted: bool, missing: i8) -> u8
-    ensures { λ r. ⌜ ((k : ℕ) → k < length (now (val .entry))
-        → ((byTests i8 «is_a1_counted» missing (now (val .entry)) k ≤ r) × (mag (getD (now (val .entry)) k (pos 0)) < 128))) ⌝ }
-{
-    let mut worst = 0;
-    let mut i = 0;
-    while i < val.len() {
-        worst = super::worse(worst, crate::number_i8(val[i], is_a1_counted, missing));
-        i += 1;
-    }
-    worst
-}
-
-fn first_bad_i8(
-    val: &[i8],
-    iid_count: usize,
-    sid_count: usize,
-    animal_order: bool,
-    is_a1_counted: bool,
-    missing: i8,
-) -> BadCall
-    requires { ⌜ «iid_count» * «sid_count» ≡ length (now val) ⌝ }
-    ensures { λ r. ⌜ Finds i8 «is_a1_counted» missing «animal_order» «iid_count» «sid_count» (now (val .entry)) (badSays r) ⌝ }
-{
-    let mut marker = 0;
-    let found = 'markers: loop {
-        if marker >= sid_count {
-            break 'markers BadCall::Nothing;
-        }
-        let mut animal = 0;
-        while animal < iid_count {
-            let at = super::matrix_place(
-                animal_order,
-                iid_count,
-                sid_count,
-                IidIndex(animal),
-                SidIndex(marker),
-            );
-            if crate::number_i8(val[at], is_a1_counted, missing) > 3 {
-                break 'markers BadCall::At(IidIndex(animal), SidIndex(marker));
-            }
-            animal += 1;
-        }
-        marker += 1;
-    };
-    found
-}
-
-// The same, found at once where no value is bad.
-pub(crate) fn search_i8(
-    val: &[i8],
-    iid_count: usize,
-    sid_count: usize,
-    animal_order: bool,
-    is_a1_counted: bool,
-    missing: i8,
-) -> BadCall
-    requires { ⌜ «iid_count» * «sid_count» ≡ length (now val) ⌝ }
-    ensures { λ r. ⌜ Finds i8 «is_a1_counted» missing «animal_order» «iid_count» «sid_count» (now (val .entry)) (badSays r)
-        × ((k : ℕ) → k < length (now (val .entry)) → mag (getD (now (val .entry)) k (pos 0)) < 128) ⌝ }
-{
-    if worst_i8(val, is_a1_counted, missing) < 4 {
-        return BadCall::Nothing;
-    }
-    first_bad_i8(
-        val,
-        iid_count,
-        sid_count,
-        animal_order,
-        is_a1_counted,
-        missing,
-    )
-}
 
 // Byte b of the packed block of marker m, of a matrix without bad values.
 fn byte_at_i8(
@@ -107,15 +35,15 @@ fn byte_at_i8(
 {
     let first = 4 * b;
     let left = iid_count - first;
-    let start = super::matrix_place(
+    let start = matrix::matrix_place(
         animal_order,
         iid_count,
         sid_count,
         IidIndex(first),
         SidIndex(m),
     );
-    let g = crate::group_i8(val, start, stride, left, table);
-    crate::byte_of(g)
+    let g = group_i8::group_i8(val, start, stride, left, table);
+    group::byte_of(g)
 }
 
 // The file of a matrix without bad values.
@@ -139,7 +67,7 @@ fn write_file_i8(
     if width == 0 {
         return;
     }
-    let stride = super::animal_stride(animal_order, sid_count);
+    let stride = matrix::animal_stride(animal_order, sid_count);
     let mut from = 0;
     while from < sid_count {
         let until = super::tile_end(animal_order, from, sid_count);
@@ -172,7 +100,7 @@ pub fn write_val_i8(
 {
     let checked = super::check_write(iid_count, sid_count, val.len(), out.len());
     if super::is_done(checked) {
-        let bad = search_i8(
+        let bad = search_i8::search_i8(
             val,
             iid_count,
             sid_count,
@@ -183,7 +111,7 @@ pub fn write_val_i8(
         if let BadCall::At(animal, marker) = bad {
             return WriteAnswer::BadValue(animal, marker);
         }
-        let table = crate::code_table(is_a1_counted, missing);
+        let table = codes_i8::code_table(is_a1_counted, missing);
         let width = genotype::blocks::block_width(iid_count);
         write_file_i8(val, iid_count, sid_count, animal_order, width, &table, out);
     }

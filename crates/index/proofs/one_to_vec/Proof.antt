@@ -3,7 +3,7 @@ use mathlib.Core.Path.{refl}
 use native.Mathlib.Omega.{arith}
 use borrow.Author.Needs.{needs}
 use mir.Facts.{toZ-ofZ}
-use Rattle.index.proofs.Buffers.{too-short, placed, filled-none, filled-more}
+use Rattle.index.proofs.BufferLaws.{too-short, placed, filled-none, filled-more}
 use Rattle.index.proofs.one_to_vec.Statement.{statement}
 use Rattle.index.proofs.one_to_vec.Tie as tie
 

@@ -6,7 +6,7 @@ use borrow.Author.Needs.{sfits-of}
 use lib.ListN.{length, take}
 use lib.Seq.{take-all}
 use mir.Facts.{toZ-ofZ}
-use Rattle.index.proofs.Buffers.{too-short, placed, Filled, filled-none, filled-more, take-more}
+use Rattle.index.proofs.BufferLaws.{too-short, placed, Filled, filled-none, filled-more, take-more}
 use Rattle.index.proofs.vec_to_vec.Statement.{statement}
 use Rattle.index.proofs.vec_to_vec.Tie as tie
 

@@ -1,9 +1,6 @@
 // Reading values of type i8.
-ghost use mathlib.Core.Path.{_≡_};
-ghost use lib.ListN.{length};
 ghost use Rattle.genotype.specs.Value.{i8};
-ghost use Rattle.bed_read.specs.Reading.{readAnswer, readBuffer};
-ghost use Rattle.bed_answer.specs.Interface.{bedAnswer};
+ghost use Rattle.mungkelas.specs.Header.{BedRead};
 use bed_answer::BedAnswer;
 
 #[no_mangle]
@@ -18,10 +15,8 @@ pub extern "C" fn bed_read_i8(
     animal_order: bool,
     val: &mut [i8],
 ) -> BedAnswer
-    ensures { λ r. ⌜
-        (r ≡ bedAnswer (readAnswer (now (file .entry)) «iid_count» «sid_count» (now («iid_index» .entry)) (now («sid_index» .entry)) (length (now (val .entry)))))
-        × (now (val .exit) ≡ readBuffer i8 (now (file .entry)) «iid_count» «sid_count» «is_a1_counted» (now («iid_index» .entry)) (now («sid_index» .entry)) «missing_value» «animal_order» (now (val .entry)))
-        ⌝ }
+    ensures { λ r. ⌜ BedRead i8 (now (file .entry)) «iid_count» «sid_count» «is_a1_counted» (now («iid_index» .entry)) (now («sid_index» .entry))
+        «missing_value» «animal_order» r (now (val .entry)) (now (val .exit)) ⌝ }
 {
     let answer = bed_read::read_no_alloc_i8(
         file,

@@ -1,9 +1,6 @@
 // Packing one marker's values of type f64.
-ghost use mathlib.Core.Path.{_≡_};
-ghost use lib.ListN.{length};
 ghost use Rattle.genotype.specs.Value.{float};
-ghost use Rattle.bed_write.specs.Packing.{placeCode, encodeAnswer, encodeBuffer};
-ghost use Rattle.bed_answer.specs.Interface.{bedAnswer};
+ghost use Rattle.mungkelas.specs.Header.{BedEncode1};
 use bed_answer::BedAnswer;
 
 #[no_mangle]
@@ -13,10 +10,7 @@ pub extern "C" fn bed_encode1_f64(
     is_a1_counted: bool,
     missing: f64,
 ) -> BedAnswer
-    ensures { λ r. ⌜
-        (r ≡ bedAnswer (encodeAnswer (length (now («in_vector» .entry))) (placeCode float «is_a1_counted» missing (now («in_vector» .entry))) (length (now («out_vector» .entry)))))
-        × (now («out_vector» .exit) ≡ encodeBuffer (length (now («in_vector» .entry))) (placeCode float «is_a1_counted» missing (now («in_vector» .entry))) (now («out_vector» .entry)))
-        ⌝ }
+    ensures { λ r. ⌜ BedEncode1 float (now («in_vector» .entry)) «is_a1_counted» missing r (now («out_vector» .entry)) (now («out_vector» .exit)) ⌝ }
 {
     let answer = bed_write::encode1_f64(in_vector, out_vector, is_a1_counted, missing);
     bed_answer::of_encode(answer)

@@ -57,10 +57,11 @@ same-length-2 c = search needs
 returns-5 : tie.Need-returns-5
 unfolding ofBits div
 returns-5 c =
-    let s = c .before .before .before .before .before .before .before .before .before .before .before .before .before .before .before .before .before .before .before .before .before .before .before .before in
-    standardised-after binary64 (s .args .file .now) (s .args .iid-count) (s .args .sid-count) (s .args .is-a1-counted) (s .args .iid-index .now) (s .args .sid-index .now) (s .args .animal-order) (s .args .val .now) (s .args .stats .now) (omega (arith, s .good .1 .1 .1 .1 .0 .1)) (omega (arith, s .good .1 .1 .1 .1 .1 .0 .1)) (sym (c .before .before .before .before .before .before .before .before .before .before .before .before .before .before .before .before .product-is2 .ensures) ∙ not-false _ (c .before .before .before .before .before .before .before .before .before .before .before .before .before .before .before .if4 .left))
-    _ _ _ refl (c .before .before .before .before .before .before .before .before .before .before .of-reading .ensures ∙ c .before .before .before .before .before .before .before .before .before .before .before .before .before .read-no-alloc-f64 .ensures .0) (c .before .before .before .before .before .before .before .before .before .before .before .before .before .read-no-alloc-f64 .ensures .1)
-    _ (c .before .before .before .before .before .before .before .before .before .is-done .ensures) (c .before .before .before .before .before .before .before .before .if5 .taken) _ _ _ _ (c .of-standardising .ensures) (c .before .before .before .before .before .impute-and-zero-mean-snps-f64 .ensures)
+    let t = c .before .before .before .before .before .before .before .before in
+    let s = t .before .before .before .before .before .before .before .before .before .before .before .before .before .before .before .before in
+    standardised-after binary64 (s .args .file .now) (s .args .iid-count) (s .args .sid-count) (s .args .is-a1-counted) (s .args .iid-index .now) (s .args .sid-index .now) (s .args .animal-order) (s .args .val .now) (s .args .stats .now) (omega (arith, s .good .1 .1 .1 .1 .0 .1)) (omega (arith, s .good .1 .1 .1 .1 .1 .0 .1)) (sym (t .before .before .before .before .before .before .before .before .product-is2 .ensures) ∙ not-false _ (t .before .before .before .before .before .before .before .if4 .left))
+    _ _ _ refl (t .before .before .of-reading .ensures ∙ t .before .before .before .before .before .read-no-alloc-f64 .ensures .0) (t .before .before .before .before .before .read-no-alloc-f64 .ensures .1)
+    _ (t .before .is-done .ensures) (t .if5 .taken) _ _ _ _ (c .of-standardising .ensures) (c .before .before .before .before .before .impute-and-zero-mean-snps-f64 .ensures)
 
 same-length-3 : tie.Need-same-length-3
 same-length-3 c = search needs

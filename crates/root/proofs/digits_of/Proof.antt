@@ -1,8 +1,8 @@
--- `root::digits_of` meets its contract. The loop's invariant is `Lifted` of `Rounded`. The measure is what the digits lack of 2 ^ 53. Assumes nothing.
+-- `root::digits_of` meets its contract. The loop's invariant is `Lifted` of `RoundedLaws`. The measure is what the digits lack of 2 ^ 53. Assumes nothing.
 use Prim.Native.Nat.{_-_}
 use native.Mathlib.Omega.{arith}
 use lib.Ieee.{binary64}
-use Rattle.root.proofs.Rounded.{Lifted, lifted-start, lifted-more, lifted-step, lifted-end, scaled-normal}
+use Rattle.root.proofs.RoundedLaws.{Lifted, lifted-start, lifted-more, lifted-step, lifted-end, scaled-normal}
 use Rattle.root.proofs.digits_of.Statement.{statement}
 use Rattle.root.proofs.digits_of.Tie as tie
 

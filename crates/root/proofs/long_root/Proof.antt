@@ -2,8 +2,8 @@
 use Prim.Native.Nat.{_*_, _/_, _%_, _+_}
 use native.Mathlib.Omega.{arith}
 use borrow.Author.Needs.{needs}
-use Rattle.root.specs.Whole.{IsWholeRoot}
-use Rattle.root.proofs.Wholes.{root-within, same-number}
+use Rattle.root.specs.Private.{IsWholeRoot}
+use Rattle.root.proofs.WholeLaws.{root-within, same-number}
 use Rattle.root.proofs.long_root.Statement.{statement}
 use Rattle.root.proofs.long_root.Tie as tie
 

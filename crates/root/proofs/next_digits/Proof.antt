@@ -1,7 +1,7 @@
--- `root::next_digits` meets its contract: the steps fit a u64, and either way out is a law of `Wholes`. Assumes nothing.
+-- `root::next_digits` meets its contract: the steps fit a u64, and either way out is a law of `WholeLaws`. Assumes nothing.
 use borrow.Author.Needs.{needs}
 use native.Mathlib.Omega.{arith}
-use Rattle.root.proofs.Wholes.{Room, room, square-lt, one-less, as-it-is}
+use Rattle.root.proofs.WholeLaws.{Room, room, square-lt, one-less, as-it-is}
 use Rattle.root.proofs.next_digits.Statement.{statement}
 use Rattle.root.proofs.next_digits.Tie as tie
 

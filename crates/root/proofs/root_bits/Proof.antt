@@ -1,13 +1,13 @@
--- `root::root_bits` meets its contract: `Rounded` says that the pattern put together is the root's. Assumes nothing.
+-- `root::root_bits` meets its contract: `RoundedLaws` says that the pattern put together is the root's. Assumes nothing.
 use Prim.Native.Nat.{_*_, _%_, _+_, _≤_}
 use native.Mathlib.Nat.{mod-lt}
 use native.Mathlib.Omega.{arith}
 use borrow.Author.Needs.{needs}
 use lib.Dec.{lit<}
 use lib.Ieee.{binary64, ofBits}
-use Rattle.root.proofs.Patterns.{positive-at}
-use Rattle.root.proofs.Wholes.{root-under}
-use Rattle.root.proofs.Rounded.{digits-least, digits-most, rounded}
+use Rattle.root.proofs.PatternLaws.{positive-at}
+use Rattle.root.proofs.WholeLaws.{root-under}
+use Rattle.root.proofs.RoundedLaws.{digits-least, digits-most, rounded}
 use Rattle.root.proofs.root_bits.Statement.{statement}
 use Rattle.root.proofs.root_bits.Tie as tie
 

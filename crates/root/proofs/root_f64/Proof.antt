@@ -1,11 +1,11 @@
--- `root::root_f64` meets its contract: each way out is a case of `Cases`. Assumes nothing.
+-- `root::root_f64` meets its contract: each way out is a case of `CaseLaws`. Assumes nothing.
 use mathlib.Core.Path.{sym, ap, _∙_, subst}
 use lib.Dec.{T}
 use lib.Ieee.{binary64, fits, ofBits, div}
 use lib.Ieee.Bits.{ofBits-toBits}
 use Rattle.root.specs.Root.{root}
-use Rattle.root.proofs.Patterns.{pattern-pos}
-use Rattle.root.proofs.Cases.{equals-zero, above-number, above-positive, above-all, neither, below-number}
+use Rattle.root.proofs.PatternLaws.{pattern-pos}
+use Rattle.root.proofs.CaseLaws.{equals-zero, above-number, above-positive, above-all, neither, below-number}
 use Rattle.root.proofs.root_f64.Statement.{statement}
 use Rattle.root.proofs.root_f64.Tie as tie
 

@@ -2,8 +2,8 @@
 -- The measure is the pairs left. Assumes nothing.
 use Prim.Native.Nat.{_≤_, _*_, _/_, _^_}
 use native.Mathlib.Omega.{arith}
-use Rattle.root.specs.Whole.{IsWholeRoot}
-use Rattle.root.proofs.Wholes.{short-start, short-under, short-turn, short-end}
+use Rattle.root.specs.Private.{IsWholeRoot}
+use Rattle.root.proofs.WholeLaws.{short-start, short-under, short-turn, short-end}
 use Rattle.root.proofs.short_root.Statement.{statement}
 use Rattle.root.proofs.short_root.Tie as tie
 

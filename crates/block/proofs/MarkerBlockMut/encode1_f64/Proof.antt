@@ -1,5 +1,5 @@
 -- `MarkerBlockMut::encode1_f64`, a walk by hand: the block is taken apart, and `pack1_f64` is called on its bytes and its count.
--- The borrow of the bytes is given up to the callee for good, at its own lifetime, share and ghost name (Held's `block-gave`), so that what the callee says of
+-- The borrow of the bytes is given up to the callee for good, at its own lifetime, share and ghost name (`block-gave` of HeldLaws), so that what the callee says of
 -- their last list is what this function says. The column is Copy: what it owns is had twice, and one copy is kept for the exit.
 use mathlib.Core.Path.{_≡_, refl}
 use mathlib.Core.Bool.{Bool}
@@ -54,7 +54,7 @@ use Rattle.block.proofs.MarkerBlockMut as T
 use Rattle.block.proofs.MarkerBlockMut.Laws as T′
 use Rattle.block.proofs.pack.PackAnswer as S
 use Rattle.block.proofs.pack.PackAnswer.Laws as S′
-use Rattle.block.proofs.Held.{block-gave, block-gave-goes}
+use Rattle.block.proofs.HeldLaws.{block-gave, block-gave-goes}
 use Rattle.block.proofs.pack.pack1_f64 as callee
 use Rattle.block.proofs.pack.pack1_f64.Symbol as callee-def
 use Rattle.block.proofs.pack.pack1_f64.Symbol.{name as #pack1-f64}

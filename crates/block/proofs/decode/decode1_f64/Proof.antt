@@ -35,10 +35,11 @@ same-length c = search needs
 
 returns : tie.Need-returns
 returns c =
-    let s = c .before .before .before .before .before .before .before .before .before .before .before .before .before in
-    let t = is-done-of _ _ _ (c .before .before .before .before .before .before .before .before .before .before .check-decode .ensures) (c .before .before .before .before .before .before .before .before .before .is-done .ensures) true (c .before .before .before .before .before .before .before .before .if1 .taken) in
+    let u = c .before .before .before .before .before .before .before .before in
+    let s = u .before .before .before .before .before in
+    let t = is-done-of _ _ _ (u .before .before .check-decode .ensures) (u .before .is-done .ensures) true (u .if1 .taken) in
     let p = decodable (length (s .args .bytes .now)) (s .args .iid-count) (length (s .args .out .now)) (t) in (
-      c .before .before .before .before .before .before .before .before .before .before .check-decode .ensures,
+      u .before .before .check-decode .ensures,
       column-new float (s .args .is-a1-counted) (s .args .missing-value) (s .args .bytes .now) (s .args .iid-count) nan _ (s .args .out .now) _
           (c .before .before .before .before .before .before .set-up-two-bits-to-value-f64 .ensures) t (p .0) (c .before .before .fill-f64 .ensures),
     )

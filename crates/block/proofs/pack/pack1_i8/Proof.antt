@@ -59,9 +59,10 @@ same-length-3 c = search needs
 
 returns-6 : tie.Need-returns-6
 returns-6 c =
-    let s = c .before .before .before .before .before .before .before .before .before .before .before .before in
+    let t = c .before .before .before .before .before .before .before .before in
+    let s = t .before .before .before .before in
     pack-encoded (s .args .iid-count) (length (s .args .in-vector .now)) (placeCode i8 (s .args .is-a1-counted) (s .args .missing) (s .args .in-vector .now)) (s .args .bytes .now)
-    (c .before .before .before .before .before .before .before .before .before .before .if1 .left) _ (c .before .before .before .before .before .before .before .before .before .block-width .ensures) (c .before .before .before .before .before .before .before .before .if2 .left) (c .before .before .before .before .before .before .before .if3 .left) _ _
+    (t .before .before .if1 .left) _ (t .before .block-width .ensures) (t .if2 .left) (c .before .before .before .before .before .before .before .if3 .left) _ _
     (held-answer (s .args .missing) (s .fits .missing) (s .args .is-a1-counted) (s .args .in-vector .now) (s .args .bytes .now) (sym (ap encodeSays (c .before .animal .given .1)) ∙ c .before .before .before .before .before .encode1-i8 .ensures .0, c .before .before .before .before .before .encode1-i8 .ensures .1))
 
 pub pack1-i8-spec : {M : Type 1} → statement M

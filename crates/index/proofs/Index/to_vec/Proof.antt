@@ -3,7 +3,7 @@ use borrow.Author.Needs.{needs}
 use mir.Syntax.{w64}
 use mir.Val.{SFits}
 use mir.Facts.{toZ-ofZ}
-use Rattle.index.proofs.Promised.{count-too-large, marks-differ, is-all, is-one, is-vec, is-marks, is-range, is-slice, all-walk}
+use Rattle.index.proofs.IndexLaws.{count-too-large, marks-differ, is-all, is-one, is-vec, is-marks, is-range, is-slice, all-walk}
 use Rattle.index.proofs.Index.to_vec.Statement.{statement}
 use Rattle.index.proofs.Index.to_vec.Tie as tie
 

@@ -16,7 +16,11 @@ same-length : tie.Need-same-length
 same-length c = search needs
 
 returns : tie.Need-returns
-returns c = (as-fits _ (c .of-list .ensures) (c .before .before .to-vec .ensures .0) (list-fits _ _ _ _ _ (let l = c .before .before .before .before .before .good .1 .1 .1 .1 .0 .1 in omega arith)), c .before .before .to-vec .ensures .1)
+returns c =
+    let s = c .before .before in
+    let l = s .before .before .before .good .1 .1 .1 .1 .0 .1 in
+    let e = s .to-vec .ensures in
+    (as-fits _ (c .of-list .ensures) (e .0) (list-fits _ _ _ _ _ (omega arith)), e .1)
 
 pub list-of-spec : {M : Type 1} → statement M
 list-of-spec = tie.close (tie.spec to-vec-requires of-list-requires same-length returns)

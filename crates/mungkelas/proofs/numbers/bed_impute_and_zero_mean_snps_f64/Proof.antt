@@ -18,7 +18,9 @@ same-length-2 : tie.Need-same-length-2
 same-length-2 c = search needs
 
 returns : tie.Need-returns
-returns c = (as-fits _ (c .of-standardise .ensures) (c .before .before .before .before .before .impute-and-zero-mean-snps-f64 .ensures .0) (standardise-fits _ _ _ _ _ _ _), c .before .before .before .before .before .impute-and-zero-mean-snps-f64 .ensures .1, c .before .before .before .before .before .impute-and-zero-mean-snps-f64 .ensures .2)
+returns c =
+    let e = c .before .before .before .before .before .impute-and-zero-mean-snps-f64 .ensures in
+    (as-fits _ (c .of-standardise .ensures) (e .0) (standardise-fits _ _ _ _ _ _ _), e .1, e .2)
 
 pub bed-impute-and-zero-mean-snps-f64-spec : {M : Type 1} → statement M
 bed-impute-and-zero-mean-snps-f64-spec =

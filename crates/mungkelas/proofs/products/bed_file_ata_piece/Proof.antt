@@ -14,7 +14,9 @@ same-length : tie.Need-same-length
 same-length c = search needs
 
 returns : tie.Need-returns
-returns c = (as-said (c .of-piece .ensures) (c .before .before .before .file-ata-piece-f64 .ensures .0), c .before .before .before .file-ata-piece-f64 .ensures .1)
+returns c =
+    let e = c .before .before .before .file-ata-piece-f64 .ensures in
+    (as-said (c .of-piece .ensures) (e .0), e .1)
 
 pub bed-file-ata-piece-spec : {M : Type 1} → statement M
 bed-file-ata-piece-spec =

@@ -14,7 +14,9 @@ same-length : tie.Need-same-length
 same-length c = search needs
 
 returns : tie.Need-returns
-returns c = (as-said (c .of-canonical .ensures) (c .before .before .before .canonical .ensures .0), c .before .before .before .canonical .ensures .1)
+returns c =
+    let e = c .before .before .before .canonical .ensures in
+    (as-said (c .of-canonical .ensures) (e .0), e .1)
 
 pub bed-canonical-spec : {M : Type 1} → statement M
 bed-canonical-spec =

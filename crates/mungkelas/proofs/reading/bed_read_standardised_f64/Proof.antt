@@ -19,7 +19,11 @@ same-length-2 : tie.Need-same-length-2
 same-length-2 c = search needs
 
 returns : tie.Need-returns
-returns c = (as-fits _ (c .of-joined .ensures) (c .before .before .before .before .before .read-standardised-f64 .ensures .0) (joined-fits _ _ _ _ _ _ _ _ _ _ (let l = c .before .before .before .before .before .before .before .before .before .before .before .good .1 .1 .1 .1 .1 .0 .1 in omega arith)), c .before .before .before .before .before .read-standardised-f64 .ensures .1, c .before .before .before .before .before .read-standardised-f64 .ensures .2)
+returns c =
+    let s = c .before .before .before .before .before in
+    let l = s .before .before .before .before .before .before .good .1 .1 .1 .1 .1 .0 .1 in
+    let e = s .read-standardised-f64 .ensures in
+    (as-fits _ (c .of-joined .ensures) (e .0) (joined-fits _ _ _ _ _ _ _ _ _ _ (omega arith)), e .1, e .2)
 
 pub bed-read-standardised-f64-spec : {M : Type 1} → statement M
 bed-read-standardised-f64-spec =

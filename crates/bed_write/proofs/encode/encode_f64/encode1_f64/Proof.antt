@@ -5,7 +5,7 @@ use lib.ListN.{length}
 use Rattle.genotype.specs.Value.{float}
 use Rattle.bed_write.specs.Packing.{placeCode}
 use Rattle.bed_write.specs.First.{animalOf}
-use Rattle.bed_write.specs.Says.{badSays}
+use Rattle.bed_write.specs.Private.{badSays}
 use Rattle.bed_write.proofs.EncodeLaws.{encode-length, encode-bad, encode-done}
 use Rattle.bed_write.proofs.Theorems.{one-marker-first-bad}
 use borrow.Author.Needs.{needs}

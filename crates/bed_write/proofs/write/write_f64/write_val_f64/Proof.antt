@@ -3,8 +3,7 @@ use mathlib.Core.Path.{sym, ap, _∙_}
 use Prim.Native.Nat.{ℕ, _+_, _*_}
 use Rattle.genotype.specs.Value.{float}
 use Rattle.bed_write.specs.Writing.{valueCode}
-use Rattle.bed_write.specs.Says.{badSays}
-use Rattle.bed_write.specs.Inner.{byTests, placed}
+use Rattle.bed_write.specs.Private.{badSays, byTests, placed}
 use Rattle.bed_write.proofs.WriteLaws.{passed, value-coded, float-same, none-called, same-file, write-bad, write-done, write-refused}
 use borrow.Author.Needs.{needs}
 use Rattle.bed_write.proofs.write.write_f64.write_val_f64.Statement.{statement}
@@ -47,9 +46,10 @@ same-length c = search needs
 
 returns-2 : tie.Need-returns-2
 returns-2 c =
-    let s = c .before .before .before .before .before .before .before .before .before .before .before .before .before in
+    let t = c .before .before .before .before .before .before .before .before in
+    let s = t .before .before .before .before .before in
     let a = s .args in
-    let p = passed (a .iid-count) (a .sid-count) _ _ _ (c .before .before .before .before .before .before .before .before .before .before .check-write .ensures) (sym (c .before .before .before .before .before .before .before .before .before .is-done .ensures) ∙ c .before .before .before .before .before .before .before .before .if1 .taken) in
+    let p = passed (a .iid-count) (a .sid-count) _ _ _ (t .before .before .check-write .ensures) (sym (t .before .is-done .ensures) ∙ t .if1 .taken) in
     let e = sym (ap badSays (c .before .before .before .before .before .enum-told .given .1)) ∙ c .before .before .before .before .before .before .before .search-f64 .ensures in
     let q = write-done (a .iid-count) (a .sid-count) (valueCode float (a .is-a1-counted) (a .missing) (a .animal-order) (a .iid-count) (a .sid-count) (a .val .now)) _ (a .out .now) (p .pass) e _ (c .before .before .write-file-f64 .ensures ∙ same-file (a .iid-count) (a .sid-count) (placed (byTests float (a .is-a1-counted) (a .missing) (a .val .now)) (a .animal-order) (a .iid-count) (a .sid-count)) (valueCode float (a .is-a1-counted) (a .missing) (a .animal-order) (a .iid-count) (a .sid-count) (a .val .now)) (value-coded float (a .is-a1-counted) (a .missing) (a .animal-order) (a .iid-count) (a .sid-count) (a .val .now)) (float-same (a .is-a1-counted) (a .missing) (a .animal-order) (a .iid-count) (a .sid-count) (a .val .now)) e) in
     (p .is-done ∙ q .0, q .1)

@@ -3,8 +3,7 @@ use mathlib.Core.Path.{sym, ap, _∙_}
 use Prim.Native.Nat.{ℕ, _+_, _*_}
 use Rattle.genotype.specs.Value.{i8}
 use Rattle.bed_write.specs.Writing.{valueCode}
-use Rattle.bed_write.specs.Says.{badSays}
-use Rattle.bed_write.specs.Inner.{CodesOfBytes, byTable, placed}
+use Rattle.bed_write.specs.Private.{badSays, CodesOfBytes, byTable, placed}
 use Rattle.bed_write.proofs.ByteLaws.{as-given, held-found}
 use Rattle.bed_write.proofs.WriteLaws.{passed, value-coded, byte-same, none-called, same-file, write-bad, write-done, write-refused}
 use borrow.Author.Needs.{needs}
@@ -51,11 +50,12 @@ same-length c = search needs
 
 returns-2 : tie.Need-returns-2
 returns-2 c =
-    let s = c .before .before .before .before .before .before .before .before .before .before .before .before .before .before in
+    let t = c .before .before .before .before .before .before .before .before .before in
+    let s = t .before .before .before .before .before in
     let a = s .args in
-    let p = passed (a .iid-count) (a .sid-count) _ _ _ (c .before .before .before .before .before .before .before .before .before .before .before .before .check-write .ensures) (sym (c .before .before .before .before .before .before .before .before .before .before .before .is-done .ensures) ∙ c .before .before .before .before .before .before .before .before .before .before .if1 .taken) in
-    let e = held-found (a .missing) (s .fits .missing) (a .is-a1-counted) (a .animal-order) (a .iid-count) (a .sid-count) (a .val .now) (sym (ap badSays (c .before .before .before .before .before .before .before .enum-told .given .1)) ∙ c .before .before .before .before .before .before .before .before .before .search-i8 .ensures .0) in
-    let q = write-done (a .iid-count) (a .sid-count) (valueCode i8 (a .is-a1-counted) (a .missing) (a .animal-order) (a .iid-count) (a .sid-count) (a .val .now)) _ (a .out .now) (p .pass) e _ (c .before .before .write-file-i8 .ensures ∙ same-file (a .iid-count) (a .sid-count) (placed (byTable (c .before .before .before .before .before .before .code-table .result) (a .val .now)) (a .animal-order) (a .iid-count) (a .sid-count)) (valueCode i8 (a .is-a1-counted) (a .missing) (a .animal-order) (a .iid-count) (a .sid-count) (a .val .now)) (value-coded i8 (a .is-a1-counted) (a .missing) (a .animal-order) (a .iid-count) (a .sid-count) (a .val .now)) (byte-same (a .is-a1-counted) (a .missing) _ (a .animal-order) (a .iid-count) (a .sid-count) (a .val .now) (as-given (a .missing) (s .fits .missing) (λ m. CodesOfBytes (a .is-a1-counted) m (c .before .before .before .before .before .before .code-table .result)) (c .before .before .before .before .before .before .code-table .ensures)) (p .product) (c .before .before .before .before .before .before .before .before .before .search-i8 .ensures .1)) e) in
+    let p = passed (a .iid-count) (a .sid-count) _ _ _ (t .before .before .before .check-write .ensures) (sym (t .before .before .is-done .ensures) ∙ t .before .if1 .taken) in
+    let e = held-found (a .missing) (s .fits .missing) (a .is-a1-counted) (a .animal-order) (a .iid-count) (a .sid-count) (a .val .now) (sym (ap badSays (c .before .before .before .before .before .before .before .enum-told .given .1)) ∙ t .search-i8 .ensures .0) in
+    let q = write-done (a .iid-count) (a .sid-count) (valueCode i8 (a .is-a1-counted) (a .missing) (a .animal-order) (a .iid-count) (a .sid-count) (a .val .now)) _ (a .out .now) (p .pass) e _ (c .before .before .write-file-i8 .ensures ∙ same-file (a .iid-count) (a .sid-count) (placed (byTable (c .before .before .before .before .before .before .code-table .result) (a .val .now)) (a .animal-order) (a .iid-count) (a .sid-count)) (valueCode i8 (a .is-a1-counted) (a .missing) (a .animal-order) (a .iid-count) (a .sid-count) (a .val .now)) (value-coded i8 (a .is-a1-counted) (a .missing) (a .animal-order) (a .iid-count) (a .sid-count) (a .val .now)) (byte-same (a .is-a1-counted) (a .missing) _ (a .animal-order) (a .iid-count) (a .sid-count) (a .val .now) (as-given (a .missing) (s .fits .missing) (λ m. CodesOfBytes (a .is-a1-counted) m (c .before .before .before .before .before .before .code-table .result)) (c .before .before .before .before .before .before .code-table .ensures)) (p .product) (t .search-i8 .ensures .1)) e) in
     (p .is-done ∙ q .0, q .1)
 
 returns-3 : tie.Need-returns-3

@@ -1,7 +1,4 @@
 -- `bed_read_i8`: what the core answers, told.
-use lib.ListN.{length}
-use Rattle.bed_read.specs.Reading.{readAnswer}
-use Rattle.bed_answer.proofs.AnswerLaws.{as-said}
 use Rattle.mungkelas.proofs.MissingLaws.{read-missing}
 use borrow.Author.Needs.{needs}
 use Rattle.mungkelas.proofs.reading.read_i8.bed_read_i8.Statement.{statement}
@@ -17,7 +14,10 @@ same-length : tie.Need-same-length
 same-length c = search needs
 
 returns : tie.Need-returns
-returns c = let s = c .before .before .before .before .before in (as-said {answer = readAnswer (s .args .file .now) (s .args .iid-count) (s .args .sid-count) (s .args .iid-index .now) (s .args .sid-index .now) (length (s .args .val .now))} (c .of-read .ensures) (c .before .before .read-no-alloc-i8 .ensures .0), read-missing (s .args .missing-value) (s .fits .missing-value) (s .args .file .now) (s .args .iid-count) (s .args .sid-count) (s .args .is-a1-counted) (s .args .iid-index .now) (s .args .sid-index .now) (s .args .animal-order) (s .args .val .now) (c .before .before .read-no-alloc-i8 .ensures .1))
+returns c =
+    let s = c .before .before .before .before .before in
+    read-missing (s .args .missing-value) (s .fits .missing-value) (s .args .file .now) (s .args .iid-count) (s .args .sid-count) (s .args .is-a1-counted) (s .args .iid-index .now) (s .args .sid-index .now) (s .args .animal-order) (s .args .val .now)
+    (c .of-read .ensures) (c .before .before .read-no-alloc-i8 .ensures)
 
 pub bed-read-i8-spec : {M : Type 1} → statement M
 bed-read-i8-spec =

@@ -16,7 +16,11 @@ same-length : tie.Need-same-length
 same-length c = search needs
 
 returns : tie.Need-returns
-returns c = (as-fits _ (c .of-encode .ensures) (c .before .before .before .encode1-f64 .ensures .0) (encode-fits _ _ _ (let l = c .before .before .before .before .before .before .before .good .0 .0 in omega arith)), c .before .before .before .encode1-f64 .ensures .1)
+returns c =
+    let s = c .before .before .before in
+    let l = s .before .before .before .before .good .0 .0 in
+    let e = s .encode1-f64 .ensures in
+    (as-fits _ (c .of-encode .ensures) (e .0) (encode-fits _ _ _ (omega arith)), e .1)
 
 pub bed-encode1-f64-spec : {M : Type 1} → statement M
 bed-encode1-f64-spec =

@@ -15,7 +15,9 @@ same-length : tie.Need-same-length
 same-length c = search needs
 
 returns : tie.Need-returns
-returns c = (as-fits _ (c .of-write .ensures) (c .before .before .before .write-val-f64 .ensures .0) (write-fits _ _ _ _ _), c .before .before .before .write-val-f64 .ensures .1)
+returns c =
+    let e = c .before .before .before .write-val-f64 .ensures in
+    (as-fits _ (c .of-write .ensures) (e .0) (write-fits _ _ _ _ _), e .1)
 
 pub bed-write-f64-spec : {M : Type 1} → statement M
 bed-write-f64-spec =
