@@ -1,5 +1,5 @@
 // Packing values into blocks, and writing a .bed file into lent bytes.
-mod codes;
+mod value_codes;
 mod encode;
 mod group;
 mod matrix;

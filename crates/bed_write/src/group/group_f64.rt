@@ -5,7 +5,7 @@ ghost use Rattle.genotype.specs.Value.{float};
 ghost use Rattle.bed_write.specs.Private.{PlaceInside, FourInside, GoodPlace, GoodFour};
 use super::Group;
 use super::PAD;
-use crate::codes::codes_f64;
+use crate::value_codes::codes_f64;
 
 // The code of place k of the group of values that stand `stride` apart from `start` on, of which `left` are there and none is bad.
 fn held_good_f64(

@@ -7,7 +7,7 @@ ghost use lib.Signed.{mag};
 ghost use Rattle.genotype.specs.Value.{i8};
 ghost use Rattle.bed_write.specs.Private.{byTests, Finds, badSays};
 use super::BadCall;
-use crate::codes::codes_i8;
+use crate::value_codes::codes_i8;
 use crate::matrix;
 use genotype::entries::IidIndex;
 use genotype::entries::SidIndex;

@@ -9,7 +9,7 @@ ghost use Rattle.bed_write.specs.Writing.{bedFile, Writes};
 ghost use Rattle.bed_write.specs.Private.{byTable, placed, GoodMatrix, blockByte};
 ghost use Rattle.bed_write.specs.Says.{writeSays};
 use super::WriteAnswer;
-use crate::codes::codes_i8;
+use crate::value_codes::codes_i8;
 use crate::group;
 use crate::group::group_i8;
 use crate::matrix;

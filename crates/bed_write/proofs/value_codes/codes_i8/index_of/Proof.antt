@@ -1,8 +1,8 @@
 -- `index_of`: neither cast loses anything.
 use Rattle.bed_write.proofs.ByteLaws.{small, turned, turned-fits, fronted, casts, cast-is, index-turned, index-fronted}
 use native.Mathlib.Omega.{arith}
-use Rattle.bed_write.proofs.codes.codes_i8.index_of.Statement.{statement}
-use Rattle.bed_write.proofs.codes.codes_i8.index_of.Tie as tie
+use Rattle.bed_write.proofs.value_codes.codes_i8.index_of.Statement.{statement}
+use Rattle.bed_write.proofs.value_codes.codes_i8.index_of.Tie as tie
 
 sub-result : tie.Need-sub-result
 sub-result c = turned-fits _ (c .before .fits .value) (c .if1 .taken)

@@ -2,8 +2,8 @@
 use native.Mathlib.Omega.{arith}
 use Rattle.bed_write.proofs.ChooseLaws.{test-byte, times-yes, times-no, chosen}
 use borrow.Author.Needs.{needs}
-use Rattle.bed_write.proofs.codes.codes_i8.choose_u8.Statement.{statement}
-use Rattle.bed_write.proofs.codes.codes_i8.choose_u8.Tie as tie
+use Rattle.bed_write.proofs.value_codes.codes_i8.choose_u8.Statement.{statement}
+use Rattle.bed_write.proofs.value_codes.codes_i8.choose_u8.Tie as tie
 
 cast-k : tie.Need-cast-k
 cast-k c = search needs

@@ -9,8 +9,8 @@ use Rattle.genotype.proofs.SignedLaws.{sameInt-refl}
 use borrow.Author.Needs.{needs, sfits-of}
 use lib.Dec.{lit<}
 use lib.IntN.{pos}
-use Rattle.bed_write.proofs.codes.codes_i8.number_i8.Statement.{statement}
-use Rattle.bed_write.proofs.codes.codes_i8.number_i8.Tie as tie
+use Rattle.bed_write.proofs.value_codes.codes_i8.number_i8.Statement.{statement}
+use Rattle.bed_write.proofs.value_codes.codes_i8.number_i8.Tie as tie
 
 choose-u8-requires : tie.Need-choose-u8-requires
 choose-u8-requires c κs = search needs

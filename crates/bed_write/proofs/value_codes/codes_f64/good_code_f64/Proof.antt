@@ -5,8 +5,8 @@ use Rattle.genotype.specs.Value.{float}
 use borrow.Author.Needs.{needs}
 use lib.Ieee.{ofBits}
 use native.Mathlib.Omega.{arith}
-use Rattle.bed_write.proofs.codes.codes_f64.good_code_f64.Statement.{statement}
-use Rattle.bed_write.proofs.codes.codes_f64.good_code_f64.Tie as tie
+use Rattle.bed_write.proofs.value_codes.codes_f64.good_code_f64.Statement.{statement}
+use Rattle.bed_write.proofs.value_codes.codes_f64.good_code_f64.Tie as tie
 
 code-of-two-requires : tie.Need-code-of-two-requires
 code-of-two-requires c κs = search needs

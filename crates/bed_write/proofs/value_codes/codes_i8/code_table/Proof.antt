@@ -2,8 +2,8 @@
 use mathlib.Core.Path.{refl}
 use Rattle.bed_write.proofs.ByteLaws.{table-made, small, index-held}
 use borrow.Author.Needs.{needs}
-use Rattle.bed_write.proofs.codes.codes_i8.code_table.Statement.{statement}
-use Rattle.bed_write.proofs.codes.codes_i8.code_table.Tie as tie
+use Rattle.bed_write.proofs.value_codes.codes_i8.code_table.Statement.{statement}
+use Rattle.bed_write.proofs.value_codes.codes_i8.code_table.Tie as tie
 
 index-of-requires : tie.Need-index-of-requires
 index-of-requires c κs = search needs

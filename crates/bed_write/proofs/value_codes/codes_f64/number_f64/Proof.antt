@@ -5,8 +5,8 @@ use lib.Ieee.{ofBits}
 use Rattle.genotype.specs.Value.{float}
 use Rattle.bed_write.proofs.ChooseLaws.{small-code, code-chosen}
 use borrow.Author.Needs.{needs}
-use Rattle.bed_write.proofs.codes.codes_f64.number_f64.Statement.{statement}
-use Rattle.bed_write.proofs.codes.codes_f64.number_f64.Tie as tie
+use Rattle.bed_write.proofs.value_codes.codes_f64.number_f64.Statement.{statement}
+use Rattle.bed_write.proofs.value_codes.codes_f64.number_f64.Tie as tie
 
 choose-requires : tie.Need-choose-requires
 choose-requires c κs = search needs

@@ -6,8 +6,8 @@ use Rattle.genotype.specs.Value.{i8}
 use Rattle.bed_write.proofs.ByteLaws.{tested}
 use Rattle.bed_write.proofs.ChooseLaws.{small-code, good-chosen}
 use borrow.Author.Needs.{needs, sfits-of}
-use Rattle.bed_write.proofs.codes.codes_i8.good_code_i8.Statement.{statement}
-use Rattle.bed_write.proofs.codes.codes_i8.good_code_i8.Tie as tie
+use Rattle.bed_write.proofs.value_codes.codes_i8.good_code_i8.Statement.{statement}
+use Rattle.bed_write.proofs.value_codes.codes_i8.good_code_i8.Tie as tie
 
 code-of-two-requires : tie.Need-code-of-two-requires
 code-of-two-requires c κs = search needs

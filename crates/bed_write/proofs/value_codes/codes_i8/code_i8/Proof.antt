@@ -4,8 +4,8 @@ use Rattle.bed_write.proofs.ByteLaws.{index-held}
 use lib.ListN.{getD}
 use Prim.Native.Nat.{ℕ}
 use borrow.Author.Needs.{needs}
-use Rattle.bed_write.proofs.codes.codes_i8.code_i8.Statement.{statement}
-use Rattle.bed_write.proofs.codes.codes_i8.code_i8.Tie as tie
+use Rattle.bed_write.proofs.value_codes.codes_i8.code_i8.Statement.{statement}
+use Rattle.bed_write.proofs.value_codes.codes_i8.code_i8.Tie as tie
 
 index-of-requires : tie.Need-index-of-requires
 index-of-requires c κs = search needs
