@@ -5,6 +5,8 @@ pub mod GroupLaws
 pub mod EncodeLaws
 pub mod BedLaws
 pub mod RowLaws
+pub mod SearchLaws
+pub mod PlaceLaws
 pub mod WriteLaws
 pub mod Theorems
 pub mod Examples

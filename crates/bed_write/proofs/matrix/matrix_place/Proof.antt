@@ -1,5 +1,5 @@
 -- `matrix_place`, by the order; the place is below the product of the counts.
-use Rattle.bed_write.proofs.WriteLaws.{by-animal, by-animal-times, by-marker, by-marker-times, order-true, order-false}
+use Rattle.bed_write.proofs.PlaceLaws.{by-animal, by-animal-times, by-marker, by-marker-times, order-true, order-false}
 use Rattle.bed_write.proofs.matrix.matrix_place.Statement.{statement}
 use Rattle.bed_write.proofs.matrix.matrix_place.Tie as tie
 

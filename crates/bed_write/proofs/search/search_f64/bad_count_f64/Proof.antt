@@ -6,7 +6,7 @@ use lib.ListN.{length}
 use Rattle.genotype.specs.Value.{float}
 use Rattle.bed_write.specs.Private.{byTests}
 use Rattle.bed_write.proofs.FirstLaws.{code-read}
-use Rattle.bed_write.proofs.WriteLaws.{none-counted}
+use Rattle.bed_write.proofs.SearchLaws.{none-counted}
 use Rattle.bed_write.proofs.search.search_f64.bad_count_f64.Statement.{statement}
 use Rattle.bed_write.proofs.search.search_f64.bad_count_f64.Tie as tie
 

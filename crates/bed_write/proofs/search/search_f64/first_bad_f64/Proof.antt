@@ -5,7 +5,9 @@ use borrow.Author.Count.{below-more}
 use Rattle.genotype.specs.Value.{float}
 use Rattle.bed_write.specs.Writing.{valueCode}
 use Rattle.bed_write.specs.Groups.{orFour}
-use Rattle.bed_write.proofs.WriteLaws.{GoodCodes, called-none, called-at, value-coded, read-inside, read-number}
+use Rattle.bed_write.proofs.SearchLaws.{GoodCodes, called-none, called-at}
+use Rattle.bed_write.proofs.PlaceLaws.{read-inside, read-number}
+use Rattle.bed_write.proofs.WriteLaws.{value-coded}
 use Rattle.bed_write.proofs.search.search_f64.first_bad_f64.Statement.{statement}
 use Rattle.bed_write.proofs.search.search_f64.first_bad_f64.Tie as tie
 

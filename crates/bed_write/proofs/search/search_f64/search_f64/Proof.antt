@@ -1,6 +1,6 @@
 -- `search_f64`: nothing is found where none is counted.
 use Rattle.genotype.specs.Value.{float}
-use Rattle.bed_write.proofs.WriteLaws.{all-good}
+use Rattle.bed_write.proofs.SearchLaws.{all-good}
 use borrow.Author.Needs.{needs}
 use Rattle.bed_write.proofs.search.search_f64.search_f64.Statement.{statement}
 use Rattle.bed_write.proofs.search.search_f64.search_f64.Tie as tie

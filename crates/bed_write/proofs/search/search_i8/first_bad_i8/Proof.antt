@@ -8,7 +8,9 @@ use Rattle.genotype.specs.Value.{i8}
 use Rattle.bed_write.specs.Writing.{valueCode}
 use Rattle.bed_write.specs.Groups.{orFour}
 use Rattle.bed_write.proofs.ByteLaws.{held, code-held, held-found}
-use Rattle.bed_write.proofs.WriteLaws.{GoodCodes, called-none, called-at, value-coded, read-inside, read-number}
+use Rattle.bed_write.proofs.SearchLaws.{GoodCodes, called-none, called-at}
+use Rattle.bed_write.proofs.PlaceLaws.{read-inside, read-number}
+use Rattle.bed_write.proofs.WriteLaws.{value-coded}
 use Rattle.bed_write.proofs.search.search_i8.first_bad_i8.Statement.{statement}
 use Rattle.bed_write.proofs.search.search_i8.first_bad_i8.Tie as tie
 

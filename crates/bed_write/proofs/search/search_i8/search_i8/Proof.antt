@@ -2,7 +2,7 @@
 use native.Mathlib.Omega.{arith}
 use Rattle.genotype.specs.Value.{i8}
 use Rattle.bed_write.proofs.ByteLaws.{held, held-found}
-use Rattle.bed_write.proofs.WriteLaws.{all-good}
+use Rattle.bed_write.proofs.SearchLaws.{all-good}
 use borrow.Author.Needs.{needs}
 use Rattle.bed_write.proofs.search.search_i8.search_i8.Statement.{statement}
 use Rattle.bed_write.proofs.search.search_i8.search_i8.Tie as tie

@@ -7,7 +7,7 @@ use mir.Syntax.{w8}
 use mir.Val.{toZ}
 use Rattle.genotype.specs.Value.{i8}
 use Rattle.bed_write.specs.Private.{byTests}
-use Rattle.bed_write.proofs.WriteLaws.{grow}
+use Rattle.bed_write.proofs.SearchLaws.{grow}
 use lib.IntN.{pos}
 use Rattle.bed_write.proofs.ByteLaws.{held, as-given, code-held}
 use Rattle.bed_write.proofs.FirstLaws.{code-read}

@@ -2,7 +2,7 @@
 use native.Mathlib.Omega.{arith}
 use Rattle.genotype.specs.Value.{float}
 use Rattle.bed_write.specs.Private.{byTests}
-use Rattle.bed_write.proofs.WriteLaws.{walk-inside, walk-good, matrix-codes, matrix-byte}
+use Rattle.bed_write.proofs.PlaceLaws.{walk-inside, walk-good, matrix-codes, matrix-byte}
 use Rattle.bed_write.proofs.write.write_f64.byte_at_f64.Statement.{statement}
 use Rattle.bed_write.proofs.write.write_f64.byte_at_f64.Tie as tie
 

@@ -4,7 +4,9 @@ use Prim.Native.Nat.{ℕ, _+_, _*_}
 use Rattle.genotype.specs.Value.{float}
 use Rattle.bed_write.specs.Writing.{valueCode}
 use Rattle.bed_write.specs.Private.{badSays, byTests, placed}
-use Rattle.bed_write.proofs.WriteLaws.{passed, value-coded, float-same, none-called, same-file, write-bad, write-done, write-refused}
+use Rattle.bed_write.proofs.SearchLaws.{none-called, same-file}
+use Rattle.bed_write.proofs.PlaceLaws.{float-same}
+use Rattle.bed_write.proofs.WriteLaws.{passed, value-coded, write-bad, write-done, write-refused}
 use borrow.Author.Needs.{needs}
 use Rattle.bed_write.proofs.write.write_f64.write_val_f64.Statement.{statement}
 use Rattle.bed_write.proofs.write.write_f64.write_val_f64.Tie as tie

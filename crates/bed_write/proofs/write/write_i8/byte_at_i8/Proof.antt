@@ -1,7 +1,7 @@
 -- `byte_at_i8`: the four codes of the group make the byte.
 use native.Mathlib.Omega.{arith}
 use Rattle.bed_write.specs.Private.{byTable}
-use Rattle.bed_write.proofs.WriteLaws.{walk-inside, matrix-codes, matrix-byte}
+use Rattle.bed_write.proofs.PlaceLaws.{walk-inside, matrix-codes, matrix-byte}
 use Rattle.bed_write.proofs.write.write_i8.byte_at_i8.Statement.{statement}
 use Rattle.bed_write.proofs.write.write_i8.byte_at_i8.Tie as tie
 

@@ -5,7 +5,9 @@ use Rattle.genotype.specs.Value.{i8}
 use Rattle.bed_write.specs.Writing.{valueCode}
 use Rattle.bed_write.specs.Private.{badSays, CodesOfBytes, byTable, placed}
 use Rattle.bed_write.proofs.ByteLaws.{as-given, held-found}
-use Rattle.bed_write.proofs.WriteLaws.{passed, value-coded, byte-same, none-called, same-file, write-bad, write-done, write-refused}
+use Rattle.bed_write.proofs.SearchLaws.{none-called, same-file}
+use Rattle.bed_write.proofs.PlaceLaws.{byte-same}
+use Rattle.bed_write.proofs.WriteLaws.{passed, value-coded, write-bad, write-done, write-refused}
 use borrow.Author.Needs.{needs}
 use Rattle.bed_write.proofs.write.write_i8.write_val_i8.Statement.{statement}
 use Rattle.bed_write.proofs.write.write_i8.write_val_i8.Tie as tie
