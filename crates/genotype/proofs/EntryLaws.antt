@@ -19,10 +19,10 @@ use Rattle.genotype.specs.Answer.{done, refused, checkEntry}
 use Rattle.genotype.specs.Entry.{isGood, means, firstBad, entryAnswer}
 
 -- ---- one entry
-magnitude-good : (count : ℕ) (z : ℤ) → ltb (mag z) count ≡ isGood count z
+distance-good : (count : ℕ) (z : ℤ) → ltb (mag z) count ≡ isGood count z
 unfolding isGood
-magnitude-good count (pos i) = refl
-magnitude-good count (negsuc k) = refl
+distance-good count (pos i) = refl
+distance-good count (negsuc k) = refl
 
 from-back : (count : ℕ) (z : ℤ) → ltZ z (pos 0) ≡ true → count - 1 - mag z ≡ means count z
 unfolding means
@@ -50,7 +50,7 @@ module _ (count : ℕ) (z : ℤ) (f : SFits w64 z) where
     e′ = e ∙ ap mag back
 
     pub tests-good : ltb m count ≡ isGood count z
-    tests-good = ap (λ (k : ℕ). ltb k count) e′ ∙ magnitude-good count z
+    tests-good = ap (λ (k : ℕ). ltb k count) e′ ∙ distance-good count z
 
     pub number-back : ltZ (toZ w64 (ofZ w64 z)) (pos 0) ≡ true → count - 1 - m ≡ means count z
     number-back h = ap (λ (k : ℕ). count - 1 - k) e′ ∙ from-back count z (subst (λ (y : ℤ). ltZ y (pos 0) ≡ true) back h)

@@ -34,7 +34,7 @@ module _ (x : ℤ) (m : ℕ) (e : x ≡ pos m) (h : m < 2 ^ 63) where
   pub cast-is : natAbs (toZ w64 (ofZ w64 x)) ≡ m
   cast-is = ap natAbs held
 
--- an i64 as the machine reads it: its magnitude is e from 0 on, and −1 − e below
+-- an i64 as the machine reads it: its distance is e from 0 on, and −1 − e below
 module _ (z : ℤ) (f : SFits w64 z) where
   back : toZ w64 (ofZ w64 z) ≡ z
   back = toZ-ofZ w64 z f

@@ -47,7 +47,7 @@ pub fn sid_index(sid_count: usize, entry: i64) -> SidEntry
 }
 
 // The place that a signed entry counts: e from the front, −1 − e from the back.
-fn magnitude(entry: i64) -> usize
+fn distance(entry: i64) -> usize
     ensures { λ r. ⌜ r ≡ mag entry ⌝ }
 {
     if entry < 0 {
@@ -59,14 +59,14 @@ fn magnitude(entry: i64) -> usize
 fn is_good(count: usize, entry: i64) -> bool
     ensures { λ r. ⌜ r ≡ isGood count entry ⌝ }
 {
-    magnitude(entry) < count
+    distance(entry) < count
 }
 
 // The number that a good entry means.
 fn number(count: usize, entry: i64) -> usize
     ensures { λ r. ⌜ r ≡ means count entry ⌝ }
 {
-    let place = magnitude(entry);
+    let place = distance(entry);
     if entry < 0 {
         if place < count {
             return count - 1 - place;

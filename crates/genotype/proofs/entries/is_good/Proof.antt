@@ -1,14 +1,14 @@
--- `is_good` is `isGood`, by the magnitude.
+-- `is_good` is `isGood`, by the distance.
 use borrow.Author.Needs.{needs}
 use Rattle.genotype.proofs.entries.is_good.Statement.{statement}
 use Rattle.genotype.proofs.entries.is_good.Tie as tie
 use Rattle.genotype.proofs.EntryLaws.{tests-good}
 
-magnitude-requires : tie.Need-magnitude-requires
-magnitude-requires c κs = search needs
+distance-requires : tie.Need-distance-requires
+distance-requires c κs = search needs
 
 returns : tie.Need-returns
-returns c = tests-good _ _ (c .before .fits .entry) _ (c .magnitude .ensures)
+returns c = tests-good _ _ (c .before .fits .entry) _ (c .distance .ensures)
 
 pub is-good-spec : {M : Type 1} → statement M
-is-good-spec = tie.close (tie.spec magnitude-requires returns)
+is-good-spec = tie.close (tie.spec distance-requires returns)

@@ -1,6 +1,6 @@
--- `magnitude`: −1 − e does not wrap, and neither cast loses anything.
-use Rattle.genotype.proofs.entries.magnitude.Statement.{statement}
-use Rattle.genotype.proofs.entries.magnitude.Tie as tie
+-- `distance`: −1 − e does not wrap, and neither cast loses anything.
+use Rattle.genotype.proofs.entries.distance.Statement.{statement}
+use Rattle.genotype.proofs.entries.distance.Tie as tie
 use Rattle.genotype.proofs.SignedLaws.{turned, turned-fits, fronted, casts, cast-is}
 
 sub-result : tie.Need-sub-result
@@ -18,5 +18,5 @@ cast-result-2 c = casts _ _ (fronted _ (c .before .fits .entry) (c .if1 .left)) 
 returns-2 : tie.Need-returns-2
 returns-2 c = cast-is _ _ (fronted _ (c .before .fits .entry) (c .if1 .left)) (c .before .fits .entry .sfits)
 
-pub magnitude-spec : {M : Type 1} → statement M
-magnitude-spec = tie.close (tie.spec sub-result cast-result returns cast-result-2 returns-2)
+pub distance-spec : {M : Type 1} → statement M
+distance-spec = tie.close (tie.spec sub-result cast-result returns cast-result-2 returns-2)
