@@ -1,9 +1,9 @@
 // Packing values into blocks, and writing a .bed file into lent bytes.
-mod value_codes;
 mod encode;
 mod group;
 mod matrix;
 mod search;
+mod value_codes;
 mod write;
 
 pub use encode::EncodeAnswer;

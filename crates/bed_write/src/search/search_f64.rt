@@ -5,8 +5,8 @@ ghost use lib.ListN.{length};
 ghost use Rattle.genotype.specs.Value.{float};
 ghost use Rattle.bed_write.specs.Private.{byTests, Finds, badSays};
 use super::BadCall;
-use crate::value_codes::codes_f64;
 use crate::matrix;
+use crate::value_codes::codes_f64;
 use genotype::entries::IidIndex;
 use genotype::entries::SidIndex;
 

@@ -7,8 +7,8 @@ ghost use lib.Signed.{mag};
 ghost use Rattle.genotype.specs.Value.{i8};
 ghost use Rattle.bed_write.specs.Private.{byTests, Finds, badSays};
 use super::BadCall;
-use crate::value_codes::codes_i8;
 use crate::matrix;
+use crate::value_codes::codes_i8;
 use genotype::entries::IidIndex;
 use genotype::entries::SidIndex;
 
