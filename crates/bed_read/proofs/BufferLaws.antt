@@ -7,16 +7,18 @@ use native.Mathlib.Omega.{arith}
 use lib.IntN.{ℤ}
 use lib.ListN.{length, getD}
 use Rattle.genotype.specs.Answer.{isDone}
-use Rattle.genotype.specs.Block.{blockWidth, fileLength}
 use Rattle.genotype.specs.Code.{codeTable}
+use Rattle.genotype.specs.Entry.{firstBad}
 use Rattle.genotype.specs.Matrix.{matrix}
 use Rattle.genotype.specs.Value.{Width, values, valueOf}
 use Rattle.genotype.proofs.AnswerLaws.{new-if-done, old-if-not}
 use Rattle.genotype.proofs.Tabulate.{tabulate-ext, map-tabulate, getD-inside}
-use Rattle.bed_file.specs.File.{isMode1, items, blocks}
+use Rattle.calls.specs.declared.Shape.{Shape}
+use Rattle.calls.specs.Places.{IsShape}
+use Rattle.calls.proofs.PlaceLaws.{shape-read}
 use Rattle.bed_read.specs.Reading.{readCode, readAnswer, codesRead, valuesRead, readBuffer}
-use Rattle.bed_read.specs.Inner.{Ready, valueIn}
-use Rattle.bed_read.proofs.CallLaws.{call-below}
+use Rattle.bed_read.specs.Private.{Ready, valueIn}
+use Rattle.calls.proofs.CallLaws.{call-below}
 use Rattle.bed_read.proofs.ReadLaws.{Readable}
 use Rattle.bed_read.proofs.TableLaws.{made-value}
 use Rattle.genotype.proofs.ValueLaws.{four-values}
@@ -51,33 +53,26 @@ values-read w flag missing d order file iids sids il sl =
     order file iids sids il sl
 
 -- ---- from the checks
-module _ (file : List ℕ) (iids sids : ℕ) (il sl : List ℤ) (n : ℕ) (r : Readable file iids sids il sl n)
-    (m : Bool) (w i s : ℕ) (em : m ≡ isMode1 file) (ew : w ≡ blockWidth (items (isMode1 file) iids sids)) (ei : i ≡ iids) (es : s ≡ sids) where
-  pub ready : Ready file m w i s il sl
+module _ (file : List ℕ) (iids sids : ℕ) (il sl : List ℤ) (n : ℕ) (r : Readable file iids sids il sl n) (shape : Shape) (e : IsShape file iids sids shape) where
+  pub ready : Ready file shape il sl
   ready =
-      subst (λ (x : ℕ). Ready file m w x s il sl) (sym ei)
-      (subst (λ (x : ℕ). Ready file m w iids x il sl) (sym es)
-      (record {
-        shaped = record {
-          mode-is = em;
-          width-is = ew ∙ ap (λ (x : Bool). blockWidth (items x iids sids)) (sym em);
-          length-is = r .length-is ∙ ap (λ (x : Bool). fileLength (items x iids sids) (blocks x iids sids)) (sym em);
-        };
-        iids-good = r .iids-good;
-        sids-good = r .sids-good;
-      }))
+      record {
+        shaped = shape-read file iids sids shape e (r .length-is);
+        iids-good = ap (λ (x : ℕ). firstBad x il) (e .iids-are) ∙ r .iids-good;
+        sids-good = ap (λ (x : ℕ). firstBad x sl) (e .sids-are) ∙ r .sids-good;
+      }
 
   -- the buffer where reading is done
   pub buffer-read :
       (W : Width) (flag : Bool) (missing d : W .Value) (order : Bool) (old new table : List (W .Value))
       → isDone (readAnswer file iids sids il sl (length old)) ≡ true → table ≡ map (λ code. getD (values W flag missing) code d) codeTable
-      → new ≡ map (valueIn table d) (codesRead order file i s il sl)
+      → new ≡ map (valueIn table d) (codesRead order file (shape .iids) (shape .sids) il sl)
       → new ≡ readBuffer W file iids sids flag il sl missing order old
   unfolding readBuffer
-  buffer-read W flag missing d order old new table done v e =
-      e
-      ∙ ap (λ (x : ℕ). map (valueIn table d) (codesRead order file x s il sl)) ei
-      ∙ ap (λ (x : ℕ). map (valueIn table d) (codesRead order file iids x il sl)) es
+  buffer-read W flag missing d order old new table done v f =
+      f
+      ∙ ap (λ (x : ℕ). map (valueIn table d) (codesRead order file x (shape .sids) il sl)) (e .iids-are)
+      ∙ ap (λ (x : ℕ). map (valueIn table d) (codesRead order file iids x il sl)) (e .sids-are)
       ∙ map-codes (valueIn table d) (λ code. getD (values W flag missing) code d) (made-value d (λ code. getD (values W flag missing) code d) table v) order file iids sids il sl
       ∙ values-read W flag missing d order file iids sids il sl
       ∙ sym (new-if-done (readAnswer file iids sids il sl (length old)) (valuesRead W flag missing order file iids sids il sl) old done)

@@ -8,7 +8,7 @@ use lib.Seq.{getD-set-same, getD-set-other, set-out}
 use Rattle.genotype.specs.Lists.{tabulate}
 use Rattle.genotype.proofs.Tests.{by-lt}
 use Rattle.genotype.proofs.Tabulate.{is-tabulate}
-use Rattle.bed_read.specs.Inner.{setTwo, setPairs, Drawn}
+use Rattle.bed_read.specs.Private.{setTwo, setPairs, Drawn}
 
 -- two places set
 module _ {A : Type 0} where

@@ -1,4 +1,3 @@
-pub mod CallLaws
 pub mod ReadLaws
 pub mod DrawLaws
 pub mod TableLaws

@@ -7,7 +7,7 @@ use lib.ListN.{length, getD, length-map, List·getD-map}
 use Rattle.genotype.specs.Code.{codeAt, codeTable}
 use Rattle.genotype.proofs.CodeLaws.{table-at, code-below}
 use Rattle.genotype.proofs.Tabulate.{length-tabulate, getD-tabulate, tabulate-ext, map-tabulate, getD-inside}
-use Rattle.bed_read.specs.Inner.{Drawn, valueIn, ByCode, valueAt}
+use Rattle.bed_read.specs.Private.{Drawn, valueIn, ByCode, placeValue}
 use Rattle.bed_read.proofs.DrawLaws.{drawn-all}
 
 table-length : length codeTable ≡ 1024
@@ -66,7 +66,7 @@ module _ {A : Type 0} (d : A) where
   -- the value at a place of a byte x of the file
   pub value-there :
       (table : List A) → ByCode table d → (file : List ℕ) (byte place x : ℕ) → x ≡ getD file byte 0 → x < 256 → place < 4
-      → getD table (x * 4 + place) d ≡ valueAt (valueIn table d) file byte place
-  unfolding valueAt
+      → getD table (x * 4 + place) d ≡ placeValue (valueIn table d) file byte place
+  unfolding placeValue
   value-there table b file byte place x e h k =
       made-at (valueIn table d) table (b .by-code) x place h k ∙ ap (λ (y : ℕ). valueIn table d (codeAt y place)) e

@@ -11,8 +11,9 @@ use Rattle.genotype.specs.Lists.{tabulate}
 use Rattle.genotype.specs.Matrix.{matrix}
 use Rattle.genotype.proofs.Tests.{by-lt}
 use Rattle.genotype.proofs.Tabulate.{is-tabulate, map-tabulate}
+use Rattle.calls.specs.declared.Shape.{Shape}
 use Rattle.bed_read.specs.Reading.{readCode, codesRead}
-use Rattle.bed_read.specs.Inner.{lengthOf, lineValue, Drawn, Rows}
+use Rattle.bed_read.specs.Private.{lengthOf, lineValue, Drawn, Rows}
 
 -- lines end where the matrix does, or before
 pub lines-end : (o lines outer inner n size : ℕ) → o + lines ≤ outer → n ≡ inner → size ≡ outer * inner → o * n + lines * n ≤ size
@@ -102,18 +103,18 @@ module _ {A : Type 0} (g : ℕ → ℕ → A) (d : A) (outer inner : ℕ) where
       place-of p b = let m : p % inner < inner = mod-lt p (some-inner outer inner p b) in omega arith
 
 -- ---- the matrix that is read, by its lines
-module _ {A : Type 0} (v : ℕ → A) (file : List ℕ) (iids sids : ℕ) (il sl : List ℤ) where
+module _ {A : Type 0} (v : ℕ → A) (file : List ℕ) (shape : Shape) (il sl : List ℤ) where
   pub product-of : (order : Bool) (n : ℕ) → length il * length sl ≡ n → n ≡ lengthOf order il sl * lengthOf (not order) il sl
   product-of true n e = sym e
   product-of false n e = sym e ∙ mul-comm (length il) (length sl)
 
   pub all-read :
       (order : Bool) (val : List A)
-      → val ≡ tabulate (lengthOf order il sl * lengthOf (not order) il sl) (λ p. lineValue order v file iids sids il sl (p / lengthOf (not order) il sl) (p % lengthOf (not order) il sl))
-      → val ≡ map v (codesRead order file iids sids il sl)
+      → val ≡ tabulate (lengthOf order il sl * lengthOf (not order) il sl) (λ p. lineValue order v file shape il sl (p / lengthOf (not order) il sl) (p % lengthOf (not order) il sl))
+      → val ≡ map v (codesRead order file (shape .iids) (shape .sids) il sl)
   unfolding lineValue codesRead matrix
-  all-read true val e = e ∙ sym (map-tabulate v (length il * length sl) (λ p. readCode file iids sids il sl (p / length sl) (p % length sl)))
+  all-read true val e = e ∙ sym (map-tabulate v (length il * length sl) (λ p. readCode file (shape .iids) (shape .sids) il sl (p / length sl) (p % length sl)))
   all-read false val e =
       e
-      ∙ ap (λ (n : ℕ). tabulate n (λ p. v (readCode file iids sids il sl (p % length il) (p / length il)))) (mul-comm (length sl) (length il))
-      ∙ sym (map-tabulate v (length il * length sl) (λ p. readCode file iids sids il sl (p % length il) (p / length il)))
+      ∙ ap (λ (n : ℕ). tabulate n (λ p. v (readCode file (shape .iids) (shape .sids) il sl (p % length il) (p / length il)))) (mul-comm (length sl) (length il))
+      ∙ sym (map-tabulate v (length il * length sl) (λ p. readCode file (shape .iids) (shape .sids) il sl (p % length il) (p / length il)))

@@ -1,5 +1,4 @@
--- What reading says: the lists' checks, the calls, and the matrix that is read.
-pub mod Calls
+-- What reading says: the lists' checks, and the matrix that is read.
 pub mod Reading
 pub mod Says
-pub mod Inner
+pub mod Private

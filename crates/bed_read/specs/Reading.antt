@@ -1,4 +1,5 @@
 -- Reading.
+use mathlib.Core.Path.{_≡_}
 use mathlib.Core.Bool.{Bool}
 use mathlib.Core.List.{List, [], map}
 use Prim.Native.Nat.{ℕ, _*_}
@@ -8,9 +9,10 @@ use lib.ListN.{length, getD}
 use Rattle.genotype.specs.Answer.{Answer, done, check, checkCount, checkEntry, ifDone}
 use Rattle.genotype.specs.Entry.{firstBad, means}
 use Rattle.genotype.specs.Value.{Width, valueOf}
+use Rattle.genotype.specs.Lists.{tabulate}
 use Rattle.genotype.specs.Matrix.{matrix}
 use Rattle.bed_file.specs.File.{checkFile}
-use Rattle.bed_read.specs.Calls.{callCode}
+use Rattle.calls.specs.Calls.{callCode}
 
 -- 5: first bad entry of the animal list; 6: of the marker list; each carries it. "5 always means the animal list and 6 the marker list, in
 -- that order, in either mode"
@@ -34,6 +36,10 @@ readAnswer file iids sids iidList sidList valLength =
     (checkFile file iids sids
     (checkLists iids sids iidList sidList (done [])))))
 
+-- "file order is the list 0, 1, 2 and so on": with it, reading reads everything
+unfoldable pub fileOrder : ℕ → List ℤ
+fileOrder count = tabulate count pos
+
 -- the code read for place k of the animal list and place m of the marker list: that of the animal and the marker that the entries mean
 unfoldable pub readCode : List ℕ → ℕ → ℕ → List ℤ → List ℤ → ℕ → ℕ → ℕ
 readCode file iids sids iidList sidList k m =
@@ -55,3 +61,10 @@ unfoldable pub readBuffer :
 readBuffer w file iids sids flag iidList sidList missing animalOrder old =
     ifDone (readAnswer file iids sids iidList sidList (length old))
     (valuesRead w flag missing animalOrder file iids sids iidList sidList) old
+
+-- reading into a lent buffer: what it answers, and the later values
+abbrev pub Reads :
+    (w : Width) → List ℕ → ℕ → ℕ → Bool → List ℤ → List ℤ → w .Value → Bool → Answer → List (w .Value) → List (w .Value) → Type 0
+Reads w file iids sids flag iidList sidList missing animalOrder said old new =
+    (said ≡ readAnswer file iids sids iidList sidList (length old))
+    × (new ≡ readBuffer w file iids sids flag iidList sidList missing animalOrder old)

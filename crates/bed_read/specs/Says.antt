@@ -2,8 +2,8 @@
 use mathlib.Core.List.{[], _∷_}
 use Rattle.genotype.specs.Answer.{Answer, done, refused}
 use Rattle.bed_file.specs.Says.{faultNumber}
-use Rattle.bed_read.specs.declared.reading.ReadAnswer.{ReadAnswer}
-use Rattle.bed_read.specs.declared.reading.ReadAnswer.the-variants as reads
+use Rattle.bed_read.specs.declared.checks.ReadAnswer.{ReadAnswer}
+use Rattle.bed_read.specs.declared.checks.ReadAnswer.the-variants as reads
 
 abbrev pub readSays : ReadAnswer → Answer
 readSays reads.Done = done []

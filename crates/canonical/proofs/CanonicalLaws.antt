@@ -1,30 +1,24 @@
--- Laws of the canonical call's checks and of its bytes.
-use mathlib.Core.Path.{_≡_, refl, sym, ap, subst, _∙_}
-use mathlib.Core.Bool.{Bool, true, false}
+-- Laws of the canonical call's checks, and of the later buffer.
+use mathlib.Core.Path.{_≡_, sym, ap, subst, _∙_}
+use mathlib.Core.Bool.{true, false}
 use mathlib.Core.List.{List, [], _∷_}
-use mathlib.Core.Option.{Option, some}
 use Prim.Native.Nat.{ℕ, _+_, _-_, _*_, _^_, _<_, _≤_}
 use native.Mathlib.Omega.{arith}
 use borrow.Author.Tests.{eqb-true, eq-eqb, ne-eqb, leb-true}
 use lib.Dec.{eqb, leb}
 use lib.IntN.{pos}
-use lib.ListN.{length, getD}
+use lib.ListN.{length}
 use Rattle.genotype.specs.Answer.{Answer, done, refused, check, checkCount, isDone}
 use Rattle.genotype.specs.Block.{blockWidth, fileLength, checkSize, divAnswer}
-use Rattle.genotype.specs.Code.{packedByte}
-use Rattle.genotype.specs.Lists.{tabulate}
 use Rattle.genotype.proofs.AnswerLaws.{Stage, count-stage, then-stage, heard, stays, check-passes, check-refuses, check-done, count-done, count-passes, new-if-done, old-if-not, before-later}
 use Rattle.genotype.proofs.Widths.{Sized, width-given, size-stage}
-use Rattle.bed_file.specs.File.{isMode1, items, blocks, checkFile, acceptAnswer}
-use Rattle.bed_read.specs.Calls.{callCode}
-use Rattle.bed_read.specs.Inner.{Shaped}
+use Rattle.bed_file.specs.File.{checkFile, acceptAnswer}
 use Rattle.bed_file.proofs.FileLaws.{Accepted, accepted, file-stage}
-use Rattle.bed_read.proofs.CallLaws.{call-below}
-use Rattle.bed_write.specs.Packing.{orZero}
+use Rattle.calls.specs.declared.Shape.{Shape}
+use Rattle.calls.specs.Places.{IsShape, Shaped}
+use Rattle.calls.proofs.PlaceLaws.{shape-read}
 use Rattle.canonical.specs.Canonical.{canonicalAnswer, canonicalFile, canonicalBuffer}
-use Rattle.bed_write.specs.Groups.{orFour, inGroup, Four}
-use Rattle.canonical.specs.Inner.{writtenAnswer}
-use Rattle.bed_write.proofs.GroupLaws.{good-four, group-byte}
+use Rattle.canonical.specs.Private.{writtenAnswer}
 
 -- ---- the length to be written: 18, 4, 16
 module _ (iids sids outLength : ℕ) where
@@ -91,40 +85,29 @@ writable file iids sids outLength d =
     let d4 = check-done (eqb outLength (fileLength iids sids)) 16 _ (d3 .1) in
     record { accepts = acc; fits = leb-true (fileLength iids sids) (2 ^ 64 - 1) (d3 .0); out-long = eqb-true outLength (fileLength iids sids) (d4 .0) }
 
--- the shape of the file that is read
-pub shaped : (file : List ℕ) (iids sids : ℕ) (mode1 : Bool) (w : ℕ) → Accepted file iids sids → mode1 ≡ isMode1 file → w ≡ blockWidth (items mode1 iids sids) → Shaped file mode1 w iids sids
-shaped file iids sids mode1 w a em ew =
-    record { mode-is = em; width-is = ew; length-is = a .length-is ∙ ap (λ (m : Bool). fileLength (items m iids sids) (blocks m iids sids)) (sym em) }
-
-pub mode-test : (file : List ℕ) (t : Bool) → t ≡ eqb (getD file 2 0) 1 → t ≡ isMode1 file
-unfolding isMode1
-mode-test file t e = e
-
-pub mode-width : (iids sids : ℕ) (mode1 b : Bool) (w : ℕ) → mode1 ≡ b → w ≡ blockWidth (items b iids sids) → w ≡ blockWidth (items mode1 iids sids)
-mode-width iids sids mode1 b w e f = f ∙ ap (λ (m : Bool). blockWidth (items m iids sids)) (sym e)
+-- by the shape of the file
+pub writable-by :
+    (file : List ℕ) (iids sids outLength w : ℕ) (shape : Shape) → Writable file iids sids outLength → IsShape file iids sids shape → w ≡ blockWidth iids
+    → Shaped file shape × (w ≡ blockWidth (shape .iids)) × (outLength ≡ 3 + w * shape .sids)
+writable-by file iids sids outLength w shape g e f = (
+  shape-read file iids sids shape e (g .accepts .length-is),
+  f ∙ ap blockWidth (sym (e .iids-are)),
+  g .out-long ∙ ap (λ (x : ℕ). 3 + x * sids) (sym f) ∙ ap (λ (x : ℕ). 3 + w * x) (sym (e .sids-are)),
+)
 
 -- ---- the later buffer
-pub canonical-wrote : (file : List ℕ) (iids sids : ℕ) (old out : List ℕ) (a : Answer) → a ≡ canonicalAnswer file iids sids (length old) → isDone a ≡ true → out ≡ canonicalFile file iids sids → out ≡ canonicalBuffer file iids sids old
+pub canonical-wrote :
+    (file : List ℕ) (iids sids : ℕ) (shape : Shape) (old out : List ℕ) (a : Answer) → a ≡ canonicalAnswer file iids sids (length old) → isDone a ≡ true
+    → IsShape file iids sids shape → out ≡ canonicalFile file (shape .iids) (shape .sids) → out ≡ canonicalBuffer file iids sids old
 unfolding canonicalBuffer
-canonical-wrote file iids sids old out a e d o = o ∙ sym (new-if-done _ _ old (sym (ap isDone e) ∙ d))
+canonical-wrote file iids sids shape old out a e d s o =
+    o
+    ∙ ap (λ (x : ℕ). canonicalFile file x (shape .sids)) (s .iids-are)
+    ∙ ap (canonicalFile file iids) (s .sids-are)
+    ∙ sym (new-if-done _ _ old (sym (ap isDone e) ∙ d))
 
-pub canonical-kept : (file : List ℕ) (iids sids : ℕ) (old : List ℕ) (a : Answer) → a ≡ canonicalAnswer file iids sids (length old) → isDone a ≡ false → old ≡ canonicalBuffer file iids sids old
+pub canonical-kept :
+    (file : List ℕ) (iids sids : ℕ) (old : List ℕ) (a : Answer) → a ≡ canonicalAnswer file iids sids (length old) → isDone a ≡ false
+    → old ≡ canonicalBuffer file iids sids old
 unfolding canonicalBuffer
 canonical-kept file iids sids old a e d = sym (old-if-not _ _ old (sym (ap isDone e) ∙ d))
-
--- ---- a group of calls
-module _ (file : List ℕ) (iids sids m b : ℕ) (c0 c1 c2 c3 : ℕ) (q : Four (inGroup (iids - 4 * b) (λ j. callCode file iids sids (4 * b + j) m)) c0 c1 c2 c3) where
-  abbrev code : ℕ → Option ℕ
-  code a = some (callCode file iids sids a m)
-
-  same : (k : ℕ) → k < 4 → k < iids - 4 * b → callCode file iids sids (4 * b + k) m ≡ orFour (code (4 * b + k))
-  unfolding orFour
-  same k h g = refl
-
-  pub calls-codes : (c0 < 4) × (c1 < 4) × (c2 < 4) × (c3 < 4)
-  unfolding orFour
-  calls-codes = good-four iids code b (λ j. callCode file iids sids (4 * b + j) m) same c0 c1 c2 c3 q (λ k h. call-below file iids sids (4 * b + k) m)
-
-  pub calls-byte : (v : ℕ) → v ≡ c0 + 4 * c1 + 16 * c2 + 64 * c3 → v ≡ packedByte (tabulate iids (λ a. callCode file iids sids a m)) b
-  unfolding orZero
-  calls-byte v e = group-byte iids code b (λ j. callCode file iids sids (4 * b + j) m) same c0 c1 c2 c3 q v e calls-codes

@@ -1,19 +1,23 @@
 -- Laws of a byte of a file of mode 1: with its pads cleared it is the packed byte of its calls.
 use mathlib.Core.Path.{_≡_, refl, sym, ap, subst, _∙_}
-use mathlib.Core.Bool.{Bool, true}
+use mathlib.Core.Bool.{Bool, true, false}
 use mathlib.Core.List.{List}
-use Prim.Native.Nat.{ℕ, zero, suc, _+_, _-_, _*_, _/_, _%_, _<_, _≤_}
+use Prim.Native.Nat.{ℕ, zero, suc, _+_, _-_, _*_, _/_, _%_, _^_, _<_, _≤_}
 use native.Mathlib.Nat.{add-zero}
 use native.Mathlib.Omega.{arith}
 use lib.ListN.{length, getD, List·getD-eq-default}
+use Rattle.genotype.specs.Block.{blockWidth, fileLength}
 use Rattle.genotype.specs.Code.{codeAt, packedByte}
 use Rattle.genotype.specs.Lists.{tabulate}
 use Rattle.genotype.proofs.Tabulate.{length-tabulate, getD-tabulate}
 use Rattle.bed_file.specs.File.{items, blocks}
-use Rattle.bed_read.specs.Calls.{codeIn, callCode}
-use Rattle.bed_read.specs.Inner.{Shaped}
-use Rattle.bed_read.proofs.CallLaws.{byte-inside, code-in-byte}
 use Rattle.genotype.proofs.CodeLaws.{quarters}
+use Rattle.calls.specs.declared.Shape.{Shape}
+use Rattle.calls.specs.Calls.{codeIn, callCode}
+use Rattle.calls.specs.Places.{Shaped, isBlock, partByte, inWord}
+use Rattle.calls.proofs.CallLaws.{byte-inside, code-in-byte}
+use Rattle.calls.proofs.PlaceLaws.{sid-byte}
+use Rattle.canonical.specs.Private.{keptByte}
 
 -- a byte by its four codes
 four-codes : (x : ℕ) → x < 256 → x ≡ x % 4 + 4 * (x / 4 % 4) + 16 * (x / 16 % 4) + 64 * (x / 64 % 4)
@@ -37,29 +41,71 @@ low x = omega arith
 two-codes : (x : ℕ) → x % 16 ≡ x % 4 + 4 * (x / 4 % 4) + 16 * 0 + 64 * 0
 two-codes x = let a : x / 4 / 4 ≡ x / 16 = omega arith in omega arith
 
-module _ (file : List ℕ) (iids sids m b w : ℕ) (sh : Shaped file true w iids sids) (hm : m < sids) (hb : 4 * b < iids) where
+-- a byte by how many of its places have items
+pub kept-whole : (left byte : ℕ) → 3 < left → byte ≡ keptByte left byte
+unfolding keptByte
+kept-whole zero byte h = absurd (omega arith)
+kept-whole (suc zero) byte h = absurd (omega arith)
+kept-whole (suc (suc zero)) byte h = absurd (omega arith)
+kept-whole (suc (suc (suc zero))) byte h = absurd (omega arith)
+kept-whole (suc (suc (suc (suc left)))) byte h = refl
+
+pub kept-three : (left byte : ℕ) → left ≡ 3 → byte % 64 ≡ keptByte left byte
+unfolding keptByte
+kept-three left byte e = ap (λ (n : ℕ). keptByte n byte) (sym e)
+
+pub kept-two : (left byte : ℕ) → left ≡ 2 → byte % 16 ≡ keptByte left byte
+unfolding keptByte
+kept-two left byte e = ap (λ (n : ℕ). keptByte n byte) (sym e)
+
+pub kept-one : (left byte : ℕ) → 0 < left → left ≤ 3 → (left ≡ 3 → ⊥) → (left ≡ 2 → ⊥) → byte % 4 ≡ keptByte left byte
+unfolding keptByte
+kept-one zero byte p h n3 n2 = absurd (omega arith)
+kept-one (suc zero) byte p h n3 n2 = refl
+kept-one (suc (suc zero)) byte p h n3 n2 = absurd (n2 refl)
+kept-one (suc (suc (suc zero))) byte p h n3 n2 = absurd (n3 refl)
+kept-one (suc (suc (suc (suc left)))) byte p h n3 n2 = absurd (omega arith)
+
+-- byte b of the block of marker m
+module _ (file : List ℕ) (shape : Shape) (sh : Shaped file shape) (e : shape .mode1 ≡ true) (m b : ℕ) (hm : m < shape .sids) (hb : 4 * b < shape .iids) where
+  abbrev iids : ℕ
+  iids = shape .iids
+
+  abbrev sids : ℕ
+  sids = shape .sids
+
+  abbrev w : ℕ
+  w = shape .width
+
   abbrev byte : ℕ
   byte = getD file (3 + m * w + b) 0
 
   abbrev codes : List ℕ
   codes = tabulate iids (λ a. callCode file iids sids a m)
 
+  long : length file ≡ fileLength iids sids
+  unfolding items blocks
+  long = sh .length-is ∙ ap (λ (x : Bool). fileLength (items x iids sids) (blocks x iids sids)) e
+
+  wide : w ≡ blockWidth iids
+  unfolding items
+  wide = sh .width-is ∙ ap (λ (x : Bool). blockWidth (items x iids sids)) e
+
   -- the byte is inside the file
   pub kept-inside : 3 + m * w + b < length file
-  unfolding items blocks
   kept-inside =
       let q : 4 * b / 4 ≡ b = omega arith in
       subst (λ (x : ℕ). 3 + m * w + x < length file) q
-      (subst (λ (x : ℕ). 3 + m * x + 4 * b / 4 < length file) (sym (sh .width-is)) (byte-inside file iids sids m (4 * b) (sh .length-is) hm hb))
+      (subst (λ (x : ℕ). 3 + m * x + 4 * b / 4 < length file) (sym wide) (byte-inside file iids sids m (4 * b) long hm hb))
 
   code-at : (k : ℕ) → k < 4 → 4 * b + k < iids → callCode file iids sids (4 * b + k) m ≡ codeAt byte k
-  unfolding callCode codeIn items blocks
+  unfolding callCode codeIn
   code-at k h g =
       let q : (4 * b + k) / 4 ≡ b = omega arith in
       let r : (4 * b + k) % 4 ≡ k = omega arith in
-      ap (λ (x : Bool). codeIn x file iids sids (4 * b + k) m) (sym (sh .mode-is))
-      ∙ code-in-byte file iids sids m (4 * b + k) (sh .length-is) hm g
-      ∙ ap (λ (x : ℕ). codeAt (getD file (3 + m * x + (4 * b + k) / 4) 0) ((4 * b + k) % 4)) (sym (sh .width-is))
+      ap (λ (x : Bool). codeIn x file iids sids (4 * b + k) m) (sym (sh .mode-is) ∙ e)
+      ∙ code-in-byte file iids m (4 * b + k) g
+      ∙ ap (λ (x : ℕ). codeAt (getD file (3 + m * x + (4 * b + k) / 4) 0) ((4 * b + k) % 4)) (sym wide)
       ∙ ap (λ (x : ℕ). codeAt (getD file (3 + m * w + x) 0) ((4 * b + k) % 4)) q
       ∙ ap (codeAt byte) r
 
@@ -72,32 +118,32 @@ module _ (file : List ℕ) (iids sids m b w : ℕ) (sh : Shaped file true w iids
   past : (k : ℕ) → iids ≤ 4 * b + k → getD codes (4 * b + k) 0 ≡ 0
   past k h = let l = length-tabulate iids (λ a. callCode file iids sids a m) in List·getD-eq-default codes 0 (omega arith)
 
-  pub kept-4 : byte < 256 → 3 < iids - 4 * b → byte ≡ packedByte codes b
-  unfolding packedByte codeAt
-  kept-4 f h =
-      put byte _ _ _ _ _ _ _ _ (four-codes byte f) first (there 1 (omega arith) (omega arith)) (there 2 (omega arith) (omega arith)) (there 3 (omega arith) (omega arith))
-
-  pub kept-3 : iids - 4 * b ≡ 3 → byte % 64 ≡ packedByte codes b
-  unfolding packedByte codeAt
-  kept-3 h =
-      put (byte % 64) _ _ _ _ _ _ _ _ (three-codes byte) first (there 1 (omega arith) (omega arith)) (there 2 (omega arith) (omega arith)) (past 3 (omega arith))
-
-  pub kept-2 : iids - 4 * b ≡ 2 → byte % 16 ≡ packedByte codes b
-  unfolding packedByte codeAt
-  kept-2 h = put (byte % 16) _ _ _ _ _ _ _ _ (two-codes byte) first (there 1 (omega arith) (omega arith)) (past 2 (omega arith)) (past 3 (omega arith))
-
-  pub kept-1 : iids - 4 * b ≤ 3 → (iids - 4 * b ≡ 3 → ⊥) → (iids - 4 * b ≡ 2 → ⊥) → byte % 4 ≡ packedByte codes b
-  unfolding packedByte codeAt
-  kept-1 h n3 n2 =
-      let l : iids - 4 * b ≡ 1 = one (iids - 4 * b) (omega arith) h n3 n2 in
-      put (byte % 4) (byte % 4) 0 0 0 _ _ _ _ (omega arith) first (past 1 (omega arith)) (past 2 (omega arith)) (past 3 (omega arith))
+  -- with its pads cleared it is the byte of the packed block
+  pub kept-is : byte < 256 → keptByte (iids - 4 * b) byte ≡ packedByte codes b
+  unfolding keptByte packedByte codeAt
+  kept-is f = by-left (iids - 4 * b) refl
     where
-      one : (n : ℕ) → 0 < n → n ≤ 3 → (n ≡ 3 → ⊥) → (n ≡ 2 → ⊥) → n ≡ 1
-      one zero p h a c = absurd (omega arith)
-      one (suc zero) p h a c = refl
-      one (suc (suc zero)) p h a c = absurd (c refl)
-      one (suc (suc (suc zero))) p h a c = absurd (a refl)
-      one (suc (suc (suc (suc n)))) p h a c = absurd (omega arith)
+      by-left : (left : ℕ) → left ≡ iids - 4 * b → keptByte left byte ≡ packedByte codes b
+      by-left zero h = absurd (omega arith)
+      by-left (suc zero) h =
+          put (byte % 4) (byte % 4) 0 0 0 _ _ _ _ (omega arith) first (past 1 (omega arith)) (past 2 (omega arith)) (past 3 (omega arith))
+      by-left (suc (suc zero)) h = put (byte % 16) _ _ _ _ _ _ _ _ (two-codes byte) first (there 1 (omega arith) (omega arith)) (past 2 (omega arith)) (past 3 (omega arith))
+      by-left (suc (suc (suc zero))) h =
+          put (byte % 64) _ _ _ _ _ _ _ _ (three-codes byte) first (there 1 (omega arith) (omega arith)) (there 2 (omega arith) (omega arith)) (past 3 (omega arith))
+      by-left (suc (suc (suc (suc left)))) h =
+          put byte _ _ _ _ _ _ _ _ (four-codes byte f) first (there 1 (omega arith) (omega arith)) (there 2 (omega arith) (omega arith)) (there 3 (omega arith) (omega arith))
 
-pub in-mode-1 : (file : List ℕ) (mode1 : Bool) (w iids sids : ℕ) → mode1 ≡ true → Shaped file mode1 w iids sids → Shaped file true w iids sids
-in-mode-1 file mode1 w iids sids e sh = subst (λ (x : Bool). Shaped file x w iids sids) e sh
+  -- the block starts where the marker's part says
+  pub kept-start : (start : ℕ) → length file < 2 ^ 64 → m < 2 ^ 64 → start ≡ inWord (partByte (isBlock (shape .mode1) false) w m) → start ≡ 3 + m * w
+  unfolding partByte
+  kept-start start l f s = s ∙ sid-byte file shape sh l m hm f ∙ ap (λ (x : Bool). partByte (isBlock x false) w m) e
+
+  -- as it is found there
+  module _ (start : ℕ) (s : start ≡ 3 + m * w) where
+    pub found-inside : start + b < length file
+    found-inside = subst (λ (x : ℕ). x + b < length file) (sym s) kept-inside
+
+    pub found-is : (v : ℕ) → getD file (start + b) 0 < 256 → v ≡ keptByte (iids - 4 * b) (getD file (start + b) 0) → v ≡ packedByte codes b
+    found-is v f q =
+        let g : getD file (start + b) 0 ≡ byte = ap (λ (x : ℕ). getD file (x + b) 0) s in
+        q ∙ ap (keptByte (iids - 4 * b)) g ∙ kept-is (subst (λ (x : ℕ). x < 256) g f)

@@ -1,5 +1,7 @@
 pub mod CanonicalLaws
+pub mod WholeLaws
 pub mod KeptLaws
-pub mod BackLaws
+pub mod TurnLaws
+pub mod WrittenLaws
 pub mod Theorems
 pub mod Examples

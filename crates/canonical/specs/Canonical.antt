@@ -1,14 +1,13 @@
 -- The canonical file, on codes.
+use mathlib.Core.Path.{_≡_}
 use mathlib.Core.List.{List, []}
 use Prim.Native.Nat.{ℕ}
 use lib.Dec.{eqb}
-use lib.IntN.{ℤ, pos}
 use lib.ListN.{length}
 use Rattle.genotype.specs.Answer.{Answer, done, check, checkCount, ifDone}
 use Rattle.genotype.specs.Block.{fileLength, checkSize}
-use Rattle.genotype.specs.Lists.{tabulate}
 use Rattle.bed_file.specs.File.{checkFile}
-use Rattle.bed_read.specs.Calls.{callCode}
+use Rattle.calls.specs.Calls.{callCode}
 use Rattle.bed_write.specs.Writing.{bedFile}
 
 -- "It makes the reading's checks without 15, 5 and 6, then 4 for the length to be written, then 16."
@@ -29,6 +28,7 @@ canonicalFile file iids sids = bedFile iids sids (callCode file iids sids)
 unfoldable pub canonicalBuffer : List ℕ → ℕ → ℕ → List ℕ → List ℕ
 canonicalBuffer file iids sids old = ifDone (canonicalAnswer file iids sids (length old)) (canonicalFile file iids sids) old
 
--- "file order is the list 0, 1, 2 and so on": with it, reading reads everything
-unfoldable pub fileOrder : ℕ → List ℤ
-fileOrder count = tabulate count pos
+-- the canonical call: what it answers, and the later packed buffer
+abbrev pub MakesCanonical : List ℕ → ℕ → ℕ → Answer → List ℕ → List ℕ → Type 0
+MakesCanonical file iids sids said old new =
+    (said ≡ canonicalAnswer file iids sids (length old)) × (new ≡ canonicalBuffer file iids sids old)

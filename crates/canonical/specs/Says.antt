@@ -2,8 +2,8 @@
 use mathlib.Core.List.{[]}
 use Rattle.genotype.specs.Answer.{Answer, done, refused}
 use Rattle.bed_file.specs.Says.{faultNumber}
-use Rattle.canonical.specs.declared.CanonicalAnswer.{CanonicalAnswer}
-use Rattle.canonical.specs.declared.CanonicalAnswer.the-variants as canonicals
+use Rattle.canonical.specs.declared.checks.CanonicalAnswer.{CanonicalAnswer}
+use Rattle.canonical.specs.declared.checks.CanonicalAnswer.the-variants as canonicals
 
 abbrev pub canonicalSays : CanonicalAnswer → Answer
 canonicalSays canonicals.Done = done []

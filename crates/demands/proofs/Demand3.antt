@@ -11,14 +11,14 @@ use lib.Ieee.{Float, binary64}
 use Rattle.genotype.specs.Answer.{done, isDone}
 use Rattle.genotype.specs.Block.{fileLength}
 use Rattle.bed_file.specs.File.{acceptAnswer}
-use Rattle.bed_read.specs.Reading.{readAnswer}
-use Rattle.canonical.specs.Canonical.{fileOrder, canonicalAnswer, canonicalBuffer}
+use Rattle.bed_read.specs.Reading.{fileOrder, readAnswer}
+use Rattle.canonical.specs.Canonical.{canonicalAnswer, canonicalBuffer}
 use Rattle.statistics.specs.Calls.{FewEnough}
 use Rattle.standardise.specs.Standardised.{value}
 use Rattle.read_standardised.specs.Ways.{Way, answersOf, valuesLeft, statsLeft}
 use Rattle.demands.specs.Demand.{IsAccepted, CallsAgree, GoodList, meant, NamesEachOnce, RightLengths}
 use Rattle.demands.specs.Alike.{Alike, AlikeBuffers, OfFormat}
-use Rattle.canonical.proofs.BackLaws.{order-length, order-good}
+use Rattle.demands.proofs.ReadBackLaws.{order-length, order-good}
 use Rattle.canonical.proofs.Theorems.{canonical-left, canonical-again, canonical-equal}
 use Rattle.demands.proofs.Alike.{same-is-alike, same-buffers-alike, alike-buffers-same}
 use Rattle.demands.proofs.SumLaws.{names-length, meant-below}

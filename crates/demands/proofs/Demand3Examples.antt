@@ -17,15 +17,15 @@ use Rattle.genotype.specs.Matrix.{matrixPlace, matrix}
 use Rattle.genotype.specs.Value.{values, valueOf}
 use Rattle.statistics.specs.Statistics.{noValue, markerStats, foundFor}
 use Rattle.standardise.specs.Standardised.{value, markerAnswer, markersAnswer, found, lowestRefused}
-use Rattle.bed_read.specs.Calls.{block, codeIn, callCode}
-use Rattle.bed_read.specs.Reading.{checkLists, readAnswer, readCode, codesRead, valuesRead}
+use Rattle.calls.specs.Calls.{block, codeIn, callCode}
+use Rattle.bed_read.specs.Reading.{fileOrder, checkLists, readAnswer, readCode, codesRead, valuesRead}
 use Rattle.bed_file.specs.File.{isMode1, items, blocks, checkFile, acceptAnswer}
 use Rattle.read_standardised.specs.Ways.{Way, answersOf, valuesLeft, statsLeft}
 use Rattle.demands.specs.Demand.{IsAccepted, CallsAgree, GoodList, meant, NamesEachOnce, RightLengths}
 use Rattle.demands.specs.Alike.{Alike, AlikeBuffers, OfFormat}
 use Rattle.read_standardised.specs.Joined.{joinedChecks, readNan, joinedAnswer}
 use Rattle.demands.specs.SmallHerds.{F, lastByteF2, inMode0}
-use Rattle.canonical.specs.Canonical.{fileOrder, canonicalFile, canonicalAnswer, canonicalBuffer}
+use Rattle.canonical.specs.Canonical.{canonicalFile, canonicalAnswer, canonicalBuffer}
 use Rattle.bed_write.specs.Writing.{joined, bedFile}
 use Rattle.demands.proofs.Alike.{alike-is-same, same-buffers-alike}
 use Rattle.demands.proofs.ComputedLaws.{allBelow, all-below, namesTest, names-by-test}

@@ -14,7 +14,7 @@ use Rattle.genotype.specs.Lists.{tabulate}
 use Rattle.genotype.specs.Matrix.{matrixPlace, matrix}
 use Rattle.genotype.specs.Value.{Width, values, valueOf}
 use Rattle.bed_file.specs.File.{isMode1, items, blocks}
-use Rattle.bed_read.specs.Calls.{block, codeIn, callCode}
+use Rattle.calls.specs.Calls.{block, codeIn, callCode}
 use Rattle.bed_read.specs.Reading.{readAnswer, readCode, codesRead, valuesRead, readBuffer}
 use Rattle.product.specs.Values.{leNumber, floatAt, floatsOf, matrixValue, column, row}
 use Rattle.product.specs.Dot.{dot, dotFrom}

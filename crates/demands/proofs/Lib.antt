@@ -1,4 +1,7 @@
 -- The theorems.
+pub mod ReadBackLaws
+pub mod ReadBack
+pub mod ReadBackExamples
 pub mod ReadLaws
 pub mod SumLaws
 pub mod SideLaws

@@ -21,7 +21,7 @@ use Rattle.index.specs.declared.range.Bound.the-variants as bounds
 use Rattle.index.specs.Numbers.{boundOr, marked, numbersBelow, fromCount, sliceEnd, distances, forward, stepped, sliceList, indexList}
 use Rattle.index.specs.Checks.{checkBound, checkRange, checkEnd, checkSlice, checkIndex, listAnswer, indexAnswer}
 use Rattle.bed_file.specs.File.{isMode1, items, blocks, checkFile, acceptAnswer}
-use Rattle.bed_read.specs.Calls.{block, codeIn, callCode}
+use Rattle.calls.specs.Calls.{block, codeIn, callCode}
 use Rattle.bed_read.specs.Reading.{readAnswer, readCode, codesRead, valuesRead}
 use Rattle.bed_write.specs.Packing.{placeCode, firstOf, ifBad, firstBadAnimal, encodeAnswer}
 use Rattle.bed_write.specs.Writing.{valueCode, firstBadCall, writeAnswer}

@@ -28,18 +28,18 @@ use Rattle.genotype.proofs.Tabulate.{length-tabulate, getD-tabulate}
 use Rattle.genotype.proofs.Tests.{both-true}
 use Rattle.bed_file.specs.File.{isMode1, items, blocks, checkOpen, checkMode, checkLength, checkFile, acceptAnswer}
 use Rattle.bed_file.proofs.FileLaws.{open-good, accepted}
-use Rattle.bed_read.specs.Calls.{block, codeIn, callCode}
+use Rattle.calls.specs.Calls.{block, codeIn, callCode}
 use Rattle.bed_read.specs.Reading.{readAnswer, readCode, codesRead, valuesRead, readBuffer}
-use Rattle.bed_read.proofs.CallLaws.{call-below}
+use Rattle.calls.proofs.CallLaws.{call-below}
 use Rattle.bed_write.specs.Packing.{placeCode, orZero}
 use Rattle.bed_write.specs.Writing.{valueCode, writeAnswer, bedFile, writeBuffer}
 use Rattle.bed_write.proofs.BedLaws.{bed-byte}
 use Rattle.bed_write.proofs.FirstLaws.{zero-below}
 use Rattle.bed_write.proofs.WriteLaws.{value-coded}
 use Rattle.canonical.specs.Canonical.{canonicalAnswer, canonicalFile, canonicalBuffer}
-use Rattle.canonical.proofs.BackLaws.{bed-mode, bed-call, bed-accepted}
+use Rattle.canonical.proofs.WrittenLaws.{bed-mode, bed-call, bed-accepted}
 use Rattle.canonical.proofs.CanonicalLaws.{writable}
-use Rattle.canonical.proofs.Theorems.{writing-passed, has-code, wrote}
+use Rattle.demands.proofs.ReadBack.{writing-passed, has-code, wrote}
 use Rattle.demands.specs.Demand.{IsAccepted, GoodList, meant}
 use Rattle.demands.proofs.ReadLaws.{read-done}
 use Rattle.demands.specs.PlinkFile.{IsPlinkFile, variantBit, genotypeIn, ExtraBitsZero, copiesBy, Apart, StandsIn}

@@ -17,11 +17,11 @@ use Rattle.genotype.specs.Matrix.{matrixPlace, matrix}
 use Rattle.genotype.specs.Plink.{homozygousFirst, missing, heterozygous, homozygousSecond, genotypeOf, blockBit, plinkWidth, copiesOfFirst, copiesOfSecond, copiesValue}
 use Rattle.genotype.specs.Value.{Width, i8, float, sameInt, sameOrNan, codeOf}
 use Rattle.bed_file.specs.File.{isMode1, items, blocks, checkFile, acceptAnswer}
-use Rattle.bed_read.specs.Calls.{block, codeIn, callCode}
-use Rattle.bed_read.specs.Reading.{readBuffer}
+use Rattle.calls.specs.Calls.{block, codeIn, callCode}
+use Rattle.bed_read.specs.Reading.{fileOrder, readBuffer}
 use Rattle.bed_write.specs.Packing.{placeCode, orZero, firstOf, ifBad}
 use Rattle.bed_write.specs.Writing.{valueCode, firstBadCall, checkCall, checkBuffers, writeAnswer, joined, bedFile, writeBuffer}
-use Rattle.canonical.specs.Canonical.{canonicalAnswer, canonicalBuffer, fileOrder}
+use Rattle.canonical.specs.Canonical.{canonicalAnswer, canonicalBuffer}
 use Rattle.demands.specs.Demand.{IsAccepted, GoodList, meant}
 use Rattle.demands.specs.SmallHerds.{inMode0}
 use Rattle.demands.specs.PlinkFile.{IsPlinkFile, variantBit, genotypeIn, ExtraBitsZero, copiesBy}

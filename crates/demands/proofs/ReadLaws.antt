@@ -13,7 +13,7 @@ use Rattle.genotype.specs.Value.{Width, float, valueOf}
 use Rattle.genotype.proofs.EntryLaws.{means-below}
 use Rattle.genotype.proofs.SpanLaws.{all-good}
 use Rattle.genotype.proofs.MatrixLaws.{length-matrix, getD-matrix, matrix-ext, map-matrix}
-use Rattle.bed_read.specs.Calls.{callCode}
+use Rattle.calls.specs.Calls.{callCode}
 use Rattle.bed_read.specs.Reading.{readAnswer, readCode, codesRead, valuesRead}
 use Rattle.bed_read.proofs.ReadLaws.{read-good}
 use Rattle.statistics.specs.Calls.{IsCall}

@@ -12,17 +12,16 @@ use lib.Ieee.{Float, nan, Format}
 use Rattle.genotype.specs.Answer.{Answer, done, isDone}
 use Rattle.genotype.specs.Entry.{means}
 use Rattle.genotype.specs.Value.{float, valueOf}
-use Rattle.bed_read.specs.Reading.{readAnswer, readCode, valuesRead}
-use Rattle.bed_read.specs.Calls.{callCode}
+use Rattle.bed_read.specs.Reading.{fileOrder, readAnswer, readCode, valuesRead}
+use Rattle.calls.specs.Calls.{callCode}
 use Rattle.statistics.specs.Statistics.{statsPerMarker}
 use Rattle.statistics.specs.Calls.{IsCall, FewEnough}
 use Rattle.standardise.specs.Standardised.{value, lowestRefused, newStats, newValues, standardiseAnswer, laterStats, laterValues}
 use Rattle.standardise.proofs.Theorems.{reordered-lowest, reordered-new-stats, reordered-new-values, reordered-same-answer, reordered-same-stats, reordered-moved-values}
 use Rattle.read_standardised.specs.Joined.{readNan}
-use Rattle.canonical.specs.Canonical.{fileOrder}
 use Rattle.read_standardised.specs.Ways.{Way, inTurn, joinedCall, asRead, answersOf, valuesLeft, statsLeft}
 use Rattle.demands.specs.Demand.{IsAccepted, GoodList, meant, NamesEachOnce, RightLengths}
-use Rattle.canonical.proofs.BackLaws.{order-length, order-good, order-means}
+use Rattle.demands.proofs.ReadBackLaws.{order-length, order-good, order-means}
 use Rattle.read_standardised.proofs.JoinLaws.{as-read-is, answer-is, values-are, stats-are}
 use Rattle.demands.proofs.SumLaws.{same-sums, names-length, meant-below}
 use Rattle.demands.proofs.ReadLaws.{read-done, length-read, cell-read, call-read}

@@ -13,9 +13,8 @@ use Rattle.genotype.specs.Lists.{tabulate}
 use Rattle.genotype.specs.Matrix.{matrixPlace, matrix}
 use Rattle.genotype.specs.Value.{values, valueOf}
 use Rattle.bed_file.specs.File.{isMode1, items, blocks}
-use Rattle.bed_read.specs.Calls.{block, codeIn, callCode}
-use Rattle.bed_read.specs.Reading.{readAnswer, readCode, codesRead, valuesRead, readBuffer}
-use Rattle.canonical.specs.Canonical.{fileOrder}
+use Rattle.calls.specs.Calls.{block, codeIn, callCode}
+use Rattle.bed_read.specs.Reading.{fileOrder, readAnswer, readCode, codesRead, valuesRead, readBuffer}
 use Rattle.root.specs.Root.{root}
 use Rattle.statistics.specs.declared.MarkerStats.the-variants.{Found, NoIndividuals}
 use Rattle.statistics.specs.Statistics.{plusZero, one, counted, accumulated, mean, variance, deviation, statsOf, noValue, markerStats, foundFor, isInfinite, standardised}

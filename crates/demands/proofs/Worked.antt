@@ -12,10 +12,10 @@ use Rattle.genotype.specs.Value.{values, valueOf, sameInt, sameOrNan, codeOf}
 use Rattle.index.specs.Numbers.{numbersBelow, fromCount, sliceEnd, distances, backward, stepped, sliceList, indexList}
 use Rattle.index.specs.Checks.{checkEnd, checkSlice, checkIndex, listAnswer, listBuffer, indexAnswer, indexBuffer}
 use Rattle.bed_file.specs.File.{isMode1, items, blocks, acceptAnswer}
-use Rattle.bed_read.specs.Calls.{block, codeIn, callCode}
-use Rattle.bed_read.specs.Reading.{checkLists, readAnswer, readCode, codesRead, valuesRead, readBuffer}
+use Rattle.calls.specs.Calls.{block, codeIn, callCode}
+use Rattle.bed_read.specs.Reading.{fileOrder, checkLists, readAnswer, readCode, codesRead, valuesRead, readBuffer}
 use Rattle.bed_file.proofs.FileLaws.{accepted}
-use Rattle.canonical.specs.Canonical.{fileOrder, canonicalFile, canonicalAnswer, canonicalBuffer}
+use Rattle.canonical.specs.Canonical.{canonicalFile, canonicalAnswer, canonicalBuffer}
 use Rattle.bed_write.specs.Writing.{joined, bedFile}
 use Rattle.bed_write.specs.Packing.{placeCode, orZero, packedCodes, orElse, firstOf, ifBad, firstBadAnimal, checkAnimal, encodeAnswer, encodeBuffer}
 use Rattle.demands.specs.Demand.{IsAccepted}

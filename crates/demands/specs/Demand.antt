@@ -10,7 +10,7 @@ use lib.Ieee.{Float}
 use Rattle.genotype.specs.Answer.{done}
 use Rattle.genotype.specs.Entry.{isGood, means, firstBad}
 use Rattle.bed_file.specs.File.{acceptAnswer}
-use Rattle.bed_read.specs.Calls.{callCode}
+use Rattle.calls.specs.Calls.{callCode}
 use Rattle.statistics.specs.Statistics.{statsPerMarker}
 
 -- "A file is accepted for two counts if the reading's checks without 15, 5 and 6 find nothing."

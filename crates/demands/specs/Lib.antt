@@ -3,3 +3,4 @@ pub mod Demand
 pub mod Alike
 pub mod SmallHerds
 pub mod PlinkFile
+pub mod ReadBack

@@ -12,8 +12,8 @@ use Rattle.index.specs.declared.Index.the-variants as Index
 use Rattle.index.specs.declared.slice.SliceEnd.the-variants as SliceEnd
 use Rattle.index.specs.Checks.{indexBuffer}
 use Rattle.bed_file.specs.File.{acceptAnswer}
-use Rattle.bed_read.specs.Reading.{readBuffer}
-use Rattle.canonical.specs.Canonical.{fileOrder, canonicalAnswer, canonicalBuffer}
+use Rattle.bed_read.specs.Reading.{fileOrder, readBuffer}
+use Rattle.canonical.specs.Canonical.{canonicalAnswer, canonicalBuffer}
 use Rattle.bed_write.specs.Packing.{placeCode, encodeBuffer}
 use Rattle.demands.specs.Demand.{IsAccepted}
 

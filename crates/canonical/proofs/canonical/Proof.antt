@@ -1,9 +1,9 @@
 -- `canonical`: the checks, then the calls of the accepted file.
-use mathlib.Core.Path.{refl, sym, ap, _∙_}
-use Prim.Native.Nat.{ℕ, _+_, _*_}
-use Rattle.genotype.specs.Answer.{isDone}
-use Rattle.canonical.proofs.CanonicalLaws.{writable, shaped, mode-test, canonical-wrote, canonical-kept}
+use mathlib.Core.Path.{sym, ap, _∙_}
 use borrow.Author.Needs.{needs}
+use lib.ListN.{length}
+use Rattle.genotype.specs.Answer.{isDone}
+use Rattle.canonical.proofs.CanonicalLaws.{Writable, writable, writable-by, canonical-wrote, canonical-kept}
 use Rattle.canonical.proofs.canonical.Statement.{statement}
 use Rattle.canonical.proofs.canonical.Tie as tie
 
@@ -13,11 +13,12 @@ check-canonical-requires c κs = search needs
 is-done-requires : tie.Need-is-done-requires
 is-done-requires c κs = search needs
 
-shared-slice-read-mode-1 : tie.Need-shared-slice-read-mode-1
-shared-slice-read-mode-1 c = (writable (c .before .before .before .before .before .before .args .file .now) (c .before .before .before .before .before .before .args .iid-count) (c .before .before .before .before .before .before .args .sid-count) _ (sym (ap isDone (c .before .before .before .check-canonical .ensures)) ∙ sym (c .before .before .is-done .ensures) ∙ c .before .if1 .taken)) .accepts .long
+-- what is known once the checks passed
+facts : (c : tie.Then1) → Writable (c .before .before .before .before .before .args .file .now) (c .before .before .before .before .before .args .iid-count) (c .before .before .before .before .before .args .sid-count) (length (c .before .before .before .before .before .args .out .now))
+facts c = writable _ _ _ _ (sym (ap isDone (c .before .before .check-canonical .ensures)) ∙ sym (c .before .is-done .ensures) ∙ c .if1 .taken)
 
-read-width-requires : tie.Need-read-width-requires
-read-width-requires c κs = search needs
+shape-of-requires : tie.Need-shape-of-requires
+shape-of-requires c κs = search needs
 
 block-width-requires : tie.Need-block-width-requires
 block-width-requires c κs = search needs
@@ -26,16 +27,24 @@ codes-requires : tie.Need-codes-requires
 codes-requires c κs = search needs
 
 write-calls-requires : tie.Need-write-calls-requires
-write-calls-requires c κs = let w = (writable (c .before .before .before .before .before .before .before .before .before .before .before .args .file .now) (c .before .before .before .before .before .before .before .before .before .before .before .args .iid-count) (c .before .before .before .before .before .before .before .before .before .before .before .args .sid-count) _ (sym (ap isDone (c .before .before .before .before .before .before .before .before .check-canonical .ensures)) ∙ sym (c .before .before .before .before .before .before .before .is-done .ensures) ∙ c .before .before .before .before .before .before .if1 .taken)) in (shaped (c .before .before .before .before .before .before .before .before .before .before .before .args .file .now) (c .before .before .before .before .before .before .before .before .before .before .before .args .iid-count) (c .before .before .before .before .before .before .before .before .before .before .before .args .sid-count) _ _ (w .accepts) (mode-test (c .before .before .before .before .before .before .before .before .before .before .before .args .file .now) _ refl) (c .before .before .before .before .read-width .ensures), c .before .before .before .block-width .ensures, w .out-long ∙ ap (λ (x : ℕ). 3 + x * c .before .before .before .before .before .before .before .before .before .before .before .args .sid-count) (sym (c .before .before .before .block-width .ensures)), c .before .before .codes .ensures)
+write-calls-requires c κs =
+    let d = c .before .before .before .before .before in
+    let w = writable-by _ _ _ _ _ _ (facts d) (c .before .before .before .before .shape-of .ensures) (c .before .before .before .block-width .ensures) in
+    (w .0, w .1, w .2, c .before .before .codes .ensures)
 
 same-length : tie.Need-same-length
 same-length c = search needs
 
 returns : tie.Need-returns
-returns c = (c .before .before .before .before .before .before .before .before .before .before .before .check-canonical .ensures, canonical-wrote _ _ _ _ _ _ (c .before .before .before .before .before .before .before .before .before .before .before .check-canonical .ensures) (sym (c .before .before .before .before .before .before .before .before .before .before .is-done .ensures) ∙ c .before .before .before .before .before .before .before .before .before .if1 .taken) (c .before .before .write-calls .ensures))
+returns c =
+    let d = c .before .before .before .before .before .before .before .before in (
+      d .before .before .check-canonical .ensures,
+      canonical-wrote _ _ _ _ _ _ _ (d .before .before .check-canonical .ensures) (sym (d .before .is-done .ensures) ∙ d .if1 .taken) (c .before .before .before .before .before .before .before .shape-of .ensures) (c .before .before .write-calls .ensures),
+    )
 
 returns-2 : tie.Need-returns-2
-returns-2 c = (c .before .before .check-canonical .ensures, canonical-kept _ _ _ _ _ (c .before .before .check-canonical .ensures) (sym (c .before .is-done .ensures) ∙ c .if1 .left))
+returns-2 c =
+    (c .before .before .check-canonical .ensures, canonical-kept _ _ _ _ _ (c .before .before .check-canonical .ensures) (sym (c .before .is-done .ensures) ∙ c .if1 .left))
 
 pub canonical-spec : {M : Type 1} → statement M
 canonical-spec =
@@ -43,8 +52,7 @@ canonical-spec =
     (tie.spec
     check-canonical-requires
     is-done-requires
-    shared-slice-read-mode-1
-    read-width-requires
+    shape-of-requires
     block-width-requires
     codes-requires
     write-calls-requires

@@ -1,138 +1,65 @@
--- `write_calls`: tile by tile, every byte is the file's.
-use mathlib.Core.Path.{sym, _∙_}
-use Prim.Native.Nat.{_-_}
+-- `write_calls`: the header, then the blocks by the mode.
+use mathlib.Core.Path.{sym, ap, _∙_}
 use native.Mathlib.Omega.{arith}
-use Rattle.bed_read.specs.Calls.{callCode}
-use Rattle.bed_write.specs.Writing.{bedFile}
-use Rattle.canonical.specs.Canonical.{canonicalFile}
-use Rattle.bed_write.proofs.RowLaws.{Rows, byte-in, stored, row-done, tile-done, tile-starts, row-starts, all-done, whole-size, first-in, whole-byte, headed-length, headed-1, headed-2, headed-rows, headed-done}
+use borrow.Author.Needs.{needs}
+use lib.ListN.{length}
+use Rattle.canonical.proofs.WholeLaws.{whole-long, second-in, third-in, only-header, begun}
 use Rattle.canonical.proofs.write_calls.Statement.{statement}
 use Rattle.canonical.proofs.write_calls.Tie as tie
 
-abbrev Inv-loop3 : tie.InvT-loop3
-Inv-loop3 file mode-1 width iid-count sid-count out-width codes out₀ from until b m₀ out m = Rows (bedFile iid-count sid-count (callCode file iid-count sid-count)) out-width sid-count out from until b m
+slice-write-out : tie.Need-slice-write-out
+slice-write-out c = omega (arith, c .before .before .pre .2)
 
-abbrev μ-loop3 : tie.MeasureT-loop3
-μ-loop3 file mode-1 width iid-count sid-count out-width codes out₀ from until b m₀ out m = until - m
+slice-write-out-2 : tie.Need-slice-write-out-2
+slice-write-out-2 c = let s = c .before .before in second-in (s .args .file .now) (s .args .shape) _ (s .pre .1) (s .args .out .now) (s .pre .2)
 
-abbrev Inv-loop2 : tie.InvT-loop2
-Inv-loop2 file mode-1 width iid-count sid-count out-width codes out₀ from until b₀ out b = Rows (bedFile iid-count sid-count (callCode file iid-count sid-count)) out-width sid-count out from until b 0
+slice-write-out-3 : tie.Need-slice-write-out-3
+slice-write-out-3 c = let s = c .before .before in third-in (s .args .file .now) (s .args .shape) _ (s .pre .1) (s .args .out .now) (s .pre .2)
 
-abbrev μ-loop2 : tie.MeasureT-loop2
-μ-loop2 file mode-1 width iid-count sid-count out-width codes out₀ from until b₀ out b = out-width - b
+same-length : tie.Need-same-length
+same-length c = search needs
 
-abbrev Inv-loop : tie.InvT-loop
-Inv-loop file mode-1 width iid-count sid-count out-width codes out₀ from₀ out from = Rows (bedFile iid-count sid-count (callCode file iid-count sid-count)) out-width sid-count out from from 0 0
+returns : tie.Need-returns
+returns c = let s = c .before .before .before in only-header (s .args .file .now) (s .args .shape) _ (s .pre .1) (s .args .out .now) (s .pre .2) (c .if1 .taken)
 
-abbrev μ-loop : tie.MeasureT-loop
-μ-loop file mode-1 width iid-count sid-count out-width codes out₀ from₀ out from = sid-count - from
+keep-blocks-requires : tie.Need-keep-blocks-requires
+keep-blocks-requires c κs =
+    let s = c .before .before .before .before .before in
+    (begun (s .args .file .now) (s .args .shape) _ (s .pre .1) (s .args .out .now) (s .pre .2) (s .pre .0), c .before .if2 .taken)
 
-slice-write-out : tie.Need-slice-write-out Inv-loop3 μ-loop3 Inv-loop2 μ-loop2 Inv-loop μ-loop
-slice-write-out c = let e = c .before .before .pre .2 in omega arith
+same-length-2 : tie.Need-same-length-2
+same-length-2 c =
+    let s = c .before .before .before .before .before .before .before .before in
+    ap length (c .before .before .keep-blocks .ensures) ∙ whole-long (s .args .file .now) (s .args .shape) _ (s .pre .1) ∙ sym (s .pre .2)
 
-slice-write-out-2 : tie.Need-slice-write-out-2 Inv-loop3 μ-loop3 Inv-loop2 μ-loop2 Inv-loop μ-loop
-slice-write-out-2 c = headed-1 (c .before .before .args .iid-count) (c .before .before .args .sid-count) (callCode (c .before .before .args .file .now) (c .before .before .args .iid-count) (c .before .before .args .sid-count)) (c .before .before .args .out-width) (c .before .before .pre .1) (c .before .before .args .out .now) (c .before .before .pre .2)
+returns-2 : tie.Need-returns-2
+returns-2 c = c .before .before .keep-blocks .ensures
 
-slice-write-out-3 : tie.Need-slice-write-out-3 Inv-loop3 μ-loop3 Inv-loop2 μ-loop2 Inv-loop μ-loop
-slice-write-out-3 c = headed-2 (c .before .before .args .iid-count) (c .before .before .args .sid-count) (callCode (c .before .before .args .file .now) (c .before .before .args .iid-count) (c .before .before .args .sid-count)) (c .before .before .args .out-width) (c .before .before .pre .1) (c .before .before .args .out .now) (c .before .before .pre .2)
+turn-blocks-requires : tie.Need-turn-blocks-requires
+turn-blocks-requires c κs =
+    let s = c .before .before .before .before .before in
+    (begun (s .args .file .now) (s .args .shape) _ (s .pre .1) (s .args .out .now) (s .pre .2) (s .pre .0), c .before .if2 .left, s .pre .3)
 
-same-length : tie.Need-same-length Inv-loop3 μ-loop3 Inv-loop2 μ-loop2 Inv-loop μ-loop
-same-length c = headed-length (c .before .before .before .args .iid-count) (c .before .before .before .args .sid-count) (callCode (c .before .before .before .args .file .now) (c .before .before .before .args .iid-count) (c .before .before .before .args .sid-count)) (c .before .before .before .args .out-width) (c .before .before .before .pre .1) (c .before .before .before .args .out .now) (c .before .before .before .pre .2)
+same-length-3 : tie.Need-same-length-3
+same-length-3 c =
+    let s = c .before .before .before .before .before .before .before .before in
+    ap length (c .before .before .turn-blocks .ensures) ∙ whole-long (s .args .file .now) (s .args .shape) _ (s .pre .1) ∙ sym (s .pre .2)
 
-returns : tie.Need-returns Inv-loop3 μ-loop3 Inv-loop2 μ-loop2 Inv-loop μ-loop
-unfolding canonicalFile
-returns c = headed-done (c .before .before .before .args .iid-count) (c .before .before .before .args .sid-count) (callCode (c .before .before .before .args .file .now) (c .before .before .before .args .iid-count) (c .before .before .before .args .sid-count)) (c .before .before .before .args .out-width) (c .before .before .before .pre .1) (c .before .before .before .args .out .now) (c .before .before .before .pre .2) (c .if1 .taken)
-
-loop-holds : tie.Need-loop-holds Inv-loop3 μ-loop3 Inv-loop2 μ-loop2 Inv-loop μ-loop
-loop-holds c = headed-rows (c .before .before .before .args .iid-count) (c .before .before .before .args .sid-count) (callCode (c .before .before .before .args .file .now) (c .before .before .before .args .iid-count) (c .before .before .before .args .sid-count)) (c .before .before .before .args .out-width) (c .before .before .before .pre .1) (c .before .before .before .args .out .now) (c .before .before .before .pre .2)
-
-tile-end-requires : tie.Need-tile-end-requires Inv-loop3 μ-loop3 Inv-loop2 μ-loop2 Inv-loop μ-loop
-tile-end-requires c κs = c .loop-test .taken
-
-loop2-holds : tie.Need-loop2-holds Inv-loop3 μ-loop3 Inv-loop2 μ-loop2 Inv-loop μ-loop
-loop2-holds c = tile-starts (bedFile (c .before .before .before .before .before .before .args .iid-count) (c .before .before .before .before .before .before .args .sid-count) (callCode (c .before .before .before .before .before .before .args .file .now) (c .before .before .before .before .before .before .args .iid-count) (c .before .before .before .before .before .before .args .sid-count))) (c .before .before .before .before .before .before .args .out-width) (c .before .before .before .before .before .before .args .sid-count) _ _ _ _ _ (c .before .before .loop .inv) _ (c .tile-end .ensures .1)
-
-loop3-holds : tie.Need-loop3-holds Inv-loop3 μ-loop3 Inv-loop2 μ-loop2 Inv-loop μ-loop
-loop3-holds c = row-starts (bedFile (c .before .before .before .before .before .before .before .before .args .iid-count) (c .before .before .before .before .before .before .before .before .args .sid-count) (callCode (c .before .before .before .before .before .before .before .before .args .file .now) (c .before .before .before .before .before .before .before .before .args .iid-count) (c .before .before .before .before .before .before .before .before .args .sid-count))) (c .before .before .before .before .before .before .before .before .args .out-width) (c .before .before .before .before .before .before .before .before .args .sid-count) _ _ _ _ _ (c .before .loop2 .inv) (c .loop2-test .taken)
-
-mul-at : tie.Need-mul-at Inv-loop3 μ-loop3 Inv-loop2 μ-loop2 Inv-loop μ-loop
-mul-at c = (let l = c .before .loop3 .inv .long in let k = whole-size (c .before .before .before .before .before .before .before .before .before .before .args .iid-count) (c .before .before .before .before .before .before .before .before .before .before .args .sid-count) (callCode (c .before .before .before .before .before .before .before .before .before .before .args .file .now) (c .before .before .before .before .before .before .before .before .before .before .args .iid-count) (c .before .before .before .before .before .before .before .before .before .before .args .sid-count)) (c .before .before .before .before .before .before .before .before .before .before .args .out-width) (c .before .before .before .before .before .before .before .before .before .before .pre .1) in let e = c .before .before .before .before .before .before .before .before .before .before .pre .2 in let g = c .before .before .before .before .before .before .before .before .before .before .good .1 .1 .1 .1 .1 .1 .1 .0 .0 in let p = byte-in (bedFile (c .before .before .before .before .before .before .before .before .before .before .args .iid-count) (c .before .before .before .before .before .before .before .before .before .before .args .sid-count) (callCode (c .before .before .before .before .before .before .before .before .before .before .args .file .now) (c .before .before .before .before .before .before .before .before .before .before .args .iid-count) (c .before .before .before .before .before .before .before .before .before .before .args .sid-count))) (c .before .before .before .before .before .before .before .before .before .before .args .out-width) (c .before .before .before .before .before .before .before .before .before .before .args .sid-count) _ _ _ _ _ (c .before .loop3 .inv) (whole-size (c .before .before .before .before .before .before .before .before .before .before .args .iid-count) (c .before .before .before .before .before .before .before .before .before .before .args .sid-count) (callCode (c .before .before .before .before .before .before .before .before .before .before .args .file .now) (c .before .before .before .before .before .before .before .before .before .before .args .iid-count) (c .before .before .before .before .before .before .before .before .before .before .args .sid-count)) (c .before .before .before .before .before .before .before .before .before .before .args .out-width) (c .before .before .before .before .before .before .before .before .before .before .pre .1)) (let h = c .loop3-test .taken in let u = c .before .loop3 .inv .until-in in omega arith) (c .before .before .loop2-test .taken) in omega arith)
-
-add-at : tie.Need-add-at Inv-loop3 μ-loop3 Inv-loop2 μ-loop2 Inv-loop μ-loop
-add-at c = (let l = c .before .loop3 .inv .long in let k = whole-size (c .before .before .before .before .before .before .before .before .before .before .args .iid-count) (c .before .before .before .before .before .before .before .before .before .before .args .sid-count) (callCode (c .before .before .before .before .before .before .before .before .before .before .args .file .now) (c .before .before .before .before .before .before .before .before .before .before .args .iid-count) (c .before .before .before .before .before .before .before .before .before .before .args .sid-count)) (c .before .before .before .before .before .before .before .before .before .before .args .out-width) (c .before .before .before .before .before .before .before .before .before .before .pre .1) in let e = c .before .before .before .before .before .before .before .before .before .before .pre .2 in let g = c .before .before .before .before .before .before .before .before .before .before .good .1 .1 .1 .1 .1 .1 .1 .0 .0 in let p = byte-in (bedFile (c .before .before .before .before .before .before .before .before .before .before .args .iid-count) (c .before .before .before .before .before .before .before .before .before .before .args .sid-count) (callCode (c .before .before .before .before .before .before .before .before .before .before .args .file .now) (c .before .before .before .before .before .before .before .before .before .before .args .iid-count) (c .before .before .before .before .before .before .before .before .before .before .args .sid-count))) (c .before .before .before .before .before .before .before .before .before .before .args .out-width) (c .before .before .before .before .before .before .before .before .before .before .args .sid-count) _ _ _ _ _ (c .before .loop3 .inv) (whole-size (c .before .before .before .before .before .before .before .before .before .before .args .iid-count) (c .before .before .before .before .before .before .before .before .before .before .args .sid-count) (callCode (c .before .before .before .before .before .before .before .before .before .before .args .file .now) (c .before .before .before .before .before .before .before .before .before .before .args .iid-count) (c .before .before .before .before .before .before .before .before .before .before .args .sid-count)) (c .before .before .before .before .before .before .before .before .before .before .args .out-width) (c .before .before .before .before .before .before .before .before .before .before .pre .1)) (let h = c .loop3-test .taken in let u = c .before .loop3 .inv .until-in in omega arith) (c .before .before .loop2-test .taken) in omega arith)
-
-add-at-2 : tie.Need-add-at-2 Inv-loop3 μ-loop3 Inv-loop2 μ-loop2 Inv-loop μ-loop
-add-at-2 c = (let l = c .before .loop3 .inv .long in let k = whole-size (c .before .before .before .before .before .before .before .before .before .before .args .iid-count) (c .before .before .before .before .before .before .before .before .before .before .args .sid-count) (callCode (c .before .before .before .before .before .before .before .before .before .before .args .file .now) (c .before .before .before .before .before .before .before .before .before .before .args .iid-count) (c .before .before .before .before .before .before .before .before .before .before .args .sid-count)) (c .before .before .before .before .before .before .before .before .before .before .args .out-width) (c .before .before .before .before .before .before .before .before .before .before .pre .1) in let e = c .before .before .before .before .before .before .before .before .before .before .pre .2 in let g = c .before .before .before .before .before .before .before .before .before .before .good .1 .1 .1 .1 .1 .1 .1 .0 .0 in let p = byte-in (bedFile (c .before .before .before .before .before .before .before .before .before .before .args .iid-count) (c .before .before .before .before .before .before .before .before .before .before .args .sid-count) (callCode (c .before .before .before .before .before .before .before .before .before .before .args .file .now) (c .before .before .before .before .before .before .before .before .before .before .args .iid-count) (c .before .before .before .before .before .before .before .before .before .before .args .sid-count))) (c .before .before .before .before .before .before .before .before .before .before .args .out-width) (c .before .before .before .before .before .before .before .before .before .before .args .sid-count) _ _ _ _ _ (c .before .loop3 .inv) (whole-size (c .before .before .before .before .before .before .before .before .before .before .args .iid-count) (c .before .before .before .before .before .before .before .before .before .before .args .sid-count) (callCode (c .before .before .before .before .before .before .before .before .before .before .args .file .now) (c .before .before .before .before .before .before .before .before .before .before .args .iid-count) (c .before .before .before .before .before .before .before .before .before .before .args .sid-count)) (c .before .before .before .before .before .before .before .before .before .before .args .out-width) (c .before .before .before .before .before .before .before .before .before .before .pre .1)) (let h = c .loop3-test .taken in let u = c .before .loop3 .inv .until-in in omega arith) (c .before .before .loop2-test .taken) in omega arith)
-
-byte-of-calls-requires :
-    tie.Need-byte-of-calls-requires Inv-loop3 μ-loop3 Inv-loop2 μ-loop2 Inv-loop μ-loop
-byte-of-calls-requires c κs = let s = c .before .before .before .before .before .before .before .before .before .before in (s .pre .0, (let h = c .loop3-test .taken in let u = c .before .loop3 .inv .until-in in omega arith), first-in (c .before .before .before .before .before .before .before .before .before .before .args .iid-count) (c .before .before .before .before .before .before .before .before .before .before .args .sid-count) (callCode (c .before .before .before .before .before .before .before .before .before .before .args .file .now) (c .before .before .before .before .before .before .before .before .before .before .args .iid-count) (c .before .before .before .before .before .before .before .before .before .before .args .sid-count)) (c .before .before .before .before .before .before .before .before .before .before .args .out-width) (c .before .before .before .before .before .before .before .before .before .before .pre .1) _ (c .before .before .loop2-test .taken), s .pre .3)
-
-slice-write-out-4 : tie.Need-slice-write-out-4 Inv-loop3 μ-loop3 Inv-loop2 μ-loop2 Inv-loop μ-loop
-slice-write-out-4 c = byte-in (bedFile (c .before .before .before .before .before .before .before .before .before .before .before .args .iid-count) (c .before .before .before .before .before .before .before .before .before .before .before .args .sid-count) (callCode (c .before .before .before .before .before .before .before .before .before .before .before .args .file .now) (c .before .before .before .before .before .before .before .before .before .before .before .args .iid-count) (c .before .before .before .before .before .before .before .before .before .before .before .args .sid-count))) (c .before .before .before .before .before .before .before .before .before .before .before .args .out-width) (c .before .before .before .before .before .before .before .before .before .before .before .args .sid-count) _ _ _ _ _ (c .before .before .loop3 .inv) (whole-size (c .before .before .before .before .before .before .before .before .before .before .before .args .iid-count) (c .before .before .before .before .before .before .before .before .before .before .before .args .sid-count) (callCode (c .before .before .before .before .before .before .before .before .before .before .before .args .file .now) (c .before .before .before .before .before .before .before .before .before .before .before .args .iid-count) (c .before .before .before .before .before .before .before .before .before .before .before .args .sid-count)) (c .before .before .before .before .before .before .before .before .before .before .before .args .out-width) (c .before .before .before .before .before .before .before .before .before .before .before .pre .1)) (let h = c .before .loop3-test .taken in let u = c .before .before .loop3 .inv .until-in in omega arith) (c .before .before .before .loop2-test .taken)
-
-add-m : tie.Need-add-m Inv-loop3 μ-loop3 Inv-loop2 μ-loop2 Inv-loop μ-loop
-add-m c = let h = c .before .loop3-test .taken in let u = c .before .before .loop3 .inv .until-in in let f = c .before .before .before .before .before .before .before .before .before .before .before .fits .sid-count .fits in omega arith
-
-loop3-less : tie.Need-loop3-less Inv-loop3 μ-loop3 Inv-loop2 μ-loop2 Inv-loop μ-loop
-loop3-less c = let h = c .before .loop3-test .taken in omega arith
-
-loop3-again : tie.Need-loop3-again Inv-loop3 μ-loop3 Inv-loop2 μ-loop2 Inv-loop μ-loop
-loop3-again c = stored (bedFile (c .before .before .before .before .before .before .before .before .before .before .before .args .iid-count) (c .before .before .before .before .before .before .before .before .before .before .before .args .sid-count) (callCode (c .before .before .before .before .before .before .before .before .before .before .before .args .file .now) (c .before .before .before .before .before .before .before .before .before .before .before .args .iid-count) (c .before .before .before .before .before .before .before .before .before .before .before .args .sid-count))) (c .before .before .before .before .before .before .before .before .before .before .before .args .out-width) (c .before .before .before .before .before .before .before .before .before .before .before .args .sid-count) _ _ _ _ _ (c .before .before .loop3 .inv) (whole-size (c .before .before .before .before .before .before .before .before .before .before .before .args .iid-count) (c .before .before .before .before .before .before .before .before .before .before .before .args .sid-count) (callCode (c .before .before .before .before .before .before .before .before .before .before .before .args .file .now) (c .before .before .before .before .before .before .before .before .before .before .before .args .iid-count) (c .before .before .before .before .before .before .before .before .before .before .before .args .sid-count)) (c .before .before .before .before .before .before .before .before .before .before .before .args .out-width) (c .before .before .before .before .before .before .before .before .before .before .before .pre .1)) (let h = c .before .loop3-test .taken in let u = c .before .before .loop3 .inv .until-in in omega arith) (c .before .before .before .loop2-test .taken) _ (whole-byte (c .before .before .before .before .before .before .before .before .before .before .before .args .iid-count) (c .before .before .before .before .before .before .before .before .before .before .before .args .sid-count) (callCode (c .before .before .before .before .before .before .before .before .before .before .before .args .file .now) (c .before .before .before .before .before .before .before .before .before .before .before .args .iid-count) (c .before .before .before .before .before .before .before .before .before .before .before .args .sid-count)) (c .before .before .before .before .before .before .before .before .before .before .before .args .out-width) (c .before .before .before .before .before .before .before .before .before .before .before .pre .1) _ _ _ (let h = c .before .loop3-test .taken in let u = c .before .before .loop3 .inv .until-in in omega arith) (c .before .before .before .loop2-test .taken) (c .byte-of-calls .ensures))
-
-add-b : tie.Need-add-b Inv-loop3 μ-loop3 Inv-loop2 μ-loop2 Inv-loop μ-loop
-add-b c = let h = c .before .before .loop2-test .taken in let f = c .before .before .before .before .before .before .before .before .before .before .fits .out-width .fits in omega arith
-
-loop2-less : tie.Need-loop2-less Inv-loop3 μ-loop3 Inv-loop2 μ-loop2 Inv-loop μ-loop
-loop2-less c = let h = c .before .before .loop2-test .taken in omega arith
-
-loop2-again : tie.Need-loop2-again Inv-loop3 μ-loop3 Inv-loop2 μ-loop2 Inv-loop μ-loop
-loop2-again c = row-done (bedFile (c .before .before .before .before .before .before .before .before .before .before .args .iid-count) (c .before .before .before .before .before .before .before .before .before .before .args .sid-count) (callCode (c .before .before .before .before .before .before .before .before .before .before .args .file .now) (c .before .before .before .before .before .before .before .before .before .before .args .iid-count) (c .before .before .before .before .before .before .before .before .before .before .args .sid-count))) (c .before .before .before .before .before .before .before .before .before .before .args .out-width) (c .before .before .before .before .before .before .before .before .before .before .args .sid-count) _ _ _ _ _ (c .before .loop3 .inv) (c .loop3-test .left)
-
-loop-less : tie.Need-loop-less Inv-loop3 μ-loop3 Inv-loop2 μ-loop2 Inv-loop μ-loop
-loop-less c = let h = c .before .before .tile-end .ensures in let t = c .before .before .before .loop-test .taken in omega arith
-
-loop-again : tie.Need-loop-again Inv-loop3 μ-loop3 Inv-loop2 μ-loop2 Inv-loop μ-loop
-loop-again c = tile-done (bedFile (c .before .before .before .before .before .before .before .before .args .iid-count) (c .before .before .before .before .before .before .before .before .args .sid-count) (callCode (c .before .before .before .before .before .before .before .before .args .file .now) (c .before .before .before .before .before .before .before .before .args .iid-count) (c .before .before .before .before .before .before .before .before .args .sid-count))) (c .before .before .before .before .before .before .before .before .args .out-width) (c .before .before .before .before .before .before .before .before .args .sid-count) _ _ _ _ _ (c .before .loop2 .inv) (c .loop2-test .left)
-
-same-length-2 : tie.Need-same-length-2 Inv-loop3 μ-loop3 Inv-loop2 μ-loop2 Inv-loop μ-loop
-same-length-2 c = c .before .loop .inv .long ∙ whole-size (c .before .before .before .before .before .args .iid-count) (c .before .before .before .before .before .args .sid-count) (callCode (c .before .before .before .before .before .args .file .now) (c .before .before .before .before .before .args .iid-count) (c .before .before .before .before .before .args .sid-count)) (c .before .before .before .before .before .args .out-width) (c .before .before .before .before .before .pre .1) ∙ sym (c .before .before .before .before .before .pre .2)
-
-returns-2 : tie.Need-returns-2 Inv-loop3 μ-loop3 Inv-loop2 μ-loop2 Inv-loop μ-loop
-unfolding canonicalFile
-returns-2 c = all-done (bedFile (c .before .before .before .before .before .args .iid-count) (c .before .before .before .before .before .args .sid-count) (callCode (c .before .before .before .before .before .args .file .now) (c .before .before .before .before .before .args .iid-count) (c .before .before .before .before .before .args .sid-count))) (c .before .before .before .before .before .args .out-width) (c .before .before .before .before .before .args .sid-count) _ _ _ _ _ (c .before .loop .inv) (whole-size (c .before .before .before .before .before .args .iid-count) (c .before .before .before .before .before .args .sid-count) (callCode (c .before .before .before .before .before .args .file .now) (c .before .before .before .before .before .args .iid-count) (c .before .before .before .before .before .args .sid-count)) (c .before .before .before .before .before .args .out-width) (c .before .before .before .before .before .pre .1)) (c .loop-test .left)
+returns-3 : tie.Need-returns-3
+returns-3 c = c .before .before .turn-blocks .ensures
 
 pub write-calls-spec : {M : Type 1} → statement M
 write-calls-spec =
     tie.close
     (tie.spec
-    Inv-loop3
-    μ-loop3
-    Inv-loop2
-    μ-loop2
-    Inv-loop
-    μ-loop
     slice-write-out
     slice-write-out-2
     slice-write-out-3
     same-length
     returns
-    loop-holds
-    tile-end-requires
-    loop2-holds
-    loop3-holds
-    mul-at
-    add-at
-    add-at-2
-    byte-of-calls-requires
-    slice-write-out-4
-    add-m
-    loop3-less
-    loop3-again
-    add-b
-    loop2-less
-    loop2-again
-    loop-less
-    loop-again
+    keep-blocks-requires
     same-length-2
-    returns-2)
+    returns-2
+    turn-blocks-requires
+    same-length-3
+    returns-3)
