@@ -18,7 +18,7 @@ use Rattle.genotype.proofs.AnswerLaws.{check-passes, check-refuses, count-passe
 use Rattle.genotype.specs.Block.{fileLength}
 use Rattle.bed_file.specs.File.{isMode1, items, blocks, checkFile, acceptAnswer}
 use Rattle.bed_read.specs.Reading.{checkLists, listsAnswer, readAnswer}
-use Rattle.bed_file.proofs.FileLaws.{accepted, accept-file, file-stage, file-long, file-length}
+use Rattle.bed_file.proofs.FileLaws.{accepted, accept-file, file-stage, file-length}
 
 -- ---- the lists' checks, in order
 module _ (iids sids : ℕ) (il sl : List ℤ) where
@@ -128,7 +128,6 @@ read-good file iids sids il sl valLength d e gi gs =
 -- ---- what is known where reading is done
 pub record Readable (file : List ℕ) (iids sids : ℕ) (il sl : List ℤ) (valLength : ℕ) : Type 0 where
   pub product : length il * length sl ≡ valLength
-  pub long : 3 ≤ length file
   pub length-is : length file ≡ fileLength (items (isMode1 file) iids sids) (blocks (isMode1 file) iids sids)
   pub iids-good : firstBad iids il ≡ none
   pub sids-good : firstBad sids sl ≡ none
@@ -143,7 +142,6 @@ readable file iids sids il sl valLength d =
     let l = lists-done iids sids il sl (done []) (subst (λ (x : Answer). isDone x ≡ true) (heard (file-stage file iids sids) [] own (checkLists iids sids il sl (done []))) (c .1)) in
     record {
       product = eqb-true (length il * length sl) valLength (c .0);
-      long = file-long file iids sids [] own;
       length-is = file-length file iids sids [] own;
       iids-good = l .0;
       sids-good = l .1;

@@ -60,9 +60,9 @@ pub word-outside : (n size : ℕ) → size < 2 ^ 64 → size ≤ inWord n → si
 word-outside n size l h = by-lt n (2 ^ 64) (λ k. let e = in-word n k in omega arith) (λ k. omega arith)
 
 -- ---- what a number adds
-pub item-adds : (w n : ℕ) → n < 2 ^ 64 → IsPart false w n (record { byte = n / 4; place = n % 4 })
+pub item-adds : (w n : ℕ) (part : Part) → n < 2 ^ 64 → part .byte ≡ n / 4 → part .place ≡ n % 4 → IsPart false w n part
 unfolding partByte partPlace
-item-adds w n h = record { byte-is = sym (in-word (n / 4) (omega arith)); place-is = refl }
+item-adds w n part h b p = record { byte-is = b ∙ sym (in-word (n / 4) (omega arith)); place-is = p }
 
 module _ (w n : ℕ) (b : Bool) (e : b ≡ leb (n * w) 18446744073709551612) where
   pub block-fits : b ≡ true → 3 + n * w < 2 ^ 64

@@ -1,10 +1,10 @@
 // Where the calls of a file stand.
 ghost use mathlib.Core.Path.{_≡_};
 ghost use mathlib.Core.Bool.{true, false};
-ghost use Rattle.bed_file.specs.File.{isMode1};
-ghost use Rattle.genotype.specs.Code.{itemCode};
+ghost use Prim.Native.Nat.{_+_, _*_, _/_, _%_};
 ghost use lib.ListN.{take, drop};
-ghost use Prim.Native.Nat.{_+_, _*_};
+ghost use Rattle.genotype.specs.Code.{itemCode};
+ghost use Rattle.bed_file.specs.File.{isMode1};
 ghost use Rattle.calls.specs.Calls.{callCode};
 ghost use Rattle.calls.specs.Places.{IsShape, isBlock, IsPart};
 use genotype::entries::IidIndex;
@@ -54,15 +54,15 @@ pub fn shape_of(file: &[u8], iid_count: usize, sid_count: usize) -> Shape
 }
 
 // What the number of an item adds.
-fn item_part(width: usize, item: usize) -> Part
-    ensures { λ r. ⌜ IsPart false width item r ⌝ }
+fn item_part(item: usize) -> Part
+    ensures { λ r. ⌜ (r .byte ≡ item / 4) × (r .place ≡ item % 4) ⌝ }
 {
     let byte = item / 4;
     let place = item % 4;
     Part { byte, place }
 }
 
-// What the number of a block adds.
+// What the number of a block adds: its first byte, or 2^64 − 1 if that passes 64 bits.
 fn block_part(width: usize, block: usize) -> Part
     ensures { λ r. ⌜ IsPart true width block r ⌝ }
 {
@@ -84,7 +84,7 @@ pub fn iid_part(shape: Shape, iid: IidIndex) -> Part
     ensures { λ r. ⌜ IsPart (isBlock (shape .mode1) true) (shape .width) (iid .0) r ⌝ }
 {
     if shape.mode1 {
-        return item_part(shape.width, iid.0);
+        return item_part(iid.0);
     }
     block_part(shape.width, iid.0)
 }
@@ -96,10 +96,10 @@ pub fn sid_part(shape: Shape, sid: SidIndex) -> Part
     if shape.mode1 {
         return block_part(shape.width, sid.0);
     }
-    item_part(shape.width, sid.0)
+    item_part(sid.0)
 }
 
-// The code of item `item` of the `width` bytes of block `block`.
+// The code of an item of a block of `width` bytes; 0 if the block or the file has no such byte.
 fn item_code(file: &[u8], width: usize, block: usize, item: usize) -> u8
     ensures { λ r. ⌜ r ≡ itemCode (take width (drop (3 + block * width) (now (file .entry)))) item ⌝ }
 {

@@ -1,4 +1,5 @@
-// The worked examples of document 01 that are not marked P, PLINK's published example, bad entries for a file of mode 0, and one marker's block.
+// The worked examples of document 01 that are not marked P, PLINK's published example, bad entries for a file of mode 0, single codes,
+// and one marker's block.
 // Each line says where it comes from and what that asks for, then what was seen; the file `stdout` beside src/ has them all.
 use bed_read::ReadAnswer;
 use bed_write::WriteAnswer;
@@ -6,6 +7,7 @@ use block::CodeAnswer;
 use block::DecodeAnswer;
 use block::PackAnswer;
 use genotype::entries::IidIndex;
+use genotype::entries::SidIndex;
 use standardise::StandardiseAnswer;
 
 fn say(text: &[u8]) {
@@ -238,6 +240,17 @@ fn by_animal() {
     );
 }
 
+// The codes of single calls.
+fn single_codes() {
+    let file = b"\x6C\x1B\x01\xE4\x00\x2F\x02";
+    let by_animal = b"\x6C\x1B\x00\x0C\x0D\x0A\x03\x08";
+    say(b"the code of animal 1 at marker 0, missing, in F and in the file of mode 0: saw");
+    say_number(wide(calls::call_code(file, 5, 2, IidIndex(1), SidIndex(0))));
+    say(b",");
+    say_number(wide(calls::call_code(by_animal, 5, 2, IidIndex(1), SidIndex(0))));
+    say(b"\n");
+}
+
 fn say_codes(bytes: &[u8]) {
     say(b"its codes of animals 1, 4 and 5, missing, two copies and refusal 5: saw");
     say_code(block::code_in_block(bytes, 5, IidIndex(1)));
@@ -357,6 +370,7 @@ fn columns() {
 fn main() {
     plink_example();
     by_animal();
+    single_codes();
     one_block();
     columns();
 }

@@ -4,14 +4,14 @@ use Prim.Native.Nat.{_+_, _-_}
 use native.Mathlib.Omega.{arith}
 use lib.Ieee.{nan}
 use lib.ListN.{getD}
-use Rattle.bed_read.specs.Private.{valueIn, placeValue, Drawn}
+use Rattle.bed_read.specs.Private.{DrawnLine}
 use Rattle.bed_read.proofs.DrawLaws.{drawn-none, drawn-one, drawn-end}
 use Rattle.bed_read.proofs.read_f64.read_line.Statement.{statement}
 use Rattle.bed_read.proofs.read_f64.read_line.Tie as tie
 
 abbrev Inv-loop : tie.InvT-loop
 Inv-loop file byte place bytes places table at n val₀ k₀ val k =
-    Drawn nan 1 n (λ _ i. at + i) (λ _ i. placeValue (valueIn table nan) file (byte + getD bytes i 0) (place + getD places i 0)) val₀ k val
+    DrawnLine table nan file byte place bytes places at n val₀ k val
 
 abbrev μ-loop : tie.MeasureT-loop
 μ-loop file byte place bytes places table at n val₀ k₀ val k = n - k

@@ -60,8 +60,12 @@ same-length c = search needs
 
 returns : tie.Need-returns
 returns c =
-    let s = c .before .before .before .before .before .before .before .before .before .before .before .before .before .before .before .before .before .before .before .before .before .before in
-    pairs-set (s .args .val .now) _ _ _ _ (s .args .at) (s .args .inner) (s .args .k) _ (c .before .before .before .before .before .before .before .before .before .before .before .before .before .before .before .before .before .read-pair .ensures) (c .before .before .before .before .before .before .before .before .before .before .before .before .read-pair2 .ensures) (c .before .before .before .before .before .before .before .read-pair3 .ensures) (c .before .before .read-pair4 .ensures)
+    let p4 = c .before .before in
+    let p3 = p4 .before .before .before .before .before in
+    let p2 = p3 .before .before .before .before .before in
+    let p1 = p2 .before .before .before .before .before in
+    let a = p1 .before .before .before .before .before .args in
+    pairs-set (a .val .now) _ _ _ _ (a .at) (a .inner) (a .k) _ (p1 .read-pair .ensures) (p2 .read-pair2 .ensures) (p3 .read-pair3 .ensures) (p4 .read-pair4 .ensures)
 
 pub read-pairs-spec : {M : Type 1} → statement M
 read-pairs-spec = tie.close (tie.spec add-t0 add-t1 add-t2 add-t3 element-copy-out-read-pair read-pair-requires element-copy-out-read-pair-2 read-pair-requires-2 element-copy-out-read-pair-3 read-pair-requires-3 element-copy-out-read-pair-4 read-pair-requires-4 same-length returns)

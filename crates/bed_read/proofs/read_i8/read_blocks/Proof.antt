@@ -1,7 +1,7 @@
 -- `read_blocks`: the lines so far are filled.
 use mathlib.Core.Path.{_≡_, sym, subst, _∙_}
-use mathlib.Core.Bool.{not}
-use Prim.Native.Nat.{ℕ, _+_, _-_, _*_, _<_, _≤_}
+use mathlib.Core.Bool.{Bool, true, false, not, cond}
+use Prim.Native.Nat.{ℕ, _+_, _-_, _*_, _^_, _<_, _≤_}
 use native.Mathlib.Omega.{arith}
 use borrow.Author.Needs.{needs}
 use lib.IntN.{pos}
@@ -20,6 +20,9 @@ Inv-loop file shape iid-index sid-index animal-order table val₀ inner outer li
 abbrev μ-loop : tie.MeasureT-loop
 μ-loop file shape iid-index sid-index animal-order table val₀ inner outer line₀ val line = outer - line
 
+fits : (s : tie.Start Inv-loop μ-loop) → length (s .args .val .now) < 2 ^ 64
+fits s = omega arith
+
 length-of-requires : tie.Need-length-of-requires Inv-loop μ-loop
 length-of-requires c κs = search needs
 
@@ -31,24 +34,40 @@ loop-holds c = tile-none _ (pos 0) _ _ _ _ _ (c .before .before .before .pre .3)
 
 -- the line is there, and its places
 module _ (c : tie.In-loop Inv-loop μ-loop) where
-  there : c .before .loop .line < lengthOf (c .before .before .before .before .before .args .animal-order) (c .before .before .before .before .before .args .iid-index .now) (c .before .before .before .before .before .args .sid-index .now)
+  abbrev n : tie.After-length-of Inv-loop μ-loop
+  n = c .before .before .before
+
+  abbrev s : tie.Start Inv-loop μ-loop
+  s = c .before .before .before .before .before
+
+  abbrev line : ℕ
+  line = c .before .loop .line
+
+  -- the length of the list that the order has outside (true), or of the other
+  abbrev long : Bool → ℕ
+  long outside = lengthOf (cond outside (s .args .animal-order) (not (s .args .animal-order))) (s .args .iid-index .now) (s .args .sid-index .now)
+
+  there : line < long true
   there = omega (arith, c .loop-test .taken, c .before .before .length-of2 .ensures)
 
-  ends : (size : ℕ) → size ≡ lengthOf (c .before .before .before .before .before .args .animal-order) (c .before .before .before .before .before .args .iid-index .now) (c .before .before .before .before .before .args .sid-index .now) * lengthOf (not (c .before .before .before .before .before .args .animal-order)) (c .before .before .before .before .before .args .iid-index .now) (c .before .before .before .before .before .args .sid-index .now) → c .before .loop .line * c .before .before .before .length-of .result + 1 * c .before .before .before .length-of .result ≤ size
-  ends size = lines-end (c .before .loop .line) 1 _ _ (c .before .before .before .length-of .result) size (omega (arith, there)) (c .before .before .before .length-of .ensures)
+  ends : (size : ℕ) → size ≡ long true * long false → line * n .length-of .result + 1 * n .length-of .result ≤ size
+  ends size = lines-end line 1 _ _ (n .length-of .result) size (omega (arith, there)) (n .length-of .ensures)
 
 part-at-requires : tie.Need-part-at-requires Inv-loop μ-loop
-part-at-requires c κs = (c .before .before .before .before .before .pre .0, there c)
+part-at-requires c κs = (s c .pre .0, there c)
 
 mul-read-in-order : tie.Need-mul-read-in-order Inv-loop μ-loop
-mul-read-in-order c = omega (arith, ends (c .before) _ (c .before .before .before .before .before .before .pre .3 .long))
+mul-read-in-order c = let d = c .before in omega (arith, fits (s d), ends d _ (s d .pre .3 .long))
 
 read-in-order-requires : tie.Need-read-in-order-requires Inv-loop μ-loop
 read-in-order-requires c κs =
-    let s = c .before .before .before .before .before .before .before in (
-      s .pre .1,
-      subst (λ (x : ℕ). x ≤ 4 * (length (s .args .file .now) - c .before .part-at .result .byte)) (sym (c .before .before .before .before .before .length-of .ensures)) (order-inside (s .args .file .now) _ _ _ (s .pre .0) (s .args .animal-order) (s .pre .2) (c .before .before .before .loop .line) _ (there (c .before .before)) (c .before .part-at .ensures .byte-is)),
-      omega (arith, ends (c .before .before) _ (c .before .before .before .loop .inv .rows .long)),
+    let r = c .before .part-at in
+    let d = c .before .before in
+    let a = s d .args in (
+      s d .pre .1,
+      subst (λ (x : ℕ). x ≤ 4 * (length (a .file .now) - r .result .byte)) (sym (n d .length-of .ensures))
+          (order-inside (a .file .now) _ _ _ (s d .pre .0) (a .animal-order) (s d .pre .2) (line d) _ (there d) (r .ensures .byte-is)),
+      omega (arith, ends d _ (d .before .loop .inv .rows .long)),
     )
 
 add-line : tie.Need-add-line Inv-loop μ-loop
@@ -59,8 +78,11 @@ loop-less c = omega arith
 
 loop-again : tie.Need-loop-again Inv-loop μ-loop
 loop-again c =
-    let s = c .before .before .before .before .before .before .before .before .before in
-    block-read (s .args .table .now) (pos 0) (s .args .file .now) _ _ _ (s .pre .0) (s .args .animal-order) _ (c .before .before .before .before .before .before .before .length-of .ensures) _ _ (c .before .before .before .before .before .loop .line) (s .pre .2) _ (c .before .before .before .part-at .ensures .byte-is) (there (c .before .before .before .before)) (c .before .read-in-order .ensures) (c .before .before .before .before .before .loop .inv)
+    let r = c .before in
+    let d = r .before .before .before in
+    let a = s d .args in
+    block-read (a .table .now) (pos 0) (a .file .now) _ _ _ (s d .pre .0) (a .animal-order) _ (n d .length-of .ensures) _ _ (line d) (s d .pre .2) _
+    (r .before .before .part-at .ensures .byte-is) (there d) (r .read-in-order .ensures) (d .before .loop .inv)
 
 same-length : tie.Need-same-length Inv-loop μ-loop
 same-length c = c .before .loop .inv .rows .long ∙ sym (c .before .before .before .before .before .pre .3 .long)

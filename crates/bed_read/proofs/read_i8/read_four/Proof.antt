@@ -3,7 +3,7 @@ use Prim.Native.Nat.{_+_, _-_, _*_}
 use native.Mathlib.Omega.{arith}
 use lib.IntN.{pos}
 use lib.ListN.{getD}
-use Rattle.bed_read.specs.Private.{valueIn, placeValue, Drawn}
+use Rattle.bed_read.specs.Private.{blockValue, Drawn}
 use Rattle.bed_read.proofs.DrawLaws.{drawn-none, drawn-pairs, drawn-to}
 use Rattle.bed_read.proofs.PartLaws.{inside-less}
 use Rattle.bed_read.proofs.read_i8.read_four.Statement.{statement}
@@ -11,7 +11,7 @@ use Rattle.bed_read.proofs.read_i8.read_four.Tie as tie
 
 abbrev Inv-loop : tie.InvT-loop
 Inv-loop file starts bytes places table at inner n val₀ k₀ val k =
-    Drawn (pos 0) 4 n (λ j i. at + j * inner + i) (λ j i. placeValue (valueIn table (pos 0)) file (getD starts j 0 + getD bytes i 0) (getD places i 0)) val₀ k val
+    Drawn (pos 0) 4 n (λ j i. at + j * inner + i) (blockValue table (pos 0) file starts bytes places) val₀ k val
 
 abbrev μ-loop : tie.MeasureT-loop
 μ-loop file starts bytes places table at inner n val₀ k₀ val k = n - k
@@ -35,7 +35,10 @@ loop-less : tie.Need-loop-less Inv-loop μ-loop
 loop-less c = omega (arith, c .before .before .before .loop-test .taken)
 
 loop-again : tie.Need-loop-again Inv-loop μ-loop
-loop-again c = drawn-pairs (pos 0) _ _ _ _ _ _ (c .before .before .before .before .loop .k) _ _ (c .before .before .before .before .loop .inv) (omega arith) (c .before .before .before .loop-test .taken) (c .before .before .before .before .before .before .pre .4) (c .before .read-pairs .ensures)
+loop-again c =
+    let r = c .before in
+    let l = r .before .before .before in
+    drawn-pairs (pos 0) _ _ _ _ _ _ (l .loop .k) _ _ (l .loop .inv) (omega arith) (r .before .before .loop-test .taken) (l .before .before .pre .4) (r .read-pairs .ensures)
 
 sub-read-pairs : tie.Need-sub-read-pairs Inv-loop μ-loop
 sub-read-pairs c = omega (arith, c .before .before .before .pre .2)

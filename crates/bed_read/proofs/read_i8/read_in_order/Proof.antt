@@ -8,7 +8,7 @@ use mir.Syntax.{w8}
 use mir.ValLaws.{toZ-ofZ}
 use lib.IntN.{ℤ, pos}
 use lib.ListN.{length-set}
-use Rattle.bed_read.specs.Private.{valueIn, placeValue, Drawn}
+use Rattle.bed_read.specs.Private.{valueIn, DrawnInOrder}
 use Rattle.bed_read.proofs.DrawLaws.{drawn-none, drawn-one, drawn-to, drawn-end}
 use Rattle.bed_read.proofs.PartLaws.{byte-item}
 use Rattle.bed_read.proofs.read_i8.read_in_order.Statement.{statement}
@@ -16,7 +16,7 @@ use Rattle.bed_read.proofs.read_i8.read_in_order.Tie as tie
 
 abbrev Inv-loop : tie.InvT-loop
 Inv-loop file start table at n val₀ whole b₀ val b =
-    Drawn (pos 0) 1 n (λ _ k. at + k) (λ _ k. placeValue (valueIn table (pos 0)) file (start + k / 4) (k % 4)) val₀ (4 * b) val
+    DrawnInOrder table (pos 0) file start at n val₀ (4 * b) val
 
 abbrev μ-loop : tie.MeasureT-loop
 μ-loop file start table at n val₀ whole b₀ val b = whole - b
@@ -24,14 +24,14 @@ abbrev μ-loop : tie.MeasureT-loop
 -- the second loop goes on from where the first one left off
 abbrev Inv-loop2 : tie.InvT-loop2
 Inv-loop2 file start table at n val₀ whole b i₀ val i =
-    (old : List ℤ) → Drawn (pos 0) 1 n (λ _ k. at + k) (λ _ k. placeValue (valueIn table (pos 0)) file (start + k / 4) (k % 4)) old (4 * whole) val₀
-    → Drawn (pos 0) 1 n (λ _ k. at + k) (λ _ k. placeValue (valueIn table (pos 0)) file (start + k / 4) (k % 4)) old i val
+    (old : List ℤ) → DrawnInOrder table (pos 0) file start at n old (4 * whole) val₀
+    → DrawnInOrder table (pos 0) file start at n old i val
 
 abbrev μ-loop2 : tie.MeasureT-loop2
 μ-loop2 file start table at n val₀ whole b i₀ val i = n - i
 
-abbrev InOrder : tie.Start Inv-loop μ-loop Inv-loop2 μ-loop2 → ℕ → List ℤ → Type 0
-InOrder s = Drawn (pos 0) 1 (s .args .n) (λ _ k. s .args .at + k) (λ _ k. placeValue (valueIn (s .args .table .now) (pos 0)) (s .args .file .now) (s .args .start + k / 4) (k % 4)) (s .args .val .now)
+abbrev SoFar : tie.Start Inv-loop μ-loop Inv-loop2 μ-loop2 → ℕ → List ℤ → Type 0
+SoFar s = DrawnInOrder (s .args .table .now) (pos 0) (s .args .file .now) (s .args .start) (s .args .at) (s .args .n) (s .args .val .now)
 
 loop-holds : tie.Need-loop-holds Inv-loop μ-loop Inv-loop2 μ-loop2
 loop-holds c = drawn-none (pos 0) _ _ _ _ 1
@@ -110,7 +110,7 @@ loop2-holds : tie.Need-loop2-holds Inv-loop μ-loop Inv-loop2 μ-loop2
 loop2-holds c = λ old f. f
 
 -- the second loop's places so far, from the start
-so-far : (c : tie.At-loop2 Inv-loop μ-loop Inv-loop2 μ-loop2) → InOrder (c .before .before .before .before) (c .loop2 .i) (c .loop2 .val)
+so-far : (c : tie.At-loop2 Inv-loop μ-loop Inv-loop2 μ-loop2) → SoFar (c .before .before .before .before) (c .loop2 .i) (c .loop2 .val)
 so-far c =
     c .loop2 .inv (c .before .before .before .before .args .val .now)
     (drawn-to (pos 0) _ _ _ _ 1 (4 * c .before .before .loop .b) (4 * (c .before .before .before .before .args .n / 4)) _ (c .before .before .loop .inv) (let b = c .before .before .loop .inv .bound in let l = c .before .loop-test .left in omega arith))
