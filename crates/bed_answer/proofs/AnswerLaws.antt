@@ -10,7 +10,7 @@ use lib.IntN.{ℤ, pos, negsuc}
 use mir.Syntax.{w64}
 use mir.Val.{toZ, ofZ}
 use mir.ValLaws.{toZ-pos}
-use Rattle.genotype.specs.Answer.{Answer, done, refused, countLimit}
+use Rattle.answer.specs.Answer.{Answer, done, refused, countLimit}
 use Rattle.bed_answer.specs.declared.BedAnswer.{BedAnswer}
 use Rattle.bed_answer.specs.Interface.{bedAnswer, clipped, clip, carriesEntry, clipAnswer}
 use Rattle.bed_answer.specs.Private.{threeOf}

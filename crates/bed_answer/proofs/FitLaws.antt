@@ -10,11 +10,11 @@ use lib.Dec.{leb, eqb}
 use lib.Ieee.{Format, Float}
 use lib.IntN.{ℤ, pos, negsuc}
 use lib.ListN.{length, getD}
-use Rattle.genotype.specs.Answer.{Answer, done, refused, check, checkEntry, checkCount, countLimit, ifDone}
-use Rattle.genotype.specs.Block.{blockWidth, checkSize, fileLength, divAnswer}
-use Rattle.genotype.specs.Entry.{isGood, firstBad, least, greatest, byteOf, span, spanAnswer}
-use Rattle.genotype.proofs.EntryLaws.{means-below}
-use Rattle.genotype.proofs.Widths.{width-none, width-some}
+use Rattle.answer.specs.Answer.{Answer, done, refused, check, checkEntry, checkCount, countLimit, ifDone}
+use Rattle.blocks.specs.Block.{blockWidth, checkSize, fileLength, divAnswer}
+use Rattle.entries.specs.Entry.{isGood, firstBad, least, greatest, byteOf, span, spanAnswer}
+use Rattle.entries.proofs.EntryLaws.{means-below}
+use Rattle.blocks.proofs.Widths.{width-none, width-some}
 use Rattle.index.specs.declared.range.Bound.{Bound}
 use Rattle.index.specs.declared.slice.SliceEnd.{SliceEnd}
 use Rattle.index.specs.declared.range.RangeAny.{RangeAny}

@@ -5,7 +5,7 @@ use Prim.Native.Nat.{ℕ}
 use lib.Dec.{eqb, leb}
 use lib.IntN.{ℤ, pos, negsuc}
 use lib.ListN.{getD}
-use Rattle.genotype.specs.Answer.{Answer, done, refused, countLimit}
+use Rattle.answer.specs.Answer.{Answer, done, refused, countLimit}
 use Rattle.bed_answer.specs.declared.BedAnswer.{BedAnswer}
 
 -- "number 0: done; else document 01's number"

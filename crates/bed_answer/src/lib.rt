@@ -1,7 +1,8 @@
 // What a call of the C interface answers, as document 01's number with its values: from each answer of the core.
 ghost use mathlib.Core.Path.{_≡_};
 ghost use lib.IntN.{pos};
-ghost use Rattle.genotype.specs.Says.{divSays, spanSays};
+ghost use Rattle.blocks.specs.Says.{divSays};
+ghost use Rattle.entries.specs.Says.{spanSays};
 ghost use Rattle.index.specs.Says.{listSays, rangeSays};
 ghost use Rattle.bed_file.specs.Says.{openSays};
 ghost use Rattle.bed_read.specs.Says.{readSays};
@@ -16,9 +17,9 @@ use bed_file::OpenAnswer;
 use bed_read::ReadAnswer;
 use bed_write::EncodeAnswer;
 use bed_write::WriteAnswer;
+use blocks::DivAnswer;
 use canonical::CanonicalAnswer;
-use genotype::blocks::DivAnswer;
-use genotype::entries::SpanAnswer;
+use entries::SpanAnswer;
 use index::ListAnswer;
 use index::RangeAnswer;
 use product::PieceAnswer;

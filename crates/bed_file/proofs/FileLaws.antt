@@ -8,10 +8,10 @@ use borrow.Author.Tests.{eq-eqb, ne-eqb, le-leb, lt-leb, eqb-true, leb-true}
 use lib.Dec.{leb, eqb}
 use lib.IntN.{ℤ, pos}
 use lib.ListN.{length, getD}
-use Rattle.genotype.specs.Answer.{Answer, done, refused, check, checkCount, countLimit, isDone}
-use Rattle.genotype.specs.Block.{blockWidth, fileLength, checkSize, divAnswer}
-use Rattle.genotype.proofs.AnswerLaws.{check-passes, check-refuses, count-passes, count-refuses, check-done, count-done, check-other, Stage, check-stage, then-stage, heard, stays}
-use Rattle.genotype.proofs.Widths.{Sized, width-given, size-stage}
+use Rattle.answer.specs.Answer.{Answer, done, refused, check, checkCount, countLimit, isDone}
+use Rattle.blocks.specs.Block.{blockWidth, fileLength, checkSize, divAnswer}
+use Rattle.answer.proofs.AnswerLaws.{check-passes, check-refuses, count-passes, count-refuses, check-done, count-done, check-other, Stage, check-stage, then-stage, heard, stays}
+use Rattle.blocks.proofs.Widths.{Sized, width-given, size-stage}
 use Rattle.bed_file.specs.File.{checkOpen, openAnswer, checkMode, isMode1, items, blocks, checkLength, lengthAnswer, checkFile, acceptAnswer}
 
 -- ---- 1 and 2, by the tests in order

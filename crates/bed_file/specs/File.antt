@@ -5,8 +5,8 @@ use Prim.Native.Nat.{ℕ}
 use lib.Dec.{leb, eqb}
 use lib.IntN.{pos}
 use lib.ListN.{length, getD}
-use Rattle.genotype.specs.Answer.{Answer, done, check, checkCount}
-use Rattle.genotype.specs.Block.{fileLength, checkSize}
+use Rattle.answer.specs.Answer.{Answer, done, check, checkCount}
+use Rattle.blocks.specs.Block.{fileLength, checkSize}
 
 -- "1 (under 3 bytes), 2 (first two bytes)": byte 0 is 6C and byte 1 is 1B
 unfoldable pub checkOpen : List ℕ → Answer → Answer

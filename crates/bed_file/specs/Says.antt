@@ -2,7 +2,7 @@
 use mathlib.Core.List.{[], _∷_}
 use Prim.Native.Nat.{ℕ}
 use lib.IntN.{pos}
-use Rattle.genotype.specs.Answer.{Answer, done, refused}
+use Rattle.answer.specs.Answer.{Answer, done, refused}
 use Rattle.bed_file.specs.declared.OpenAnswer.{OpenAnswer}
 use Rattle.bed_file.specs.declared.OpenAnswer.the-variants as opens
 use Rattle.bed_file.specs.declared.FileFault.{FileFault}

@@ -2,7 +2,7 @@
 ghost use mathlib.Core.Path.{_≡_};
 ghost use Rattle.bed_file.specs.File.{openAnswer, lengthAnswer, acceptAnswer};
 ghost use Rattle.bed_file.specs.Says.{openSays, faultNumber, acceptSays};
-use genotype::blocks::DivAnswer;
+use blocks::DivAnswer;
 
 // Byte 2, or 1, or 2.
 pub enum OpenAnswer {
@@ -57,7 +57,7 @@ pub enum AcceptAnswer {
 pub fn check_length(file_len: usize, items: usize, blocks: usize) -> AcceptAnswer
     ensures { λ r. ⌜ acceptSays r ≡ lengthAnswer «file_len» items blocks ⌝ }
 {
-    match genotype::blocks::try_div_4(items, blocks) {
+    match blocks::try_div_4(items, blocks) {
         DivAnswer::CountTooLarge => AcceptAnswer::Refused(FileFault::CountTooLarge),
         DivAnswer::IndexesTooBigForFiles => AcceptAnswer::Refused(FileFault::IndexesTooBigForFiles),
         DivAnswer::Width(width) => {
@@ -74,10 +74,10 @@ pub fn check_length(file_len: usize, items: usize, blocks: usize) -> AcceptAnswe
 pub fn accept(file: &[u8], iid_count: usize, sid_count: usize) -> AcceptAnswer
     ensures { λ r. ⌜ acceptSays r ≡ acceptAnswer (now (file .entry)) «iid_count» «sid_count» ⌝ }
 {
-    if iid_count > 9223372036854775807 {
+    if iid_count > answer::COUNT_LIMIT {
         return AcceptAnswer::Refused(FileFault::CountTooLarge);
     }
-    if sid_count > 9223372036854775807 {
+    if sid_count > answer::COUNT_LIMIT {
         return AcceptAnswer::Refused(FileFault::CountTooLarge);
     }
     match open_and_check(file) {

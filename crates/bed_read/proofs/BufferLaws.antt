@@ -6,13 +6,13 @@ use Prim.Native.Nat.{ℕ, _*_, _/_, _%_, _<_}
 use native.Mathlib.Omega.{arith}
 use lib.IntN.{ℤ}
 use lib.ListN.{length, getD}
-use Rattle.genotype.specs.Answer.{isDone}
-use Rattle.genotype.specs.Code.{codeTable}
-use Rattle.genotype.specs.Entry.{firstBad}
-use Rattle.genotype.specs.Matrix.{matrix}
-use Rattle.genotype.specs.Value.{Width, values, valueOf}
-use Rattle.genotype.proofs.AnswerLaws.{new-if-done, old-if-not}
-use Rattle.genotype.proofs.Tabulate.{tabulate-ext, map-tabulate, getD-inside}
+use Rattle.answer.specs.Answer.{isDone}
+use Rattle.codes.specs.Code.{codeTable}
+use Rattle.entries.specs.Entry.{firstBad}
+use Rattle.answer.specs.Matrix.{matrix}
+use Rattle.codes.specs.Value.{Width, values, valueOf}
+use Rattle.answer.proofs.AnswerLaws.{new-if-done, old-if-not}
+use Rattle.answer.proofs.Tabulate.{tabulate-ext, map-tabulate, getD-inside}
 use Rattle.calls.specs.declared.Shape.{Shape}
 use Rattle.calls.specs.Places.{IsShape}
 use Rattle.calls.proofs.PlaceLaws.{shape-read}
@@ -21,7 +21,7 @@ use Rattle.bed_read.specs.Private.{Ready, valueIn}
 use Rattle.calls.proofs.CallLaws.{call-below}
 use Rattle.bed_read.proofs.ReadLaws.{Readable}
 use Rattle.bed_read.proofs.TableLaws.{made-value}
-use Rattle.genotype.proofs.ValueLaws.{four-values}
+use Rattle.codes.proofs.ValueLaws.{four-values}
 
 -- every code that is read is a code
 pub read-below : (file : List ℕ) (iids sids : ℕ) (il sl : List ℤ) (k m : ℕ) → readCode file iids sids il sl k m < 4

@@ -5,9 +5,9 @@ use Prim.Native.Nat.{ℕ, zero, suc, _+_, _*_, _<_, _≤_}
 use native.Mathlib.Omega.{arith}
 use lib.ListN.{length, getD, set, length-set}
 use lib.Seq.{getD-set-same, getD-set-other, set-out}
-use Rattle.genotype.specs.Lists.{tabulate}
-use Rattle.genotype.proofs.Tests.{by-lt}
-use Rattle.genotype.proofs.Tabulate.{is-tabulate}
+use Rattle.answer.specs.Lists.{tabulate}
+use Rattle.answer.proofs.Tests.{by-lt}
+use Rattle.answer.proofs.Tabulate.{is-tabulate}
 use Rattle.bed_read.specs.Private.{setTwo, setPairs, Drawn}
 
 -- two places set

@@ -13,11 +13,11 @@ use lib.Seq.{getD-set-same, getD-set-other}
 use lib.Signed.{mag}
 use mir.Syntax.{w64}
 use mir.Val.{ofZ, toZ}
-use Rattle.genotype.specs.Code.{codeAt}
-use Rattle.genotype.specs.Entry.{firstBad, means}
-use Rattle.genotype.proofs.EntryLaws.{means-below}
-use Rattle.genotype.proofs.SpanLaws.{all-good, still-means}
-use Rattle.genotype.proofs.Tests.{by-lt}
+use Rattle.codes.specs.Code.{codeAt}
+use Rattle.entries.specs.Entry.{firstBad, means}
+use Rattle.entries.proofs.EntryLaws.{means-below}
+use Rattle.entries.proofs.SpanLaws.{all-good, still-means}
+use Rattle.answer.proofs.Tests.{by-lt}
 use Rattle.calls.specs.Calls.{callCode}
 use Rattle.calls.specs.declared.Part.{Part}
 use Rattle.calls.specs.declared.Shape.{Shape}

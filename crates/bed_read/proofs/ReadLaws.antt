@@ -12,10 +12,10 @@ use lib.Signed.{mag}
 use mir.Syntax.{w64}
 use mir.Val.{ofZ, toZ}
 use mir.ValLaws.{toZ-ofZ}
-use Rattle.genotype.specs.Answer.{Answer, done, refused, check, countLimit, isDone}
-use Rattle.genotype.specs.Entry.{firstBad}
-use Rattle.genotype.proofs.AnswerLaws.{check-passes, check-refuses, count-passes, count-refuses, entry-passes, entry-refuses, check-done, count-done, entry-done, Stage, lets, refuses, entry-stage, then-stage, heard, stays, before-later}
-use Rattle.genotype.specs.Block.{fileLength}
+use Rattle.answer.specs.Answer.{Answer, done, refused, check, countLimit, isDone}
+use Rattle.entries.specs.Entry.{firstBad}
+use Rattle.answer.proofs.AnswerLaws.{check-passes, check-refuses, count-passes, count-refuses, entry-passes, entry-refuses, check-done, count-done, entry-done, Stage, lets, refuses, entry-stage, then-stage, heard, stays, before-later}
+use Rattle.blocks.specs.Block.{fileLength}
 use Rattle.bed_file.specs.File.{isMode1, items, blocks, checkFile, acceptAnswer}
 use Rattle.bed_read.specs.Reading.{checkLists, listsAnswer, readAnswer}
 use Rattle.bed_file.proofs.FileLaws.{accepted, accept-file, file-stage, file-length}

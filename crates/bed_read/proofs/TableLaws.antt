@@ -4,9 +4,9 @@ use mathlib.Core.List.{List, map}
 use Prim.Native.Nat.{ℕ, _+_, _*_, _/_, _%_, _<_}
 use native.Mathlib.Omega.{arith}
 use lib.ListN.{length, getD, length-map, List·getD-map}
-use Rattle.genotype.specs.Code.{codeAt, codeTable}
-use Rattle.genotype.proofs.CodeLaws.{table-at, code-below}
-use Rattle.genotype.proofs.Tabulate.{length-tabulate, getD-tabulate, tabulate-ext, map-tabulate, getD-inside}
+use Rattle.codes.specs.Code.{codeAt, codeTable}
+use Rattle.codes.proofs.CodeLaws.{table-at, code-below}
+use Rattle.answer.proofs.Tabulate.{length-tabulate, getD-tabulate, tabulate-ext, map-tabulate, getD-inside}
 use Rattle.bed_read.specs.Private.{Drawn, valueIn, ByCode, placeValue}
 use Rattle.bed_read.proofs.DrawLaws.{drawn-all}
 

@@ -7,10 +7,10 @@ use native.Mathlib.Nat.{mul-comm, mul-zero, add-zero, add-mul, mul-le-mul-right,
 use native.Mathlib.Omega.{arith}
 use lib.IntN.{ℤ}
 use lib.ListN.{length, getD}
-use Rattle.genotype.specs.Lists.{tabulate}
-use Rattle.genotype.specs.Matrix.{matrix}
-use Rattle.genotype.proofs.Tests.{by-lt}
-use Rattle.genotype.proofs.Tabulate.{is-tabulate, map-tabulate}
+use Rattle.answer.specs.Lists.{tabulate}
+use Rattle.answer.specs.Matrix.{matrix}
+use Rattle.answer.proofs.Tests.{by-lt}
+use Rattle.answer.proofs.Tabulate.{is-tabulate, map-tabulate}
 use Rattle.calls.specs.declared.Shape.{Shape}
 use Rattle.bed_read.specs.Reading.{readCode, codesRead}
 use Rattle.bed_read.specs.Private.{lengthOf, lineValue, Drawn, Rows}

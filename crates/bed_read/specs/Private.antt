@@ -6,8 +6,8 @@ use mathlib.Core.Option.{none}
 use Prim.Native.Nat.{ℕ, _+_, _-_, _*_, _/_, _%_, _<_, _≤_}
 use lib.IntN.{ℤ, pos}
 use lib.ListN.{length, getD, set}
-use Rattle.genotype.specs.Code.{codeAt, codeTable}
-use Rattle.genotype.specs.Entry.{firstBad, means}
+use Rattle.codes.specs.Code.{codeAt, codeTable}
+use Rattle.entries.specs.Entry.{firstBad, means}
 use Rattle.calls.specs.declared.Part.{Part}
 use Rattle.calls.specs.declared.Shape.{Shape}
 use Rattle.calls.specs.Places.{Shaped, isBlock, partByte, partPlace}

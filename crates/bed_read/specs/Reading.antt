@@ -6,11 +6,11 @@ use Prim.Native.Nat.{ℕ, _*_}
 use lib.Dec.{eqb}
 use lib.IntN.{ℤ, pos}
 use lib.ListN.{length, getD}
-use Rattle.genotype.specs.Answer.{Answer, done, check, checkCount, checkEntry, ifDone}
-use Rattle.genotype.specs.Entry.{firstBad, means}
-use Rattle.genotype.specs.Value.{Width, valueOf}
-use Rattle.genotype.specs.Lists.{tabulate}
-use Rattle.genotype.specs.Matrix.{matrix}
+use Rattle.answer.specs.Answer.{Answer, done, check, checkCount, checkEntry, ifDone}
+use Rattle.entries.specs.Entry.{firstBad, means}
+use Rattle.codes.specs.Value.{Width, valueOf}
+use Rattle.answer.specs.Lists.{tabulate}
+use Rattle.answer.specs.Matrix.{matrix}
 use Rattle.bed_file.specs.File.{checkFile}
 use Rattle.calls.specs.Calls.{callCode}
 

@@ -1,11 +1,11 @@
 // The checks of reading.
 ghost use mathlib.Core.Path.{_≡_};
-ghost use Rattle.genotype.specs.Answer.{isDone};
+ghost use Rattle.answer.specs.Answer.{isDone};
 ghost use Rattle.bed_read.specs.Reading.{listsAnswer, readAnswer};
 ghost use Rattle.bed_read.specs.Says.{readSays};
 use bed_file::AcceptAnswer;
 use bed_file::FileFault;
-use genotype::entries::FirstBad;
+use entries::FirstBad;
 
 pub enum ReadAnswer {
     Done,
@@ -24,17 +24,17 @@ pub fn check_lists(
 ) -> ReadAnswer
     ensures { λ r. ⌜ readSays r ≡ listsAnswer «iid_count» «sid_count» (now («iid_index» .entry)) (now («sid_index» .entry)) ⌝ }
 {
-    if iid_count > 9223372036854775807 {
+    if iid_count > answer::COUNT_LIMIT {
         return ReadAnswer::Refused(FileFault::CountTooLarge);
     }
-    if sid_count > 9223372036854775807 {
+    if sid_count > answer::COUNT_LIMIT {
         return ReadAnswer::Refused(FileFault::CountTooLarge);
     }
-    let bad_iid = genotype::entries::first_bad(iid_count, iid_index);
+    let bad_iid = entries::first_bad(iid_count, iid_index);
     if let FirstBad::Entry(e) = bad_iid {
         return ReadAnswer::IidIndexTooBig(e);
     }
-    let bad_sid = genotype::entries::first_bad(sid_count, sid_index);
+    let bad_sid = entries::first_bad(sid_count, sid_index);
     if let FirstBad::Entry(e) = bad_sid {
         return ReadAnswer::SidIndexTooBig(e);
     }
@@ -53,13 +53,13 @@ pub(crate) fn check_read(
     ensures { λ r. ⌜ readSays r ≡ readAnswer (now (file .entry)) «iid_count» «sid_count»
         (now («iid_index» .entry)) (now («sid_index» .entry)) «val_len» ⌝ }
 {
-    if iid_count > 9223372036854775807 {
+    if iid_count > answer::COUNT_LIMIT {
         return ReadAnswer::Refused(FileFault::CountTooLarge);
     }
-    if sid_count > 9223372036854775807 {
+    if sid_count > answer::COUNT_LIMIT {
         return ReadAnswer::Refused(FileFault::CountTooLarge);
     }
-    if genotype::blocks::product_is(iid_index.len(), sid_index.len(), val_len) {
+    if blocks::product_is(iid_index.len(), sid_index.len(), val_len) {
         match bed_file::accept(file, iid_count, sid_count) {
             AcceptAnswer::Accepted => check_lists(iid_count, sid_count, iid_index, sid_index),
             AcceptAnswer::Refused(fault) => ReadAnswer::Refused(fault),

@@ -20,10 +20,10 @@ pub(crate) fn part_at(
     ensures { λ r. ⌜ IsEntryPart shape (now («iid_index» .entry)) (now («sid_index» .entry)) animals k r ⌝ }
 {
     if animals {
-        let iid = genotype::entries::iid_of(shape.iids, iid_index[k]);
+        let iid = entries::iid_of(shape.iids, iid_index[k]);
         return calls::iid_part(shape, iid);
     }
-    let sid = genotype::entries::sid_of(shape.sids, sid_index[k]);
+    let sid = entries::sid_of(shape.sids, sid_index[k]);
     calls::sid_part(shape, sid)
 }
 

@@ -5,8 +5,8 @@ ghost use mathlib.Core.List.{map};
 ghost use Prim.Native.Nat.{ℕ, _+_, _-_, _*_, _/_, _%_, _<_, _≤_};
 ghost use lib.Ieee.{nan};
 ghost use lib.ListN.{length, getD};
-ghost use Rattle.genotype.specs.Code.{codeTable};
-ghost use Rattle.genotype.specs.Value.{float, values};
+ghost use Rattle.codes.specs.Code.{codeTable};
+ghost use Rattle.codes.specs.Value.{float, values};
 ghost use Rattle.bed_read.specs.Reading.{codesRead, Reads};
 ghost use Rattle.bed_read.specs.Private.{Ready, lengthOf, AllInOrder, EntryParts, Inside, FourInside};
 ghost use Rattle.bed_read.specs.Private.{valueIn, ByCode, placeValue, entryValue, blockValue, setTwo, setPairs};
@@ -22,8 +22,8 @@ use calls::Shape;
 fn value_table(is_a1_counted: bool, missing_value: f64) -> [f64; 1024]
     ensures { λ r. ⌜ r ≡ map (λ code. getD (values float «is_a1_counted» «missing_value») code nan) codeTable ⌝ }
 {
-    let codes = genotype::codes::codes();
-    let values = genotype::values::set_up_two_bits_to_value_f64(is_a1_counted, missing_value);
+    let codes = codes::codes();
+    let values = codes::set_up_two_bits_to_value_f64(is_a1_counted, missing_value);
     let mut table = [0.0; 1024];
     let mut i = 0;
     while i < 1024 {

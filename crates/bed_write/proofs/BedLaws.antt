@@ -6,11 +6,11 @@ use native.Mathlib.Nat.{mul-comm, zero-mul}
 use native.Mathlib.Omega.{arith}
 use lib.ListN.{length, getD, length-append, List·getD-append}
 use lib.Seq.{getD-append-add}
-use Rattle.genotype.specs.Block.{blockWidth, fileLength}
-use Rattle.genotype.specs.Code.{packedByte, packed}
-use Rattle.genotype.specs.Lists.{tabulate}
-use Rattle.genotype.proofs.CodeLaws.{packed-length}
-use Rattle.genotype.proofs.Tabulate.{length-tabulate, getD-tabulate, tabulate-ext}
+use Rattle.blocks.specs.Block.{blockWidth, fileLength}
+use Rattle.codes.specs.Code.{packedByte, packed}
+use Rattle.answer.specs.Lists.{tabulate}
+use Rattle.codes.proofs.CodeLaws.{packed-length}
+use Rattle.answer.proofs.Tabulate.{length-tabulate, getD-tabulate, tabulate-ext}
 use Rattle.bed_write.specs.Writing.{joined, bedFile}
 
 -- ---- blocks of one width, one after the other

@@ -14,17 +14,17 @@ use lib.Signed.{mag, ltZ, nonNeg}
 use mir.Syntax.{w8, w64}
 use mir.Val.{Fits, SFits, ofZ, toZ}
 use mir.ValLaws.{toZ-ofZ}
-use Rattle.genotype.specs.Answer.{Answer}
-use Rattle.genotype.specs.Value.{i8, sameInt, codeOf}
-use Rattle.genotype.proofs.SignedLaws.{sameInt-refl, sameInt-eq}
-use Rattle.genotype.proofs.Tests.{by-test}
-use Rattle.genotype.proofs.ValueLaws.{zero-code, one-code, two-code, missing-code, number-bad}
+use Rattle.answer.specs.Answer.{Answer}
+use Rattle.codes.specs.Value.{i8, sameInt, codeOf}
+use Rattle.codes.proofs.ValueLaws.{sameInt-refl, sameInt-eq}
+use Rattle.answer.proofs.Tests.{by-test}
+use Rattle.codes.proofs.ValueLaws.{zero-code, one-code, two-code, missing-code, number-bad}
 use Rattle.bed_write.specs.Packing.{placeCode, encodeAnswer, encodeBuffer}
 use Rattle.bed_write.specs.Writing.{valueCode, firstBadCall}
 use Rattle.bed_write.specs.Groups.{orFour}
 use Rattle.bed_write.specs.Private.{byteIndex, CodesOfBytes, byTable}
 use Rattle.bed_write.proofs.FirstLaws.{code-found, code-lacking}
-use Rattle.genotype.proofs.Tabulate.{getD-inside}
+use Rattle.answer.proofs.Tabulate.{getD-inside}
 
 -- ---- the place of an i8
 turn : (z : ℤ) → ltZ z (pos 0) ≡ true → (negsuc 0 -ℤ z ≡ pos (mag z)) × (128 + mag z ≡ byteIndex z)

@@ -5,7 +5,7 @@ use mathlib.Core.Option.{some, none}
 use Prim.Native.Nat.{ℕ, _+_, _-_, _*_, _<_, _≤_}
 use native.Mathlib.Omega.{arith}
 use mir.Val.{boolByte}
-use Rattle.genotype.specs.Value.{Width, codeOf, sameOrNan}
+use Rattle.codes.specs.Value.{Width, codeOf, sameOrNan}
 use Rattle.bed_write.specs.Groups.{orFour}
 
 pub test-byte : (t : Bool) → boolByte t ≤ 1

@@ -11,13 +11,13 @@ use borrow.Author.Tests.{eq-eqb, ne-eqb}
 use lib.IntN.{pos}
 use lib.ListN.{length, getD, take, drop, set, length-take, length-drop, length-append, drop-of-length-le}
 use lib.Seq.{take-suc, drop-cons, set-at, length-take-le, take-all}
-use Rattle.genotype.specs.Answer.{done, refused, ifDone}
-use Rattle.genotype.specs.Block.{blockWidth}
-use Rattle.genotype.specs.Code.{packedByte, packed}
-use Rattle.genotype.specs.Lists.{tabulate}
-use Rattle.genotype.specs.Value.{Width}
-use Rattle.genotype.proofs.CodeLaws.{packed-length, width-room}
-use Rattle.genotype.proofs.Tabulate.{length-tabulate, getD-tabulate}
+use Rattle.answer.specs.Answer.{done, refused, ifDone}
+use Rattle.blocks.specs.Block.{blockWidth}
+use Rattle.codes.specs.Code.{groupByte, packedByte, packed}
+use Rattle.answer.specs.Lists.{tabulate}
+use Rattle.codes.specs.Value.{Width}
+use Rattle.codes.proofs.CodeLaws.{packed-length, width-room}
+use Rattle.answer.proofs.Tabulate.{length-tabulate, getD-tabulate}
 use Rattle.bed_write.specs.Packing.{placeCode, orZero, packedCodes, ifBad, firstBadAnimal, checkAnimal, encodeAnswer, encodeBuffer}
 use Rattle.bed_write.specs.Groups.{orFour, inGroup, Four}
 use Rattle.bed_write.proofs.FirstLaws.{first-all, code-known, place-coded}
@@ -89,7 +89,7 @@ module _ (w : Width) (flag : Bool) (missing : w .Value) (vals : List (w .Value))
         good-four (length vals) (placeCode w flag missing vals) b (λ j. orFour (placeCode w flag missing vals (4 * b + j * 1))) same c0 c1 c2 c3 q
         (λ k h. value-good (4 * b + k) h)
 
-    pub column-byte : b < blockWidth (length vals) → (v : ℕ) → v ≡ c0 + 4 * c1 + 16 * c2 + 64 * c3 → v ≡ getD (packedCodes (length vals) (placeCode w flag missing vals)) b 0
+    pub column-byte : b < blockWidth (length vals) → (v : ℕ) → v ≡ groupByte c0 c1 c2 c3 → v ≡ getD (packedCodes (length vals) (placeCode w flag missing vals)) b 0
     column-byte h v e =
         group-byte (length vals) (placeCode w flag missing vals) b (λ j. orFour (placeCode w flag missing vals (4 * b + j * 1))) same c0 c1 c2 c3 q v e column-codes
         ∙ sym (block-byte (length vals) (placeCode w flag missing vals) b h)
@@ -113,10 +113,7 @@ module _ (w : Width) (flag : Bool) (missing : w .Value) (vals : List (w .Value))
         full-four : Four (inGroup (length vals - 4 * b) (number b)) c0 c1 c2 c3
         full-four = full-group (length vals - 4 * b) (number b) c0 c1 c2 c3 (omega arith) (g (λ k x y. value-good (4 * b + k * 1) (omega arith)))
 
-        pub full-codes : (c0 < 4) × (c1 < 4) × (c2 < 4) × (c3 < 4)
-        full-codes = column-codes b c0 c1 c2 c3 full-four
-
-        pub full-more : (v : ℕ) → v ≡ c0 + 4 * c1 + 16 * c2 + 64 * c3 → Front new old (set out b v) (b + 1)
+        pub full-more : (v : ℕ) → v ≡ groupByte c0 c1 c2 c3 → Front new old (set out b v) (b + 1)
         full-more v e =
             let l = block-length (length vals) (placeCode w flag missing vals) in
             let i = full-there in
@@ -132,10 +129,7 @@ module _ (w : Width) (flag : Bool) (missing : w .Value) (vals : List (w .Value))
         last-four : Four (inGroup (length vals - 4 * b) (number b)) c0 c1 c2 c3
         last-four = g (λ k x y. value-good (4 * b + k * 1) (omega arith))
 
-        pub last-codes : (c0 < 4) × (c1 < 4) × (c2 < 4) × (c3 < 4)
-        last-codes = column-codes b c0 c1 c2 c3 last-four
-
-        pub last-done : length vals / 4 ≤ b → (v : ℕ) → v ≡ c0 + 4 * c1 + 16 * c2 + 64 * c3 → set out b v ≡ new
+        pub last-done : length vals / 4 ≤ b → (v : ℕ) → v ≡ groupByte c0 c1 c2 c3 → set out b v ≡ new
         last-done f v e =
             let l = block-length (length vals) (placeCode w flag missing vals) in
             let o = out-long in

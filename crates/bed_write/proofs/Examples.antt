@@ -8,10 +8,10 @@ use native.Mathlib.Omega.{arith}
 use lib.Dec.{lit≤}
 use lib.IntN.{ℤ, pos, negsuc}
 use lib.Ieee.{Float, nan, fin, eq}
-use Rattle.genotype.specs.Answer.{refused}
-use Rattle.genotype.specs.Block.{blockWidth, checkSize}
-use Rattle.genotype.specs.Matrix.{matrixPlace}
-use Rattle.genotype.specs.Value.{i8, float, sameInt, sameOrNan, codeOf}
+use Rattle.answer.specs.Answer.{refused}
+use Rattle.blocks.specs.Block.{blockWidth, checkSize}
+use Rattle.answer.specs.Matrix.{matrixPlace}
+use Rattle.codes.specs.Value.{i8, float, sameInt, sameOrNan, codeOf}
 use Rattle.bed_write.specs.Packing.{placeCode, orElse, firstOf, ifBad, firstBadAnimal, checkAnimal, encodeAnswer, encodeBuffer}
 use Rattle.bed_write.specs.First.{IsFoundFirst, IsFirstBad, IsFirstBadCall, animalOf}
 use Rattle.bed_write.specs.Writing.{valueCode, firstBadCall, checkCall, checkBuffers, writeAnswer}

@@ -6,10 +6,10 @@ use mathlib.Core.Option.{Option, some, none}
 use Prim.Native.Nat.{ℕ, zero, suc, _<_}
 use native.Mathlib.Omega.{arith}
 use lib.ListN.{length, getD}
-use Rattle.genotype.specs.Value.{Width, codeOf, sameOrNan}
+use Rattle.codes.specs.Value.{Width, codeOf, sameOrNan}
 use Rattle.bed_write.specs.Packing.{placeCode, orZero, orElse, firstOf, ifBad}
 use Rattle.bed_write.specs.Groups.{orFour}
-use Rattle.genotype.proofs.Tabulate.{getD-inside}
+use Rattle.answer.proofs.Tabulate.{getD-inside}
 
 pub first-none : {A : Type 0} (n : ℕ) (f : ℕ → Option A) → ((k : ℕ) → k < n → f k ≡ none) → firstOf n f ≡ none
 unfolding firstOf

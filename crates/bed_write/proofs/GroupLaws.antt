@@ -7,10 +7,11 @@ use native.Mathlib.Nat.{add-zero}
 use native.Mathlib.Omega.{arith}
 use borrow.Author.Tests.{lt-ltb, le-ltb}
 use lib.ListN.{getD, List·getD-eq-default}
-use Rattle.genotype.specs.Code.{packedByte}
-use Rattle.genotype.specs.Lists.{tabulate}
-use Rattle.genotype.proofs.Tests.{by-lt}
-use Rattle.genotype.proofs.Tabulate.{length-tabulate, getD-tabulate}
+use Rattle.codes.proofs.CodeLaws.{codes-byte}
+use Rattle.codes.specs.Code.{groupByte, packedByte}
+use Rattle.answer.specs.Lists.{tabulate}
+use Rattle.answer.proofs.Tests.{by-lt}
+use Rattle.answer.proofs.Tabulate.{length-tabulate, getD-tabulate}
 use Rattle.bed_write.specs.Packing.{orZero}
 use Rattle.bed_write.specs.Groups.{orFour, inGroup, Four}
 use Rattle.bed_write.proofs.FirstLaws.{zero-four}
@@ -54,9 +55,10 @@ module _ (n : ℕ) (code : ℕ → Option ℕ) (b : ℕ) (number : ℕ → ℕ) 
 
   module _ (c0 c1 c2 c3 : ℕ) (q : Four (inGroup (n - 4 * b) number) c0 c1 c2 c3) where
     -- four codes make their byte of the packed block
-    pub group-byte : (v : ℕ) → v ≡ c0 + 4 * c1 + 16 * c2 + 64 * c3 → (c0 < 4) × (c1 < 4) × (c2 < 4) × (c3 < 4) → v ≡ packedByte codes b
+    pub group-byte : (v : ℕ) → v ≡ groupByte c0 c1 c2 c3 → (c0 < 4) × (c1 < 4) × (c2 < 4) × (c3 < 4) → v ≡ packedByte codes b
     unfolding packedByte
     group-byte v e (h0, h1, h2, h3) =
+        let eb = codes-byte c0 c1 c2 c3 (h0, h1, h2, h3) in
         let e0 : c0 ≡ getD codes (4 * b) 0 = q .at-0 ∙ packed-there 0 (omega arith) (subst (λ (x : ℕ). x < 4) (q .at-0) h0) ∙ ap (λ (k : ℕ). getD codes k 0) (add-zero (4 * b)) in
         let e1 : c1 ≡ getD codes (4 * b + 1) 0 = q .at-1 ∙ packed-there 1 (omega arith) (subst (λ (x : ℕ). x < 4) (q .at-1) h1) in
         let e2 : c2 ≡ getD codes (4 * b + 2) 0 = q .at-2 ∙ packed-there 2 (omega arith) (subst (λ (x : ℕ). x < 4) (q .at-2) h2) in

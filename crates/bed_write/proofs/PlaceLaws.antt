@@ -11,11 +11,11 @@ use lib.IntN.{ℤ, pos}
 use lib.Ieee.{Float}
 use lib.ListN.{length, getD}
 use lib.Signed.{mag}
-use Rattle.genotype.specs.Value.{Width, i8, float, codeOf}
-use Rattle.genotype.specs.Code.{packedByte}
-use Rattle.genotype.specs.Lists.{tabulate}
-use Rattle.genotype.specs.Matrix.{matrixPlace}
-use Rattle.genotype.proofs.MatrixLaws.{place-below}
+use Rattle.codes.specs.Value.{Width, i8, float, codeOf}
+use Rattle.codes.specs.Code.{groupByte, packedByte}
+use Rattle.answer.specs.Lists.{tabulate}
+use Rattle.answer.specs.Matrix.{matrixPlace}
+use Rattle.answer.proofs.MatrixLaws.{place-below}
 use Rattle.bed_write.specs.Packing.{placeCode, orZero}
 use Rattle.bed_write.specs.Writing.{valueCode}
 use Rattle.bed_write.specs.Groups.{orFour, inGroup, Four}
@@ -89,13 +89,13 @@ module _ (number : ℕ → ℕ) (order : Bool) (iids sids : ℕ) where
       unfolding orFour placed
       same k h g = ap number (walk k)
 
-      pub matrix-codes : (c0 < 4) × (c1 < 4) × (c2 < 4) × (c3 < 4)
+      matrix-codes : (c0 < 4) × (c1 < 4) × (c2 < 4) × (c3 < 4)
       unfolding orFour
       matrix-codes =
           good-four iids code b (λ j. number (start + j * stride)) same c0 c1 c2 c3 q
           (λ k h. none-over iids sids (placed number order iids sids) good (4 * b + k) m h hm)
 
-      pub matrix-byte : (v : ℕ) → v ≡ c0 + 4 * c1 + 16 * c2 + 64 * c3 → v ≡ packedByte (tabulate iids (λ a. placed number order iids sids a m)) b
+      pub matrix-byte : (v : ℕ) → v ≡ groupByte c0 c1 c2 c3 → v ≡ packedByte (tabulate iids (λ a. placed number order iids sids a m)) b
       unfolding orZero
       matrix-byte v e = group-byte iids code b (λ j. number (start + j * stride)) same c0 c1 c2 c3 q v e matrix-codes
 

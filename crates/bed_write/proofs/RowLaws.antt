@@ -9,11 +9,11 @@ use borrow.Author.Tests.{eqb-true, eqb-false}
 use lib.Dec.{eqb}
 use lib.ListN.{length, getD, set, length-set}
 use lib.Seq.{getD-set-same, getD-set-other, ext-getD}
-use Rattle.genotype.specs.Block.{blockWidth}
-use Rattle.genotype.specs.Code.{packedByte}
-use Rattle.genotype.specs.Lists.{tabulate}
-use Rattle.genotype.proofs.CodeLaws.{width-room}
-use Rattle.genotype.proofs.Tests.{by-test, by-lt}
+use Rattle.blocks.specs.Block.{blockWidth}
+use Rattle.codes.specs.Code.{packedByte}
+use Rattle.answer.specs.Lists.{tabulate}
+use Rattle.codes.proofs.CodeLaws.{width-room}
+use Rattle.answer.proofs.Tests.{by-test, by-lt}
 use Rattle.bed_write.specs.Writing.{bedFile}
 use Rattle.bed_write.proofs.BedLaws.{bed-length, bed-byte}
 

@@ -8,10 +8,10 @@ use native.Mathlib.Nat.{le-refl}
 use native.Mathlib.Omega.{arith}
 use borrow.Author.Tests.{lt-ltb, le-ltb}
 use lib.ListN.{length}
-use Rattle.genotype.specs.Value.{Width}
-use Rattle.genotype.specs.Matrix.{matrixPlace}
-use Rattle.genotype.proofs.MatrixLaws.{place-below}
-use Rattle.genotype.proofs.Tests.{by-lt}
+use Rattle.codes.specs.Value.{Width}
+use Rattle.answer.specs.Matrix.{matrixPlace}
+use Rattle.answer.proofs.MatrixLaws.{place-below}
+use Rattle.answer.proofs.Tests.{by-lt}
 use Rattle.bed_write.specs.Packing.{placeCode, orZero, firstOf, ifBad}
 use Rattle.bed_write.specs.Writing.{valueCode, firstBadCall, bedFile}
 use Rattle.bed_write.specs.Groups.{orFour}

@@ -7,10 +7,10 @@ use Prim.Native.Nat.{ℕ, zero, suc, _<_}
 use native.Mathlib.Omega.{arith}
 use lib.IntN.{ℤ}
 use lib.ListN.{length}
-use Rattle.genotype.specs.Answer.{refused, isDone}
-use Rattle.genotype.specs.Matrix.{matrixPlace}
-use Rattle.genotype.specs.Value.{Width}
-use Rattle.genotype.proofs.AnswerLaws.{old-if-not}
+use Rattle.answer.specs.Answer.{refused, isDone}
+use Rattle.answer.specs.Matrix.{matrixPlace}
+use Rattle.codes.specs.Value.{Width}
+use Rattle.answer.proofs.AnswerLaws.{old-if-not}
 use Rattle.bed_write.specs.Packing.{placeCode, packedCodes, orElse, firstOf, ifBad, firstBadAnimal, encodeAnswer, encodeBuffer}
 use Rattle.bed_write.specs.First.{IsFoundFirst, HasCode, IsFirstBad, IsFirstBadCall, animalOf}
 use Rattle.bed_write.specs.Writing.{valueCode, firstBadCall}

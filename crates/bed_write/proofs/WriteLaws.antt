@@ -9,12 +9,12 @@ use borrow.Author.Tests.{eqb-true, leb-true, eq-eqb, ne-eqb}
 use lib.Dec.{eqb, leb}
 use lib.IntN.{pos}
 use lib.ListN.{length}
-use Rattle.genotype.specs.Value.{Width}
-use Rattle.genotype.specs.Answer.{Answer, done, refused, check, countLimit, isDone}
-use Rattle.genotype.specs.Block.{blockWidth, fileLength, checkSize, divAnswer}
-use Rattle.genotype.specs.Matrix.{matrixPlace}
-use Rattle.genotype.proofs.AnswerLaws.{Stage, lets, refuses, check-stage, then-stage, heard, stays, check-passes, check-refuses, check-done, count-done, new-if-done, old-if-not}
-use Rattle.genotype.proofs.Widths.{Sized, width-given, size-stage}
+use Rattle.codes.specs.Value.{Width}
+use Rattle.answer.specs.Answer.{Answer, done, refused, check, countLimit, isDone}
+use Rattle.blocks.specs.Block.{blockWidth, fileLength, checkSize, divAnswer}
+use Rattle.answer.specs.Matrix.{matrixPlace}
+use Rattle.answer.proofs.AnswerLaws.{Stage, lets, refuses, check-stage, then-stage, heard, stays, check-passes, check-refuses, check-done, count-done, new-if-done, old-if-not}
+use Rattle.blocks.proofs.Widths.{Sized, width-given, size-stage}
 use Rattle.bed_write.specs.Packing.{orZero}
 use Rattle.bed_write.specs.Writing.{valueCode, firstBadCall, checkCall, checkBuffers, writeAnswer, bedFile, writeBuffer}
 use Rattle.bed_write.proofs.FirstLaws.{place-coded}

@@ -7,11 +7,11 @@ use Prim.Native.Nat.{ℕ, zero, suc}
 use lib.Dec.{eqb}
 use lib.IntN.{pos}
 use lib.ListN.{length, getD}
-use Rattle.genotype.specs.Answer.{Answer, done, refused, check, ifDone}
-use Rattle.genotype.specs.Block.{blockWidth}
-use Rattle.genotype.specs.Code.{packed}
-use Rattle.genotype.specs.Lists.{tabulate}
-use Rattle.genotype.specs.Value.{Width, codeOf}
+use Rattle.answer.specs.Answer.{Answer, done, refused, check, ifDone}
+use Rattle.blocks.specs.Block.{blockWidth}
+use Rattle.codes.specs.Code.{packed}
+use Rattle.answer.specs.Lists.{tabulate}
+use Rattle.codes.specs.Value.{Width, codeOf}
 
 -- the code of the value at a place of a list, if it has one
 unfoldable pub placeCode : (w : Width) → Bool → w .Value → List (w .Value) → ℕ → Option ℕ

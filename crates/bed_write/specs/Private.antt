@@ -8,10 +8,10 @@ use lib.Dec.{ltb}
 use lib.IntN.{ℤ, pos, negsuc}
 use lib.ListN.{getD}
 use lib.Signed.{mag}
-use Rattle.genotype.specs.Code.{packedByte}
-use Rattle.genotype.specs.Lists.{tabulate}
-use Rattle.genotype.specs.Matrix.{matrixPlace}
-use Rattle.genotype.specs.Value.{Width, i8, codeOf}
+use Rattle.codes.specs.Code.{packedByte}
+use Rattle.answer.specs.Lists.{tabulate}
+use Rattle.answer.specs.Matrix.{matrixPlace}
+use Rattle.codes.specs.Value.{Width, i8, codeOf}
 use Rattle.bed_write.specs.Packing.{placeCode, firstOf}
 use Rattle.bed_write.specs.Writing.{valueCode, firstBadCall}
 use Rattle.bed_write.specs.Groups.{orFour, inGroup, Four}

@@ -1,7 +1,7 @@
 -- What each answer enum of the code says: document 01's number and the values for each of its cases.
 use mathlib.Core.List.{[], _∷_}
 use lib.IntN.{pos}
-use Rattle.genotype.specs.Answer.{Answer, done, refused}
+use Rattle.answer.specs.Answer.{Answer, done, refused}
 use Rattle.bed_write.specs.declared.encode.EncodeAnswer.{EncodeAnswer}
 use Rattle.bed_write.specs.declared.encode.EncodeAnswer.the-variants as encodes
 use Rattle.bed_write.specs.declared.write.WriteAnswer.{WriteAnswer}

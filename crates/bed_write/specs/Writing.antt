@@ -7,12 +7,12 @@ use Prim.Native.Nat.{ℕ, zero, suc, _*_}
 use lib.Dec.{eqb}
 use lib.IntN.{pos}
 use lib.ListN.{length}
-use Rattle.genotype.specs.Answer.{Answer, done, refused, check, checkCount, ifDone}
-use Rattle.genotype.specs.Block.{fileLength, checkSize}
-use Rattle.genotype.specs.Code.{packed}
-use Rattle.genotype.specs.Lists.{tabulate}
-use Rattle.genotype.specs.Matrix.{matrixPlace}
-use Rattle.genotype.specs.Value.{Width}
+use Rattle.answer.specs.Answer.{Answer, done, refused, check, checkCount, ifDone}
+use Rattle.blocks.specs.Block.{fileLength, checkSize}
+use Rattle.codes.specs.Code.{packed}
+use Rattle.answer.specs.Lists.{tabulate}
+use Rattle.answer.specs.Matrix.{matrixPlace}
+use Rattle.codes.specs.Value.{Width}
 use Rattle.bed_write.specs.Packing.{placeCode, orZero, firstOf, ifBad}
 
 -- the code of the value of animal a at marker m of a matrix, in animal order (true) or marker order (false)

@@ -2,7 +2,7 @@
 pub mod encode_f64;
 pub mod encode_i8;
 
-use genotype::entries::IidIndex;
+use entries::IidIndex;
 
 pub enum EncodeAnswer {
     Done,

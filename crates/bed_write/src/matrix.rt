@@ -2,9 +2,9 @@
 ghost use mathlib.Core.Path.{_≡_};
 ghost use mathlib.Core.Bool.{cond};
 ghost use Prim.Native.Nat.{_*_, _^_, _<_};
-ghost use Rattle.genotype.specs.Matrix.{matrixPlace};
-use genotype::entries::IidIndex;
-use genotype::entries::SidIndex;
+ghost use Rattle.answer.specs.Matrix.{matrixPlace};
+use entries::IidIndex;
+use entries::SidIndex;
 
 // The place of an animal and a marker in the matrix.
 pub(crate) fn matrix_place(

@@ -2,8 +2,8 @@
 pub(crate) mod search_f64;
 pub(crate) mod search_i8;
 
-use genotype::entries::IidIndex;
-use genotype::entries::SidIndex;
+use entries::IidIndex;
+use entries::SidIndex;
 
 // The animal and the marker that are found, if any.
 pub enum BadCall {

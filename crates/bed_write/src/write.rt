@@ -2,16 +2,16 @@
 ghost use mathlib.Core.Path.{_≡_};
 ghost use mathlib.Core.List.{[]};
 ghost use Prim.Native.Nat.{_<_, _≤_};
-ghost use Rattle.genotype.specs.Answer.{done, isDone};
+ghost use Rattle.answer.specs.Answer.{done, isDone};
 ghost use Rattle.bed_write.specs.Writing.{checkBuffers};
 ghost use Rattle.bed_write.specs.Says.{writeSays};
 
 pub mod write_f64;
 pub mod write_i8;
 
-use genotype::blocks::DivAnswer;
-use genotype::entries::IidIndex;
-use genotype::entries::SidIndex;
+use blocks::DivAnswer;
+use entries::IidIndex;
+use entries::SidIndex;
 
 pub enum WriteAnswer {
     Done,
@@ -26,11 +26,11 @@ pub enum WriteAnswer {
 fn check_write(iid_count: usize, sid_count: usize, val_len: usize, out_len: usize) -> WriteAnswer
     ensures { λ r. ⌜ writeSays r ≡ checkBuffers «iid_count» «sid_count» «val_len» «out_len» (done []) ⌝ }
 {
-    match genotype::blocks::try_div_4(iid_count, sid_count) {
+    match blocks::try_div_4(iid_count, sid_count) {
         DivAnswer::CountTooLarge => WriteAnswer::CountTooLarge,
         DivAnswer::IndexesTooBigForFiles => WriteAnswer::IndexesTooBigForFiles,
         DivAnswer::Width(width) => {
-            if genotype::blocks::product_is(iid_count, sid_count, val_len) {
+            if blocks::product_is(iid_count, sid_count, val_len) {
                 if out_len == width * sid_count + 3 {
                     return WriteAnswer::Done;
                 }

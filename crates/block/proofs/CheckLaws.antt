@@ -8,12 +8,12 @@ use borrow.Author.Tests.{eq-eqb, ne-eqb, eqb-true, lt-ltb, le-ltb}
 use lib.Dec.{eqb}
 use lib.IntN.{pos}
 use lib.ListN.{length, getD}
-use Rattle.genotype.specs.Answer.{Answer, done, refused, isDone, countLimit}
-use Rattle.genotype.specs.Block.{blockWidth}
-use Rattle.genotype.specs.Code.{codeAt, itemCode}
-use Rattle.genotype.specs.Entry.{isGood, firstBad}
-use Rattle.genotype.proofs.AnswerLaws.{check-passes, check-refuses, check-done, entry-passes, entry-refuses, count-passes, count-refuses, count-done}
-use Rattle.genotype.proofs.CodeLaws.{width-room}
+use Rattle.answer.specs.Answer.{Answer, done, refused, isDone, countLimit}
+use Rattle.blocks.specs.Block.{blockWidth}
+use Rattle.codes.specs.Code.{codeAt, itemCode}
+use Rattle.entries.specs.Entry.{isGood, firstBad}
+use Rattle.answer.proofs.AnswerLaws.{check-passes, check-refuses, check-done, entry-passes, entry-refuses, count-passes, count-refuses, count-done}
+use Rattle.codes.proofs.CodeLaws.{width-room}
 use Rattle.block.specs.Blocks.{checkBytes, checkColumn, codeAnswer, decodeAnswer}
 
 -- ---- 18 and 15

@@ -6,16 +6,16 @@ use Prim.Native.Nat.{ℕ, _+_, _*_, _/_, _%_, _<_, _≤_}
 use native.Mathlib.Omega.{arith}
 use lib.ListN.{length, getD, set, length-set}
 use lib.Seq.{getD-set-same, getD-set-other}
-use Rattle.genotype.specs.Answer.{isDone}
-use Rattle.genotype.specs.Code.{codeAt, itemCode, codeTable}
-use Rattle.genotype.specs.Lists.{tabulate}
-use Rattle.genotype.specs.Value.{Width, values, valueOf}
-use Rattle.genotype.proofs.AnswerLaws.{new-if-done, old-if-not}
-use Rattle.genotype.proofs.CodeLaws.{table-at, item-below}
-use Rattle.genotype.proofs.Tabulate.{tabulate-ext, is-tabulate, getD-inside}
-use Rattle.genotype.proofs.Tests.{by-lt}
+use Rattle.answer.specs.Answer.{isDone}
+use Rattle.codes.specs.Code.{codeAt, itemCode, codeTable}
+use Rattle.answer.specs.Lists.{tabulate}
+use Rattle.codes.specs.Value.{Width, values, valueOf}
+use Rattle.answer.proofs.AnswerLaws.{new-if-done, old-if-not}
+use Rattle.codes.proofs.CodeLaws.{table-at, item-below}
+use Rattle.answer.proofs.Tabulate.{tabulate-ext, is-tabulate, getD-inside}
+use Rattle.answer.proofs.Tests.{by-lt}
 use Rattle.block.specs.Blocks.{decodeAnswer, columnOf, decodeBuffer}
-use Rattle.genotype.proofs.ValueLaws.{four-values}
+use Rattle.codes.proofs.ValueLaws.{four-values}
 
 -- the code of an item, by the table
 pub by-table :

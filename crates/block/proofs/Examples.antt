@@ -6,11 +6,11 @@ use Prim.Native.Nat.{ℕ}
 use lib.Dec.{lit≤}
 use lib.IntN.{ℤ, pos, negsuc}
 use lib.ListN.{getD}
-use Rattle.genotype.specs.Answer.{refused, check, checkCount, isDone, ifDone}
-use Rattle.genotype.specs.Block.{blockWidth}
-use Rattle.genotype.specs.Code.{packedByte, packed}
-use Rattle.genotype.specs.Lists.{tabulate}
-use Rattle.genotype.specs.Value.{i8, sameInt, sameOrNan, codeOf}
+use Rattle.answer.specs.Answer.{refused, check, checkCount, isDone, ifDone}
+use Rattle.blocks.specs.Block.{blockWidth}
+use Rattle.codes.specs.Code.{packedByte, packed}
+use Rattle.answer.specs.Lists.{tabulate}
+use Rattle.codes.specs.Value.{i8, sameInt, sameOrNan, codeOf}
 use Rattle.bed_write.specs.Packing.{placeCode, orZero, packedCodes, orElse, firstOf, ifBad, firstBadAnimal, checkAnimal}
 use Rattle.block.specs.Blocks.{checkBytes, packAnswer, packBuffer, decodeBuffer}
 use Rattle.block.proofs.Theorems.{packed-read-back, refused-unchanged}

@@ -6,9 +6,9 @@ use Prim.Native.Nat.{ℕ, _≤_, _<_}
 use borrow.Author.Tests.{eq-eqb, ne-eqb}
 use lib.Dec.{eqb}
 use lib.ListN.{length}
-use Rattle.genotype.specs.Answer.{Answer, done, refused, check, isDone, ifDone, countLimit}
-use Rattle.genotype.specs.Block.{blockWidth}
-use Rattle.genotype.proofs.AnswerLaws.{check-passes, check-refuses, count-passes, count-refuses, old-if-not}
+use Rattle.answer.specs.Answer.{Answer, done, refused, check, isDone, ifDone, countLimit}
+use Rattle.blocks.specs.Block.{blockWidth}
+use Rattle.answer.proofs.AnswerLaws.{check-passes, check-refuses, count-passes, count-refuses, old-if-not}
 use Rattle.bed_write.specs.Packing.{packedCodes, firstBadAnimal, checkAnimal, encodeAnswer, encodeBuffer}
 use Rattle.block.specs.Blocks.{packAnswer, packBuffer}
 use Rattle.block.proofs.CheckLaws.{bytes-refuse, bytes-pass}

@@ -8,16 +8,16 @@ use native.Mathlib.Omega.{arith}
 use lib.Dec.{eqb}
 use lib.IntN.{ℤ}
 use lib.ListN.{length, getD, List·getD-eq-default}
-use Rattle.genotype.specs.Answer.{done, refused, isDone, countLimit}
-use Rattle.genotype.specs.Block.{blockWidth}
-use Rattle.genotype.specs.Code.{itemCode}
-use Rattle.genotype.specs.Lists.{tabulate}
-use Rattle.genotype.specs.Value.{Width, sameOrNan, valueOf}
-use Rattle.genotype.proofs.AnswerLaws.{check-done, count-done, new-if-done, old-if-not}
-use Rattle.genotype.proofs.CodeLaws.{Codes, packed-code}
-use Rattle.genotype.proofs.Tabulate.{length-tabulate, getD-tabulate}
-use Rattle.genotype.proofs.Tests.{by-lt}
-use Rattle.genotype.proofs.ValueLaws.{decode-encode}
+use Rattle.answer.specs.Answer.{done, refused, isDone, countLimit}
+use Rattle.blocks.specs.Block.{blockWidth}
+use Rattle.codes.specs.Code.{itemCode}
+use Rattle.answer.specs.Lists.{tabulate}
+use Rattle.codes.specs.Value.{Width, sameOrNan, valueOf}
+use Rattle.answer.proofs.AnswerLaws.{check-done, count-done, new-if-done, old-if-not}
+use Rattle.codes.proofs.CodeLaws.{Codes, packed-code}
+use Rattle.answer.proofs.Tabulate.{length-tabulate, getD-tabulate}
+use Rattle.answer.proofs.Tests.{by-lt}
+use Rattle.codes.proofs.ValueLaws.{decode-encode}
 use Rattle.bed_write.specs.Packing.{placeCode, orZero, packedCodes, ifBad, firstBadAnimal, checkAnimal}
 use Rattle.bed_write.proofs.EncodeLaws.{block-length}
 use Rattle.bed_write.proofs.FirstLaws.{first-all, not-bad, zero-below, place-coded}

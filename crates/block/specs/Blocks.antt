@@ -8,12 +8,12 @@ use Prim.Native.Nat.{ℕ}
 use lib.Dec.{eqb}
 use lib.IntN.{pos}
 use lib.ListN.{length}
-use Rattle.genotype.specs.Answer.{Answer, done, check, checkCount, checkEntry, ifDone}
-use Rattle.genotype.specs.Block.{blockWidth}
-use Rattle.genotype.specs.Code.{itemCode}
-use Rattle.genotype.specs.Entry.{firstBad}
-use Rattle.genotype.specs.Lists.{tabulate}
-use Rattle.genotype.specs.Value.{Width, valueOf}
+use Rattle.answer.specs.Answer.{Answer, done, check, checkCount, checkEntry, ifDone}
+use Rattle.blocks.specs.Block.{blockWidth}
+use Rattle.codes.specs.Code.{itemCode}
+use Rattle.entries.specs.Entry.{firstBad}
+use Rattle.answer.specs.Lists.{tabulate}
+use Rattle.codes.specs.Value.{Width, valueOf}
 use Rattle.bed_write.specs.Packing.{placeCode, packedCodes, firstBadAnimal, checkAnimal}
 
 -- 16: "packed buffer has the wrong length": a block has as many bytes as its animal count's block width

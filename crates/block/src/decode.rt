@@ -4,14 +4,14 @@ ghost use Prim.Native.Nat.{_<_, _/_};
 ghost use lib.Ieee.{nan};
 ghost use lib.IntN.{pos};
 ghost use lib.ListN.{length, getD};
-ghost use Rattle.genotype.specs.Answer.{isDone};
-ghost use Rattle.genotype.specs.Block.{blockWidth};
-ghost use Rattle.genotype.specs.Code.{itemCode, codeTable};
-ghost use Rattle.genotype.specs.Lists.{tabulate};
-ghost use Rattle.genotype.specs.Value.{i8, float};
+ghost use Rattle.answer.specs.Answer.{isDone};
+ghost use Rattle.blocks.specs.Block.{blockWidth};
+ghost use Rattle.codes.specs.Code.{itemCode, codeTable};
+ghost use Rattle.answer.specs.Lists.{tabulate};
+ghost use Rattle.codes.specs.Value.{i8, float};
 ghost use Rattle.block.specs.Blocks.{codeAnswer, decodeAnswer, Decodes};
 ghost use Rattle.block.specs.Says.{codeSays, decodeSays};
-use genotype::entries::IidIndex;
+use entries::IidIndex;
 
 pub enum CodeAnswer {
     Code(u8),
@@ -31,16 +31,16 @@ pub enum DecodeAnswer {
 pub(crate) fn code_of_iid(bytes: &[u8], iid_count: usize, iid: IidIndex) -> CodeAnswer
     ensures { λ r. ⌜ codeSays r ≡ codeAnswer (now (bytes .entry)) «iid_count» (iid .0) ⌝ }
 {
-    if iid_count > 9223372036854775807 {
+    if iid_count > answer::COUNT_LIMIT {
         return CodeAnswer::CountTooLarge;
     }
-    if bytes.len() != genotype::blocks::block_width(iid_count) {
+    if bytes.len() != blocks::block_width(iid_count) {
         return CodeAnswer::EncodingLength;
     }
     let item = iid.0;
     if item < iid_count {
         let byte = item / 4;
-        let code = genotype::codes::code_of_item(bytes[byte], item);
+        let code = codes::code_of_item(bytes[byte], item);
         return CodeAnswer::Code(code);
     }
     CodeAnswer::IidIndexTooBig(iid)
@@ -49,13 +49,13 @@ pub(crate) fn code_of_iid(bytes: &[u8], iid_count: usize, iid: IidIndex) -> Code
 fn check_decode(byte_count: usize, iid_count: usize, out_len: usize) -> DecodeAnswer
     ensures { λ r. ⌜ decodeSays r ≡ decodeAnswer «byte_count» «iid_count» «out_len» ⌝ }
 {
-    if iid_count > 9223372036854775807 {
+    if iid_count > answer::COUNT_LIMIT {
         return DecodeAnswer::CountTooLarge;
     }
     if out_len != iid_count {
         return DecodeAnswer::IndexMismatch;
     }
-    if byte_count != genotype::blocks::block_width(iid_count) {
+    if byte_count != blocks::block_width(iid_count) {
         return DecodeAnswer::EncodingLength;
     }
     DecodeAnswer::Done
@@ -125,8 +125,8 @@ pub(crate) fn decode1_i8(
 {
     let checked = check_decode(bytes.len(), iid_count, out.len());
     if is_done(checked) {
-        let codes = genotype::codes::codes();
-        let values = genotype::values::set_up_two_bits_to_value_i8(is_a1_counted, missing_value);
+        let codes = codes::codes();
+        let values = codes::set_up_two_bits_to_value_i8(is_a1_counted, missing_value);
         fill_i8(bytes, &codes, &values, out);
     }
     checked
@@ -143,8 +143,8 @@ pub(crate) fn decode1_f64(
 {
     let checked = check_decode(bytes.len(), iid_count, out.len());
     if is_done(checked) {
-        let codes = genotype::codes::codes();
-        let values = genotype::values::set_up_two_bits_to_value_f64(is_a1_counted, missing_value);
+        let codes = codes::codes();
+        let values = codes::set_up_two_bits_to_value_f64(is_a1_counted, missing_value);
         fill_f64(bytes, &codes, &values, out);
     }
     checked

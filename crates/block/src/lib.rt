@@ -2,7 +2,7 @@
 // which does the work.
 ghost use mathlib.Core.Path.{_≡_};
 ghost use lib.ListN.{length};
-ghost use Rattle.genotype.specs.Value.{i8, float};
+ghost use Rattle.codes.specs.Value.{i8, float};
 ghost use Rattle.block.specs.Blocks.{codeAnswer, Decodes, Packs};
 ghost use Rattle.block.specs.Says.{codeSays, decodeSays, packSays};
 
@@ -11,7 +11,7 @@ mod pack;
 
 pub use decode::CodeAnswer;
 pub use decode::DecodeAnswer;
-use genotype::entries::IidIndex;
+use entries::IidIndex;
 pub use pack::PackAnswer;
 
 // A block to be decoded.

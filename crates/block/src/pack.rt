@@ -1,9 +1,9 @@
 // Packing a block, with plain parameters.
-ghost use Rattle.genotype.specs.Value.{i8, float};
+ghost use Rattle.codes.specs.Value.{i8, float};
 ghost use Rattle.block.specs.Blocks.{Packs};
 ghost use Rattle.block.specs.Says.{packSays};
 use bed_write::EncodeAnswer;
-use genotype::entries::IidIndex;
+use entries::IidIndex;
 
 pub enum PackAnswer {
     Done,
@@ -23,10 +23,10 @@ pub(crate) fn pack1_i8(
 ) -> PackAnswer
     ensures { λ r. ⌜ Packs i8 «is_a1_counted» missing (now («in_vector» .entry)) «iid_count» (packSays r) (now (bytes .entry)) (now (bytes .exit)) ⌝ }
 {
-    if iid_count > 9223372036854775807 {
+    if iid_count > answer::COUNT_LIMIT {
         return PackAnswer::CountTooLarge;
     }
-    if bytes.len() != genotype::blocks::block_width(iid_count) {
+    if bytes.len() != blocks::block_width(iid_count) {
         return PackAnswer::EncodingLength;
     }
     if in_vector.len() != iid_count {
@@ -48,10 +48,10 @@ pub(crate) fn pack1_f64(
 ) -> PackAnswer
     ensures { λ r. ⌜ Packs float «is_a1_counted» missing (now («in_vector» .entry)) «iid_count» (packSays r) (now (bytes .entry)) (now (bytes .exit)) ⌝ }
 {
-    if iid_count > 9223372036854775807 {
+    if iid_count > answer::COUNT_LIMIT {
         return PackAnswer::CountTooLarge;
     }
-    if bytes.len() != genotype::blocks::block_width(iid_count) {
+    if bytes.len() != blocks::block_width(iid_count) {
         return PackAnswer::EncodingLength;
     }
     if in_vector.len() != iid_count {

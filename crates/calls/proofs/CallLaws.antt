@@ -8,10 +8,10 @@ use native.Mathlib.Omega.{arith}
 use lib.Arith.{digits-lt}
 use lib.ListN.{length, getD, take, drop, length-take, List·getD-eq-default}
 use lib.Seq.{getD-take, getD-drop}
-use Rattle.genotype.specs.Block.{blockWidth, fileLength}
-use Rattle.genotype.specs.Code.{codeAt, itemCode}
-use Rattle.genotype.proofs.CodeLaws.{item-below, width-room}
-use Rattle.genotype.proofs.Tests.{by-lt}
+use Rattle.blocks.specs.Block.{blockWidth, fileLength}
+use Rattle.codes.specs.Code.{codeAt, itemCode}
+use Rattle.codes.proofs.CodeLaws.{item-below, width-room}
+use Rattle.answer.proofs.Tests.{by-lt}
 use Rattle.bed_file.specs.File.{isMode1, items, blocks}
 use Rattle.calls.specs.Calls.{block, codeIn, callCode}
 

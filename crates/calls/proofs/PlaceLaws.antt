@@ -8,9 +8,9 @@ use native.Mathlib.Omega.{arith}
 use borrow.Author.Tests.{le-leb, lt-leb, leb-true, leb-false}
 use lib.Dec.{eqb, leb}
 use lib.ListN.{length, getD, take, drop, List·getD-eq-default}
-use Rattle.genotype.specs.Block.{blockWidth, fileLength}
-use Rattle.genotype.specs.Code.{codeAt, itemCode}
-use Rattle.genotype.proofs.Tests.{by-lt}
+use Rattle.blocks.specs.Block.{blockWidth, fileLength}
+use Rattle.codes.specs.Code.{codeAt, itemCode}
+use Rattle.answer.proofs.Tests.{by-lt}
 use Rattle.bed_file.specs.File.{isMode1, items, blocks}
 use Rattle.calls.specs.Calls.{callCode}
 use Rattle.calls.specs.declared.Part.{Part}

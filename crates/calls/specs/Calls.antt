@@ -3,8 +3,8 @@ use mathlib.Core.Bool.{Bool, true, false}
 use mathlib.Core.List.{List}
 use Prim.Native.Nat.{ℕ, _+_, _*_}
 use lib.ListN.{take, drop}
-use Rattle.genotype.specs.Block.{blockWidth}
-use Rattle.genotype.specs.Code.{itemCode}
+use Rattle.blocks.specs.Block.{blockWidth}
+use Rattle.codes.specs.Code.{itemCode}
 use Rattle.bed_file.specs.File.{isMode1}
 
 -- "Its blocks stand in order from byte 3.": block b, of blocks for a number of items

@@ -5,7 +5,7 @@ use mathlib.Core.List.{List}
 use Prim.Native.Nat.{ℕ, _+_, _-_, _*_, _/_, _%_, _^_}
 use lib.Dec.{leb}
 use lib.ListN.{length}
-use Rattle.genotype.specs.Block.{blockWidth, fileLength}
+use Rattle.blocks.specs.Block.{blockWidth, fileLength}
 use Rattle.bed_file.specs.File.{isMode1, items, blocks}
 use Rattle.calls.specs.declared.Part.{Part}
 use Rattle.calls.specs.declared.Shape.{Shape}

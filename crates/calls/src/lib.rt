@@ -3,12 +3,12 @@ ghost use mathlib.Core.Path.{_≡_};
 ghost use mathlib.Core.Bool.{true, false};
 ghost use Prim.Native.Nat.{_+_, _*_, _/_, _%_};
 ghost use lib.ListN.{take, drop};
-ghost use Rattle.genotype.specs.Code.{itemCode};
+ghost use Rattle.codes.specs.Code.{itemCode};
 ghost use Rattle.bed_file.specs.File.{isMode1};
 ghost use Rattle.calls.specs.Calls.{callCode};
 ghost use Rattle.calls.specs.Places.{IsShape, isBlock, IsPart};
-use genotype::entries::IidIndex;
-use genotype::entries::SidIndex;
+use entries::IidIndex;
+use entries::SidIndex;
 
 // How a file holds its calls: its mode, the width of a block, the counts of animals and markers.
 pub struct Shape {
@@ -40,14 +40,14 @@ pub fn shape_of(file: &[u8], iid_count: usize, sid_count: usize) -> Shape
     if is_mode_1(file) {
         return Shape {
             mode1: true,
-            width: genotype::blocks::block_width(iid_count),
+            width: blocks::block_width(iid_count),
             iids: iid_count,
             sids: sid_count,
         };
     }
     Shape {
         mode1: false,
-        width: genotype::blocks::block_width(sid_count),
+        width: blocks::block_width(sid_count),
         iids: iid_count,
         sids: sid_count,
     }
@@ -66,7 +66,7 @@ fn item_part(item: usize) -> Part
 fn block_part(width: usize, block: usize) -> Part
     ensures { λ r. ⌜ IsPart true width block r ⌝ }
 {
-    if genotype::blocks::product_at_most(block, width, 18446744073709551612) {
+    if blocks::product_at_most(block, width, 18446744073709551612) {
         let start = 3 + block * width;
         return Part {
             byte: start,
@@ -108,7 +108,7 @@ fn item_code(file: &[u8], width: usize, block: usize, item: usize) -> u8
         if start < file.len() {
             if item / 4 < file.len() - start {
                 let byte = file[start + item / 4];
-                return genotype::codes::code_of_item(byte, item);
+                return codes::code_of_item(byte, item);
             }
         }
     }

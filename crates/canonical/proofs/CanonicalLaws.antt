@@ -8,10 +8,10 @@ use borrow.Author.Tests.{eqb-true, eq-eqb, ne-eqb, leb-true}
 use lib.Dec.{eqb, leb}
 use lib.IntN.{pos}
 use lib.ListN.{length}
-use Rattle.genotype.specs.Answer.{Answer, done, refused, check, checkCount, isDone}
-use Rattle.genotype.specs.Block.{blockWidth, fileLength, checkSize, divAnswer}
-use Rattle.genotype.proofs.AnswerLaws.{Stage, count-stage, then-stage, heard, stays, check-passes, check-refuses, check-done, count-done, count-passes, new-if-done, old-if-not, before-later}
-use Rattle.genotype.proofs.Widths.{Sized, width-given, size-stage}
+use Rattle.answer.specs.Answer.{Answer, done, refused, check, checkCount, isDone}
+use Rattle.blocks.specs.Block.{blockWidth, fileLength, checkSize, divAnswer}
+use Rattle.answer.proofs.AnswerLaws.{Stage, count-stage, then-stage, heard, stays, check-passes, check-refuses, check-done, count-done, count-passes, new-if-done, old-if-not, before-later}
+use Rattle.blocks.proofs.Widths.{Sized, width-given, size-stage}
 use Rattle.bed_file.specs.File.{checkFile, acceptAnswer}
 use Rattle.bed_file.proofs.FileLaws.{Accepted, accepted, file-stage}
 use Rattle.calls.specs.declared.Shape.{Shape}

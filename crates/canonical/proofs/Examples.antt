@@ -7,11 +7,11 @@ use native.Mathlib.Omega.{arith}
 use borrow.Author.Tests.{eq-eqb, le-leb}
 use lib.Dec.{leb, eqb}
 use lib.ListN.{length, getD}
-use Rattle.genotype.specs.Answer.{Answer, done, refused, check}
-use Rattle.genotype.specs.Block.{blockWidth, fileLength, checkSize}
-use Rattle.genotype.specs.Code.{codeAt, itemCode, packedByte, packed}
-use Rattle.genotype.specs.Lists.{tabulate}
-use Rattle.genotype.proofs.AnswerLaws.{count-passes, check-passes, check-refuses}
+use Rattle.answer.specs.Answer.{Answer, done, refused, check}
+use Rattle.blocks.specs.Block.{blockWidth, fileLength, checkSize}
+use Rattle.codes.specs.Code.{codeAt, itemCode, packedByte, packed}
+use Rattle.answer.specs.Lists.{tabulate}
+use Rattle.answer.proofs.AnswerLaws.{count-passes, check-passes, check-refuses}
 use Rattle.bed_file.specs.File.{isMode1, items, blocks, checkFile, checkMode, checkLength}
 use Rattle.bed_file.proofs.FileLaws.{open-good}
 use Rattle.calls.specs.Calls.{block, codeIn, callCode}

@@ -6,12 +6,12 @@ use Prim.Native.Nat.{ℕ, zero, suc, _+_, _-_, _*_, _/_, _%_, _^_, _<_, _≤_}
 use native.Mathlib.Nat.{add-zero}
 use native.Mathlib.Omega.{arith}
 use lib.ListN.{length, getD, List·getD-eq-default}
-use Rattle.genotype.specs.Block.{blockWidth, fileLength}
-use Rattle.genotype.specs.Code.{codeAt, packedByte}
-use Rattle.genotype.specs.Lists.{tabulate}
-use Rattle.genotype.proofs.Tabulate.{length-tabulate, getD-tabulate}
+use Rattle.blocks.specs.Block.{blockWidth, fileLength}
+use Rattle.codes.specs.Code.{codeAt, packedByte}
+use Rattle.answer.specs.Lists.{tabulate}
+use Rattle.answer.proofs.Tabulate.{length-tabulate, getD-tabulate}
 use Rattle.bed_file.specs.File.{items, blocks}
-use Rattle.genotype.proofs.CodeLaws.{quarters}
+use Rattle.codes.proofs.CodeLaws.{quarters}
 use Rattle.calls.specs.declared.Shape.{Shape}
 use Rattle.calls.specs.Calls.{codeIn, callCode}
 use Rattle.calls.specs.Places.{Shaped, isBlock, partByte, inWord}

@@ -6,9 +6,9 @@ use Prim.Native.Nat.{ℕ, _-_, _^_, _<_, _≤_}
 use borrow.Author.Tests.{eq-eqb, le-leb}
 use lib.Dec.{eqb, leb}
 use lib.ListN.{length}
-use Rattle.genotype.specs.Answer.{done, isDone}
-use Rattle.genotype.specs.Block.{fileLength, checkSize}
-use Rattle.genotype.proofs.AnswerLaws.{check-passes, count-passes, new-if-done}
+use Rattle.answer.specs.Answer.{done, isDone}
+use Rattle.blocks.specs.Block.{fileLength, checkSize}
+use Rattle.answer.proofs.AnswerLaws.{check-passes, count-passes, new-if-done}
 use Rattle.bed_file.specs.File.{acceptAnswer}
 use Rattle.bed_file.proofs.FileLaws.{accepted}
 use Rattle.calls.specs.Calls.{callCode}

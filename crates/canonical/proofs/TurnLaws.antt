@@ -7,10 +7,10 @@ use Prim.Native.Nat.{ℕ, zero, suc, _+_, _-_, _*_, _%_, _^_, _<_, _≤_}
 use native.Mathlib.Nat.{add-zero}
 use native.Mathlib.Omega.{arith}
 use lib.ListN.{length, getD}
-use Rattle.genotype.specs.Code.{codeAt, codeTable, packedByte}
-use Rattle.genotype.specs.Lists.{tabulate}
-use Rattle.genotype.proofs.CodeLaws.{code-below, table-at}
-use Rattle.genotype.proofs.Tests.{by-lt}
+use Rattle.codes.specs.Code.{groupByte, codeAt, codeTable, packedByte}
+use Rattle.answer.specs.Lists.{tabulate}
+use Rattle.codes.proofs.CodeLaws.{code-below, table-at}
+use Rattle.answer.proofs.Tests.{by-lt}
 use Rattle.calls.specs.declared.Part.{Part}
 use Rattle.calls.specs.declared.Shape.{Shape}
 use Rattle.calls.specs.Calls.{callCode}
@@ -36,7 +36,7 @@ code-held codes file start x item left k t e h p l =
     ∙ held-there left (λ _. codeAt (getD file (start + item .byte) 0) (item .place)) k l
 
 -- what a group holds are codes
-pub held-below : (file starts : List ℕ) (item : Part) (left k c : ℕ) → c ≡ inGroup left (groupCode file starts item) k → c < 4
+held-below : (file starts : List ℕ) (item : Part) (left k c : ℕ) → c ≡ inGroup left (groupCode file starts item) k → c < 4
 unfolding codeThere
 held-below file starts item left k c e =
     by-lt k left
@@ -45,8 +45,8 @@ held-below file starts item left k c e =
 
 -- four codes by what each is
 pub four-same :
-    (c0 c1 c2 c3 d0 d1 d2 d3 : ℕ) → c0 ≡ d0 → c1 ≡ d1 → c2 ≡ d2 → c3 ≡ d3 → c0 + 4 * c1 + 16 * c2 + 64 * c3 ≡ d0 + 4 * d1 + 16 * d2 + 64 * d3
-four-same c0 c1 c2 c3 d0 d1 d2 d3 e0 e1 e2 e3 = omega arith
+    (c0 c1 c2 c3 d0 d1 d2 d3 : ℕ) → c0 ≡ d0 → c1 ≡ d1 → c2 ≡ d2 → c3 ≡ d3 → groupByte c0 c1 c2 c3 ≡ groupByte d0 d1 d2 d3
+four-same c0 c1 c2 c3 d0 d1 d2 d3 e0 e1 e2 e3 = λ i. groupByte (e0 i) (e1 i) (e2 i) (e3 i)
 
 -- four starts
 pub starts-are :

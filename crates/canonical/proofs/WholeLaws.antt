@@ -6,9 +6,9 @@ use native.Mathlib.Nat.{mul-comm}
 use native.Mathlib.Omega.{arith}
 use lib.Arith.{digits-lt}
 use lib.ListN.{length, getD, set}
-use Rattle.genotype.specs.Block.{blockWidth}
-use Rattle.genotype.specs.Code.{packedByte}
-use Rattle.genotype.specs.Lists.{tabulate}
+use Rattle.blocks.specs.Block.{blockWidth}
+use Rattle.codes.specs.Code.{packedByte}
+use Rattle.answer.specs.Lists.{tabulate}
 use Rattle.calls.specs.declared.Shape.{Shape}
 use Rattle.calls.specs.Calls.{callCode}
 use Rattle.calls.specs.Places.{Shaped}

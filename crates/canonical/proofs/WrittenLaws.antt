@@ -7,14 +7,14 @@ use native.Mathlib.Omega.{arith}
 use borrow.Author.Tests.{eq-eqb, le-leb}
 use lib.Dec.{eqb, leb}
 use lib.ListN.{length, getD, List·getD-eq-default}
-use Rattle.genotype.specs.Answer.{done, countLimit}
-use Rattle.genotype.specs.Block.{blockWidth, fileLength, checkSize}
-use Rattle.genotype.specs.Code.{codeAt, itemCode, packedByte, packed}
-use Rattle.genotype.specs.Lists.{tabulate}
-use Rattle.genotype.proofs.AnswerLaws.{check-passes, count-passes}
-use Rattle.genotype.proofs.CodeLaws.{packed-code, Codes, width-room}
-use Rattle.genotype.proofs.Tabulate.{length-tabulate, getD-tabulate}
-use Rattle.genotype.proofs.Tests.{by-lt}
+use Rattle.answer.specs.Answer.{done, countLimit}
+use Rattle.blocks.specs.Block.{blockWidth, fileLength, checkSize}
+use Rattle.codes.specs.Code.{codeAt, itemCode, packedByte, packed}
+use Rattle.answer.specs.Lists.{tabulate}
+use Rattle.answer.proofs.AnswerLaws.{check-passes, count-passes}
+use Rattle.codes.proofs.CodeLaws.{packed-code, Codes, width-room}
+use Rattle.answer.proofs.Tabulate.{length-tabulate, getD-tabulate}
+use Rattle.answer.proofs.Tests.{by-lt}
 use Rattle.bed_file.specs.File.{isMode1, items, blocks, checkMode, checkLength, checkFile, acceptAnswer}
 use Rattle.bed_file.proofs.FileLaws.{open-good}
 use Rattle.calls.specs.Calls.{codeIn, callCode}

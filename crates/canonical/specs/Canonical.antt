@@ -4,8 +4,8 @@ use mathlib.Core.List.{List, []}
 use Prim.Native.Nat.{ℕ}
 use lib.Dec.{eqb}
 use lib.ListN.{length}
-use Rattle.genotype.specs.Answer.{Answer, done, check, checkCount, ifDone}
-use Rattle.genotype.specs.Block.{fileLength, checkSize}
+use Rattle.answer.specs.Answer.{Answer, done, check, checkCount, ifDone}
+use Rattle.blocks.specs.Block.{fileLength, checkSize}
 use Rattle.bed_file.specs.File.{checkFile}
 use Rattle.calls.specs.Calls.{callCode}
 use Rattle.bed_write.specs.Writing.{bedFile}

@@ -5,9 +5,9 @@ use mathlib.Core.List.{List, []}
 use Prim.Native.Nat.{ℕ, zero, suc, _+_, _-_, _*_, _%_, _<_}
 use lib.Dec.{eqb}
 use lib.ListN.{length, getD}
-use Rattle.genotype.specs.Answer.{Answer, done, check, checkCount}
-use Rattle.genotype.specs.Block.{blockWidth, fileLength, checkSize}
-use Rattle.genotype.specs.Code.{codeAt}
+use Rattle.answer.specs.Answer.{Answer, done, check, checkCount}
+use Rattle.blocks.specs.Block.{blockWidth, fileLength, checkSize}
+use Rattle.codes.specs.Code.{groupByte, codeAt}
 use Rattle.calls.specs.declared.Part.{Part}
 use Rattle.calls.specs.declared.Shape.{Shape}
 use Rattle.calls.specs.Places.{Shaped, isBlock, partByte, inWord}
@@ -57,4 +57,4 @@ pub record GroupInside (file starts : List ℕ) (item : Part) (left : ℕ) : Typ
 
 -- the byte of four codes
 abbrev pub fourByte : (ℕ → ℕ) → ℕ
-fourByte f = f 0 + 4 * f 1 + 16 * f 2 + 64 * f 3
+fourByte f = groupByte (f 0) (f 1) (f 2) (f 3)

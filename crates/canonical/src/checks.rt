@@ -1,12 +1,12 @@
 // The checks of the canonical call.
 ghost use mathlib.Core.Path.{_≡_};
-ghost use Rattle.genotype.specs.Answer.{isDone};
+ghost use Rattle.answer.specs.Answer.{isDone};
 ghost use Rattle.canonical.specs.Canonical.{canonicalAnswer};
 ghost use Rattle.canonical.specs.Private.{writtenAnswer};
 ghost use Rattle.canonical.specs.Says.{canonicalSays};
 use bed_file::AcceptAnswer;
 use bed_file::FileFault;
-use genotype::blocks::DivAnswer;
+use blocks::DivAnswer;
 
 pub enum CanonicalAnswer {
     Done,
@@ -18,7 +18,7 @@ pub enum CanonicalAnswer {
 fn check_written(iid_count: usize, sid_count: usize, out_len: usize) -> CanonicalAnswer
     ensures { λ r. ⌜ canonicalSays r ≡ writtenAnswer «iid_count» «sid_count» «out_len» ⌝ }
 {
-    match genotype::blocks::try_div_4(iid_count, sid_count) {
+    match blocks::try_div_4(iid_count, sid_count) {
         DivAnswer::CountTooLarge => CanonicalAnswer::Refused(FileFault::CountTooLarge),
         DivAnswer::IndexesTooBigForFiles => CanonicalAnswer::Refused(
             FileFault::IndexesTooBigForFiles,

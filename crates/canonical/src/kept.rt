@@ -5,7 +5,7 @@ ghost use Prim.Native.Nat.{_<_};
 ghost use Rattle.canonical.specs.Canonical.{canonicalFile};
 ghost use Rattle.canonical.specs.Private.{keptByte, Begun};
 use calls::Shape;
-use genotype::entries::SidIndex;
+use entries::SidIndex;
 
 // A byte of a block, with its pads cleared: `left` items have not stood in the bytes before it.
 fn kept_byte(byte: u8, left: usize) -> u8

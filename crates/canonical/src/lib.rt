@@ -2,8 +2,8 @@
 ghost use mathlib.Core.Path.{_≡_};
 ghost use Prim.Native.Nat.{_+_, _*_};
 ghost use lib.ListN.{length};
-ghost use Rattle.genotype.specs.Block.{blockWidth};
-ghost use Rattle.genotype.specs.Code.{codeTable};
+ghost use Rattle.blocks.specs.Block.{blockWidth};
+ghost use Rattle.codes.specs.Code.{codeTable};
 ghost use Rattle.calls.specs.Places.{Shaped};
 ghost use Rattle.canonical.specs.Canonical.{canonicalFile, MakesCanonical};
 ghost use Rattle.canonical.specs.Says.{canonicalSays};
@@ -41,8 +41,8 @@ pub fn canonical(file: &[u8], iid_count: usize, sid_count: usize, out: &mut [u8]
     let checked = checks::check_canonical(file, iid_count, sid_count, out.len());
     if checks::is_done(checked) {
         let shape = calls::shape_of(file, iid_count, sid_count);
-        let out_width = genotype::blocks::block_width(iid_count);
-        let codes = genotype::codes::codes();
+        let out_width = blocks::block_width(iid_count);
+        let codes = codes::codes();
         write_calls(file, shape, out_width, &codes, out);
     }
     checked

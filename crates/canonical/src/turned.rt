@@ -3,25 +3,18 @@ ghost use mathlib.Core.Path.{_≡_};
 ghost use mathlib.Core.Bool.{false};
 ghost use Prim.Native.Nat.{_+_, _-_, _*_, _<_, _≤_};
 ghost use lib.ListN.{length};
-ghost use Rattle.genotype.specs.Code.{codeTable};
+ghost use Rattle.codes.specs.Code.{codeTable};
 ghost use Rattle.bed_write.specs.Groups.{inGroup};
 ghost use Rattle.canonical.specs.Canonical.{canonicalFile};
 ghost use Rattle.canonical.specs.Private.{Begun, animalStart, Starts, codeThere, groupCode, GroupInside, fourByte};
 use calls::Part;
 use calls::Shape;
-use genotype::entries::IidIndex;
-use genotype::entries::SidIndex;
+use codes::Group;
+use entries::IidIndex;
+use entries::SidIndex;
 
 // "Pads are zero".
 const PAD: u8 = 0;
-
-// The codes of four calls that share a byte.
-struct Group {
-    c0: u8,
-    c1: u8,
-    c2: u8,
-    c3: u8,
-}
 
 fn wide(byte: u8) -> usize
     ensures { λ r. ⌜ (r ≡ byte) × (r < 256) ⌝ }
@@ -66,14 +59,6 @@ fn held_code(file: &[u8], start: usize, item: Part, left: usize, k: usize, codes
     PAD
 }
 
-// The byte of four codes, the first in the low bits.
-fn byte_of(g: Group) -> u8
-    requires { ⌜ (g .c0 < 4) × (g .c1 < 4) × (g .c2 < 4) × (g .c3 < 4) ⌝ }
-    ensures { λ r. ⌜ r ≡ g .c0 + 4 * g .c1 + 16 * g .c2 + 64 * g .c3 ⌝ }
-{
-    g.c0 + 4 * g.c1 + 16 * g.c2 + 64 * g.c3
-}
-
 // The byte of a group of four animals at one marker.
 fn turned_byte(file: &[u8], starts: &[usize; 4], item: Part, left: usize, codes: &[u8; 1024]) -> u8
     requires { ⌜ GroupInside (now file) (now starts) item left × (item .place < 4) × (now codes ≡ codeTable) ⌝ }
@@ -83,7 +68,7 @@ fn turned_byte(file: &[u8], starts: &[usize; 4], item: Part, left: usize, codes:
     let c1 = held_code(file, starts[1], item, left, 1, codes);
     let c2 = held_code(file, starts[2], item, left, 2, codes);
     let c3 = held_code(file, starts[3], item, left, 3, codes);
-    byte_of(Group { c0, c1, c2, c3 })
+    codes::byte_of(Group { c0, c1, c2, c3 })
 }
 
 // The end of the markers that are packed together from `from` on: 16, whose codes share four bytes of each block.

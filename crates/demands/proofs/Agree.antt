@@ -9,9 +9,9 @@ use lib.Dec.{eqb}
 use lib.IntN.{ℤ}
 use lib.ListN.{length}
 use lib.Ieee.{Float, nan, Format}
-use Rattle.genotype.specs.Answer.{Answer, done, check, isDone, ifDone}
-use Rattle.genotype.specs.Value.{Width, float}
-use Rattle.genotype.proofs.AnswerLaws.{check-done, same-if-done}
+use Rattle.answer.specs.Answer.{Answer, done, check, isDone, ifDone}
+use Rattle.codes.specs.Value.{Width, float}
+use Rattle.answer.proofs.AnswerLaws.{check-done, same-if-done}
 use Rattle.bed_read.specs.Reading.{checkLists, readAnswer, valuesRead, readBuffer}
 use Rattle.bed_read.proofs.ReadLaws.{Readable, readable, read-accepted, lists-done, lists-same}
 use Rattle.statistics.specs.Statistics.{statsPerMarker}

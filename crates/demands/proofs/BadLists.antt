@@ -11,9 +11,9 @@ use lib.Dec.{eqb}
 use lib.IntN.{ℤ, pos}
 use lib.ListN.{length, getD}
 use lib.Ieee.{Float, Format}
-use Rattle.genotype.specs.Answer.{Answer, done, refused, check, checkEntry, isDone, ifDone}
-use Rattle.genotype.specs.Entry.{isGood, firstBad}
-use Rattle.genotype.proofs.AnswerLaws.{check-passes, entry-passes, entry-refuses, number, check-other, count-other, entry-other}
+use Rattle.answer.specs.Answer.{Answer, done, refused, check, checkEntry, isDone, ifDone}
+use Rattle.entries.specs.Entry.{isGood, firstBad}
+use Rattle.answer.proofs.AnswerLaws.{check-passes, entry-passes, entry-refuses, number, check-other, count-other, entry-other}
 use Rattle.bed_read.specs.Reading.{checkLists, readAnswer}
 use Rattle.bed_file.proofs.FileLaws.{file-other}
 use Rattle.bed_read.proofs.ReadLaws.{read-accepted}

@@ -7,10 +7,10 @@ use Prim.Native.Nat.{ℕ, _*_}
 use lib.IntN.{ℤ, pos}
 use lib.ListN.{length}
 use lib.Ieee.{Float, nan, binary64}
-use Rattle.genotype.specs.Answer.{Answer, done, refused, ifDone}
-use Rattle.genotype.specs.Block.{blockWidth}
-use Rattle.genotype.specs.Entry.{firstBad, isGood}
-use Rattle.genotype.specs.Value.{Width}
+use Rattle.answer.specs.Answer.{Answer, done, refused, ifDone}
+use Rattle.blocks.specs.Block.{blockWidth}
+use Rattle.entries.specs.Entry.{firstBad, isGood}
+use Rattle.codes.specs.Value.{Width}
 use Rattle.bed_file.specs.File.{isMode1, items, blocks, acceptAnswer}
 use Rattle.bed_read.specs.Reading.{readAnswer, readBuffer}
 use Rattle.read_standardised.specs.Joined.{joinedAnswer, joinedStats, joinedValues}

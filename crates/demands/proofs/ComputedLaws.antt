@@ -8,7 +8,7 @@ use borrow.Author.Tests.{eqb-true, eqb-false, eq-eqb, ltb-true}
 use lib.Dec.{eqb, ltb}
 use lib.IntN.{ℤ}
 use lib.ListN.{length, getD}
-use Rattle.genotype.proofs.Tests.{both-true, by-test}
+use Rattle.answer.proofs.Tests.{both-true, by-test}
 use Rattle.demands.specs.Demand.{GoodList, meant, MeantOnce, NamesEachOnce}
 
 -- whether a test holds of every number below n

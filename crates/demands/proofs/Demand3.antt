@@ -8,8 +8,8 @@ use native.Mathlib.Omega.{arith}
 use lib.IntN.{ℤ}
 use lib.ListN.{length}
 use lib.Ieee.{Float, binary64}
-use Rattle.genotype.specs.Answer.{done, isDone}
-use Rattle.genotype.specs.Block.{fileLength}
+use Rattle.answer.specs.Answer.{done, isDone}
+use Rattle.blocks.specs.Block.{fileLength}
 use Rattle.bed_file.specs.File.{acceptAnswer}
 use Rattle.bed_read.specs.Reading.{fileOrder, readAnswer}
 use Rattle.canonical.specs.Canonical.{canonicalAnswer, canonicalBuffer}

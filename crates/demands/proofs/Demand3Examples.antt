@@ -8,13 +8,13 @@ use lib.Dec.{T, lit≤}
 use lib.IntN.{ℤ, pos, negsuc}
 use lib.ListN.{length, getD}
 use lib.Ieee.{Float, nan, fin, binary64, fits, isNan}
-use Rattle.genotype.specs.Answer.{done, refused, ifDone}
-use Rattle.genotype.specs.Block.{blockWidth, fileLength}
-use Rattle.genotype.specs.Entry.{isGood, means, firstBad}
-use Rattle.genotype.specs.Lists.{tabulate}
-use Rattle.genotype.specs.Code.{codeAt, itemCode, packedByte, packed}
-use Rattle.genotype.specs.Matrix.{matrixPlace, matrix}
-use Rattle.genotype.specs.Value.{values, valueOf}
+use Rattle.answer.specs.Answer.{done, refused, ifDone}
+use Rattle.blocks.specs.Block.{blockWidth, fileLength}
+use Rattle.entries.specs.Entry.{isGood, means, firstBad}
+use Rattle.answer.specs.Lists.{tabulate}
+use Rattle.codes.specs.Code.{codeAt, itemCode, packedByte, packed}
+use Rattle.answer.specs.Matrix.{matrixPlace, matrix}
+use Rattle.codes.specs.Value.{values, valueOf}
 use Rattle.statistics.specs.Statistics.{noValue, markerStats, foundFor}
 use Rattle.standardise.specs.Standardised.{value, markerAnswer, markersAnswer, found, lowestRefused}
 use Rattle.calls.specs.Calls.{block, codeIn, callCode}

@@ -6,8 +6,8 @@ use Prim.Native.Nat.{ℕ, _*_}
 use lib.IntN.{ℤ}
 use lib.ListN.{length}
 use lib.Ieee.{Float, Format}
-use Rattle.genotype.specs.Matrix.{matrix}
-use Rattle.genotype.proofs.MatrixLaws.{length-matrix}
+use Rattle.answer.specs.Matrix.{matrix}
+use Rattle.answer.proofs.MatrixLaws.{length-matrix}
 use Rattle.standardise.specs.Standardised.{applied, value, found, mayChange, newValues}
 use Rattle.standardise.proofs.Theorems.{same-length}
 use Rattle.read_standardised.specs.Joined.{readNan}

@@ -7,13 +7,13 @@ use mathlib.Core.Option.{Option}
 use Prim.Native.Nat.{ℕ, _-_, _^_}
 use lib.IntN.{ℤ, pos, negsuc}
 use lib.Ieee.{Float, nan, Format, isNan}
-use Rattle.genotype.specs.Answer.{refused, check, checkCount}
-use Rattle.genotype.specs.Block.{blockWidth}
-use Rattle.genotype.specs.Code.{codeAt, itemCode}
-use Rattle.genotype.specs.Entry.{firstBad, isGood, means}
-use Rattle.genotype.specs.Lists.{tabulate}
-use Rattle.genotype.specs.Matrix.{matrixPlace, matrix}
-use Rattle.genotype.specs.Value.{i8, sameInt, sameOrNan, values, valueOf, codeOf}
+use Rattle.answer.specs.Answer.{refused, check, checkCount}
+use Rattle.blocks.specs.Block.{blockWidth}
+use Rattle.codes.specs.Code.{codeAt, itemCode}
+use Rattle.entries.specs.Entry.{firstBad, isGood, means}
+use Rattle.answer.specs.Lists.{tabulate}
+use Rattle.answer.specs.Matrix.{matrixPlace, matrix}
+use Rattle.codes.specs.Value.{i8, sameInt, sameOrNan, values, valueOf, codeOf}
 use Rattle.index.specs.declared.Index.{Index}
 use Rattle.index.specs.declared.Index.the-variants as indexes
 use Rattle.index.specs.declared.slice.SliceEnd.the-variants as ends

@@ -11,21 +11,21 @@ use lib.Dec.{eqb, leb}
 use lib.IntN.{ℤ}
 use lib.ListN.{length, getD}
 use lib.Seq.{getD-take}
-use Rattle.genotype.specs.Answer.{done, countLimit, isDone}
-use Rattle.genotype.specs.Block.{blockWidth, fileLength, checkSize}
-use Rattle.genotype.specs.Code.{itemCode, copies, packedByte, packed}
-use Rattle.genotype.specs.Lists.{tabulate}
-use Rattle.genotype.specs.Matrix.{matrixPlace, matrix}
-use Rattle.genotype.specs.Plink.{plinkWidth, copiesOfFirst, copiesValue}
-use Rattle.genotype.specs.Value.{Width, valueOf}
-use Rattle.genotype.proofs.AnswerLaws.{check-passes, count-passes, check-done, count-done, new-if-done}
-use Rattle.genotype.proofs.CodeLaws.{width-room}
-use Rattle.genotype.proofs.MatrixLaws.{matrix-ext, map-matrix}
-use Rattle.genotype.proofs.EntryLaws.{means-below}
-use Rattle.genotype.proofs.SpanLaws.{all-good}
-use Rattle.genotype.proofs.PlinkLaws.{width-is-plink, pads-are-zero}
-use Rattle.genotype.proofs.Tabulate.{length-tabulate, getD-tabulate}
-use Rattle.genotype.proofs.Tests.{both-true}
+use Rattle.answer.specs.Answer.{done, countLimit, isDone}
+use Rattle.blocks.specs.Block.{blockWidth, fileLength, checkSize}
+use Rattle.codes.specs.Code.{itemCode, copies, packedByte, packed}
+use Rattle.answer.specs.Lists.{tabulate}
+use Rattle.answer.specs.Matrix.{matrixPlace, matrix}
+use Rattle.codes.specs.Plink.{plinkWidth, copiesOfFirst, copiesValue}
+use Rattle.codes.specs.Value.{Width, valueOf}
+use Rattle.answer.proofs.AnswerLaws.{check-passes, count-passes, check-done, count-done, new-if-done}
+use Rattle.codes.proofs.CodeLaws.{width-room}
+use Rattle.answer.proofs.MatrixLaws.{matrix-ext, map-matrix}
+use Rattle.entries.proofs.EntryLaws.{means-below}
+use Rattle.entries.proofs.SpanLaws.{all-good}
+use Rattle.codes.proofs.PlinkLaws.{width-is-plink, pads-are-zero}
+use Rattle.answer.proofs.Tabulate.{length-tabulate, getD-tabulate}
+use Rattle.answer.proofs.Tests.{both-true}
 use Rattle.bed_file.specs.File.{isMode1, items, blocks, checkOpen, checkMode, checkLength, checkFile, acceptAnswer}
 use Rattle.bed_file.proofs.FileLaws.{open-good, accepted}
 use Rattle.calls.specs.Calls.{block, codeIn, callCode}

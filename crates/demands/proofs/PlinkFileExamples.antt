@@ -8,14 +8,14 @@ use lib.Dec.{lit≤}
 use lib.IntN.{ℤ, pos, negsuc}
 use lib.ListN.{length}
 use lib.Ieee.{Float, fin, eq}
-use Rattle.genotype.specs.Answer.{done, ifDone}
-use Rattle.genotype.specs.Block.{blockWidth, checkSize}
-use Rattle.genotype.specs.Code.{codeAt, itemCode, copies, packedByte, packed}
-use Rattle.genotype.specs.Entry.{isGood, means, firstBad}
-use Rattle.genotype.specs.Lists.{tabulate}
-use Rattle.genotype.specs.Matrix.{matrixPlace, matrix}
-use Rattle.genotype.specs.Plink.{homozygousFirst, missing, heterozygous, homozygousSecond, genotypeOf, blockBit, plinkWidth, copiesOfFirst, copiesOfSecond, copiesValue}
-use Rattle.genotype.specs.Value.{Width, i8, float, sameInt, sameOrNan, codeOf}
+use Rattle.answer.specs.Answer.{done, ifDone}
+use Rattle.blocks.specs.Block.{blockWidth, checkSize}
+use Rattle.codes.specs.Code.{codeAt, itemCode, copies, packedByte, packed}
+use Rattle.entries.specs.Entry.{isGood, means, firstBad}
+use Rattle.answer.specs.Lists.{tabulate}
+use Rattle.answer.specs.Matrix.{matrixPlace, matrix}
+use Rattle.codes.specs.Plink.{homozygousFirst, missing, heterozygous, homozygousSecond, genotypeOf, blockBit, plinkWidth, copiesOfFirst, copiesOfSecond, copiesValue}
+use Rattle.codes.specs.Value.{Width, i8, float, sameInt, sameOrNan, codeOf}
 use Rattle.bed_file.specs.File.{isMode1, items, blocks, checkFile, acceptAnswer}
 use Rattle.calls.specs.Calls.{block, codeIn, callCode}
 use Rattle.bed_read.specs.Reading.{fileOrder, readBuffer}

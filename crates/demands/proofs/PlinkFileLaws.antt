@@ -12,15 +12,15 @@ use lib.IntN.{ℤ, pos, negsuc}
 use lib.Ieee.{Float, nan, inf, fin, up, down, level, eq}
 use lib.ListN.{length, getD, take, drop, List·getD-eq-default}
 use lib.Seq.{getD-take, getD-drop}
-use Rattle.genotype.specs.Code.{itemCode, copies}
-use Rattle.genotype.specs.Lists.{tabulate}
-use Rattle.genotype.specs.Plink.{Genotype, homozygousFirst, missing, heterozygous, homozygousSecond, genotypeOf, blockBit, genotypeAt, copiesOfFirst, copiesOfSecond, copiesValue}
-use Rattle.genotype.specs.Value.{Width, i8, float, sameInt, valueOf, codeOf, sameOrNan}
-use Rattle.genotype.proofs.CodeLaws.{Codes}
-use Rattle.genotype.proofs.PlinkLaws.{decoding-is-plink}
-use Rattle.genotype.proofs.Tabulate.{length-tabulate, getD-tabulate}
-use Rattle.genotype.proofs.Tests.{both-true, by-lt}
-use Rattle.genotype.proofs.ValueLaws.{zero-code, one-code, two-code}
+use Rattle.codes.specs.Code.{itemCode, copies}
+use Rattle.answer.specs.Lists.{tabulate}
+use Rattle.codes.specs.Plink.{Genotype, homozygousFirst, missing, heterozygous, homozygousSecond, genotypeOf, blockBit, genotypeAt, copiesOfFirst, copiesOfSecond, copiesValue}
+use Rattle.codes.specs.Value.{Width, i8, float, sameInt, valueOf, codeOf, sameOrNan}
+use Rattle.codes.proofs.CodeLaws.{Codes}
+use Rattle.codes.proofs.PlinkLaws.{decoding-is-plink}
+use Rattle.answer.proofs.Tabulate.{length-tabulate, getD-tabulate}
+use Rattle.answer.proofs.Tests.{both-true, by-lt}
+use Rattle.codes.proofs.ValueLaws.{zero-code, one-code, two-code}
 use Rattle.demands.specs.PlinkFile.{copiesBy, Apart, StandsIn}
 
 -- ---- a part of a list of bytes

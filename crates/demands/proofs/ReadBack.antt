@@ -12,13 +12,13 @@ use lib.IntN.{ℤ}
 use lib.Ieee.{Float, nan, eq, ne, isNan}
 use lib.Ieee.Compare.{differs-from-itself}
 use lib.ListN.{length, getD}
-use Rattle.genotype.specs.Answer.{Answer, done, isDone}
-use Rattle.genotype.specs.Block.{fileLength, checkSize}
-use Rattle.genotype.specs.Matrix.{matrixPlace}
-use Rattle.genotype.specs.Value.{Width, i8, float, sameInt, valueOf, codeOf, sameOrNan}
-use Rattle.genotype.proofs.AnswerLaws.{check-passes, count-passes, new-if-done, heard, before-later}
-use Rattle.genotype.proofs.SignedLaws.{sameInt-refl, sameInt-eq}
-use Rattle.genotype.proofs.ValueLaws.{decode-encode, encode-decode, Numbers, float-numbers, NoNumber}
+use Rattle.answer.specs.Answer.{Answer, done, isDone}
+use Rattle.blocks.specs.Block.{fileLength, checkSize}
+use Rattle.answer.specs.Matrix.{matrixPlace}
+use Rattle.codes.specs.Value.{Width, i8, float, sameInt, valueOf, codeOf, sameOrNan}
+use Rattle.answer.proofs.AnswerLaws.{check-passes, count-passes, new-if-done, heard, before-later}
+use Rattle.codes.proofs.ValueLaws.{sameInt-refl, sameInt-eq}
+use Rattle.codes.proofs.ValueLaws.{decode-encode, encode-decode, Numbers, float-numbers, NoNumber}
 use Rattle.bed_file.specs.File.{acceptAnswer}
 use Rattle.calls.specs.Calls.{callCode}
 use Rattle.calls.proofs.CallLaws.{call-below}

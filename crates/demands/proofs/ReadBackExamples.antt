@@ -7,13 +7,13 @@ use lib.Dec.{lit≤}
 use lib.IntN.{ℤ, pos, negsuc}
 use lib.Ieee.{Float, nan, fin, eq}
 use lib.ListN.{length, getD}
-use Rattle.genotype.specs.Answer.{isDone}
-use Rattle.genotype.specs.Block.{blockWidth, fileLength, checkSize}
-use Rattle.genotype.specs.Code.{packedByte, packed}
-use Rattle.genotype.specs.Lists.{tabulate}
-use Rattle.genotype.specs.Matrix.{matrixPlace}
-use Rattle.genotype.specs.Value.{i8, float, codeOf, sameInt, sameOrNan}
-use Rattle.genotype.proofs.ValueLaws.{i8-numbers, NoNumber}
+use Rattle.answer.specs.Answer.{isDone}
+use Rattle.blocks.specs.Block.{blockWidth, fileLength, checkSize}
+use Rattle.codes.specs.Code.{packedByte, packed}
+use Rattle.answer.specs.Lists.{tabulate}
+use Rattle.answer.specs.Matrix.{matrixPlace}
+use Rattle.codes.specs.Value.{i8, float, codeOf, sameInt, sameOrNan}
+use Rattle.codes.proofs.ValueLaws.{i8-numbers, NoNumber}
 use Rattle.bed_file.specs.File.{isMode1, items, blocks, acceptAnswer}
 use Rattle.bed_read.specs.Reading.{fileOrder, readBuffer}
 use Rattle.bed_write.specs.Packing.{placeCode, orZero, packedCodes, firstOf, ifBad}

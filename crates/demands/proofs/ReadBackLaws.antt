@@ -8,14 +8,14 @@ use native.Mathlib.Omega.{arith}
 use borrow.Author.Tests.{lt-ltb}
 use lib.IntN.{pos}
 use lib.ListN.{length, getD, length-map, List·getD-map}
-use Rattle.genotype.specs.Answer.{done, isDone}
-use Rattle.genotype.specs.Entry.{firstBad, isGood, means}
-use Rattle.genotype.specs.Matrix.{matrixPlace, matrix}
-use Rattle.genotype.specs.Value.{Width, valueOf}
-use Rattle.genotype.proofs.AnswerLaws.{new-if-done}
-use Rattle.genotype.proofs.MatrixLaws.{length-matrix, getD-matrix, place-below}
-use Rattle.genotype.proofs.SpanLaws.{none-bad}
-use Rattle.genotype.proofs.Tabulate.{length-tabulate, getD-tabulate, getD-inside}
+use Rattle.answer.specs.Answer.{done, isDone}
+use Rattle.entries.specs.Entry.{firstBad, isGood, means}
+use Rattle.answer.specs.Matrix.{matrixPlace, matrix}
+use Rattle.codes.specs.Value.{Width, valueOf}
+use Rattle.answer.proofs.AnswerLaws.{new-if-done}
+use Rattle.answer.proofs.MatrixLaws.{length-matrix, getD-matrix, place-below}
+use Rattle.entries.proofs.SpanLaws.{none-bad}
+use Rattle.answer.proofs.Tabulate.{length-tabulate, getD-tabulate, getD-inside}
 use Rattle.bed_file.specs.File.{acceptAnswer}
 use Rattle.calls.specs.Calls.{callCode}
 use Rattle.bed_read.specs.Reading.{fileOrder, readAnswer, readCode, codesRead, valuesRead, readBuffer}

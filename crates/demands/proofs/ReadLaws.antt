@@ -6,13 +6,13 @@ use Prim.Native.Nat.{ℕ, _*_, _<_}
 use lib.IntN.{ℤ, pos}
 use lib.ListN.{length, getD}
 use lib.Ieee.{Float, nan}
-use Rattle.genotype.specs.Answer.{done, isDone}
-use Rattle.genotype.specs.Entry.{means}
-use Rattle.genotype.specs.Matrix.{matrixPlace}
-use Rattle.genotype.specs.Value.{Width, float, valueOf}
-use Rattle.genotype.proofs.EntryLaws.{means-below}
-use Rattle.genotype.proofs.SpanLaws.{all-good}
-use Rattle.genotype.proofs.MatrixLaws.{length-matrix, getD-matrix, matrix-ext, map-matrix}
+use Rattle.answer.specs.Answer.{done, isDone}
+use Rattle.entries.specs.Entry.{means}
+use Rattle.answer.specs.Matrix.{matrixPlace}
+use Rattle.codes.specs.Value.{Width, float, valueOf}
+use Rattle.entries.proofs.EntryLaws.{means-below}
+use Rattle.entries.proofs.SpanLaws.{all-good}
+use Rattle.answer.proofs.MatrixLaws.{length-matrix, getD-matrix, matrix-ext, map-matrix}
 use Rattle.calls.specs.Calls.{callCode}
 use Rattle.bed_read.specs.Reading.{readAnswer, readCode, codesRead, valuesRead}
 use Rattle.bed_read.proofs.ReadLaws.{read-good}

@@ -9,9 +9,9 @@ use lib.Dec.{eqb}
 use lib.IntN.{ℤ, pos}
 use lib.ListN.{length, getD}
 use lib.Ieee.{Float, nan, Format}
-use Rattle.genotype.specs.Answer.{Answer, done, isDone}
-use Rattle.genotype.specs.Entry.{means}
-use Rattle.genotype.specs.Value.{float, valueOf}
+use Rattle.answer.specs.Answer.{Answer, done, isDone}
+use Rattle.entries.specs.Entry.{means}
+use Rattle.codes.specs.Value.{float, valueOf}
 use Rattle.bed_read.specs.Reading.{fileOrder, readAnswer, readCode, valuesRead}
 use Rattle.calls.specs.Calls.{callCode}
 use Rattle.statistics.specs.Statistics.{statsPerMarker}

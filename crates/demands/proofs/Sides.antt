@@ -5,13 +5,13 @@ use mathlib.Core.List.{List, [], _∷_}
 use Prim.Native.Nat.{ℕ}
 use lib.IntN.{ℤ, pos, negsuc}
 use lib.Ieee.{Float, nan, inf, binary64, add, sub, mul, div, neg, le, lt, eq, isNan}
-use Rattle.genotype.specs.Answer.{Answer, done, refused, ifDone}
-use Rattle.genotype.specs.Block.{blockWidth}
-use Rattle.genotype.specs.Code.{codeAt, itemCode}
-use Rattle.genotype.specs.Entry.{firstBad, isGood, means}
-use Rattle.genotype.specs.Lists.{tabulate}
-use Rattle.genotype.specs.Matrix.{matrixPlace, matrix}
-use Rattle.genotype.specs.Value.{values, valueOf}
+use Rattle.answer.specs.Answer.{Answer, done, refused, ifDone}
+use Rattle.blocks.specs.Block.{blockWidth}
+use Rattle.codes.specs.Code.{codeAt, itemCode}
+use Rattle.entries.specs.Entry.{firstBad, isGood, means}
+use Rattle.answer.specs.Lists.{tabulate}
+use Rattle.answer.specs.Matrix.{matrixPlace, matrix}
+use Rattle.codes.specs.Value.{values, valueOf}
 use Rattle.bed_file.specs.File.{isMode1, items, blocks}
 use Rattle.calls.specs.Calls.{block, codeIn, callCode}
 use Rattle.bed_read.specs.Reading.{fileOrder, readAnswer, readCode, codesRead, valuesRead, readBuffer}

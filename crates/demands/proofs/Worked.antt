@@ -2,13 +2,13 @@
 use mathlib.Core.Path.{_≡_, refl, ap}
 use mathlib.Core.List.{List, []}
 use Prim.Native.Nat.{ℕ, _-_, _^_}
-use Rattle.genotype.specs.Answer.{refused, check, checkCount, isDone, ifDone}
-use Rattle.genotype.specs.Block.{blockWidth, checkSize, divAnswer}
-use Rattle.genotype.specs.Code.{codeAt, itemCode, packedByte, packed}
-use Rattle.genotype.specs.Entry.{isGood, means, firstBad, entryAnswer}
-use Rattle.genotype.specs.Lists.{tabulate}
-use Rattle.genotype.specs.Matrix.{matrix}
-use Rattle.genotype.specs.Value.{values, valueOf, sameInt, sameOrNan, codeOf}
+use Rattle.answer.specs.Answer.{refused, check, checkCount, isDone, ifDone}
+use Rattle.blocks.specs.Block.{blockWidth, checkSize, divAnswer}
+use Rattle.codes.specs.Code.{codeAt, itemCode, packedByte, packed}
+use Rattle.entries.specs.Entry.{isGood, means, firstBad, entryAnswer}
+use Rattle.answer.specs.Lists.{tabulate}
+use Rattle.answer.specs.Matrix.{matrix}
+use Rattle.codes.specs.Value.{values, valueOf, sameInt, sameOrNan, codeOf}
 use Rattle.index.specs.Numbers.{numbersBelow, fromCount, sliceEnd, distances, backward, stepped, sliceList, indexList}
 use Rattle.index.specs.Checks.{checkEnd, checkSlice, checkIndex, listAnswer, listBuffer, indexAnswer, indexBuffer}
 use Rattle.bed_file.specs.File.{isMode1, items, blocks, acceptAnswer}

@@ -7,8 +7,8 @@ use Prim.Native.Nat.{ℕ, _*_, _<_}
 use lib.IntN.{ℤ, pos}
 use lib.ListN.{length, getD}
 use lib.Ieee.{Float}
-use Rattle.genotype.specs.Answer.{done}
-use Rattle.genotype.specs.Entry.{isGood, means, firstBad}
+use Rattle.answer.specs.Answer.{done}
+use Rattle.entries.specs.Entry.{isGood, means, firstBad}
 use Rattle.bed_file.specs.File.{acceptAnswer}
 use Rattle.calls.specs.Calls.{callCode}
 use Rattle.statistics.specs.Statistics.{statsPerMarker}

@@ -6,8 +6,8 @@ use mathlib.Core.List.{List, [], _∷_}
 use mathlib.Core.Option.{Option, some}
 use Prim.Native.Nat.{ℕ, _+_, _*_, _<_, _≤_}
 use lib.ListN.{length, take}
-use Rattle.genotype.specs.Plink.{Genotype, missing, genotypeOf, blockBit, plinkWidth, copiesOfFirst, copiesOfSecond}
-use Rattle.genotype.specs.Value.{Width}
+use Rattle.codes.specs.Plink.{Genotype, missing, genotypeOf, blockBit, plinkWidth, copiesOfFirst, copiesOfSecond}
+use Rattle.codes.specs.Value.{Width}
 
 -- "The first three bytes should be 0x6c, 0x1b, and 0x01 in that order."
 -- "The rest of the file is a sequence of V blocks of N/4 (rounded up) bytes each, where V is the number of variants and N is the number

@@ -4,10 +4,10 @@ use mathlib.Core.Bool.{true, false}
 use mathlib.Core.List.{List, [], _∷_}
 use Prim.Native.Nat.{ℕ, _-_, _^_}
 use lib.IntN.{pos, negsuc}
-use Rattle.genotype.specs.Answer.{done, refused}
-use Rattle.genotype.specs.Block.{divAnswer}
-use Rattle.genotype.specs.Entry.{entryAnswer}
-use Rattle.genotype.specs.Value.{Width, i8}
+use Rattle.answer.specs.Answer.{done, refused}
+use Rattle.blocks.specs.Block.{divAnswer}
+use Rattle.entries.specs.Entry.{entryAnswer}
+use Rattle.codes.specs.Value.{Width, i8}
 use Rattle.index.specs.declared.Index.the-variants as Index
 use Rattle.index.specs.declared.slice.SliceEnd.the-variants as SliceEnd
 use Rattle.index.specs.Checks.{indexBuffer}

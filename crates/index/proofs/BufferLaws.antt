@@ -9,8 +9,8 @@ use borrow.Author.Tests.{le-leb, lt-leb}
 use lib.IntN.{ℤ, pos}
 use lib.ListN.{length, drop, set, take, getD, length-append, length-set}
 use lib.Seq.{take-suc}
-use Rattle.genotype.specs.Answer.{Answer, done, refused, check}
-use Rattle.genotype.specs.Lists.{tabulate}
+use Rattle.answer.specs.Answer.{Answer, done, refused, check}
+use Rattle.answer.specs.Lists.{tabulate}
 use Rattle.index.specs.Checks.{listAnswer, listBuffer}
 use Rattle.index.specs.Private.{Listed, Checked}
 

@@ -7,7 +7,7 @@ use native.Mathlib.Omega.{arith}
 use borrow.Author.Tests.{eq-eqb, ne-eqb, le-leb, lt-leb}
 use lib.IntN.{ℤ, pos}
 use lib.ListN.{length}
-use Rattle.genotype.specs.Answer.{Answer, refused, check, checkCount, countLimit}
+use Rattle.answer.specs.Answer.{Answer, refused, check, checkCount, countLimit}
 use Rattle.index.specs.declared.range.RangeAny.{RangeAny}
 use Rattle.index.specs.declared.slice.RangeNdSlice.{RangeNdSlice}
 use Rattle.index.specs.declared.slice.SliceInfo1.{SliceInfo1}

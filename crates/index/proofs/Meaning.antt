@@ -7,9 +7,9 @@ use native.Mathlib.Omega.{arith}
 use borrow.Author.Tests.{lt-leb}
 use lib.IntN.{ℤ, pos, negsuc}
 use lib.ListN.{length, getD}
-use Rattle.genotype.specs.Answer.{done, refused, check, checkCount, countLimit}
-use Rattle.genotype.specs.Lists.{tabulate}
-use Rattle.genotype.proofs.Tabulate.{length-tabulate, getD-tabulate}
+use Rattle.answer.specs.Answer.{done, refused, check, checkCount, countLimit}
+use Rattle.answer.specs.Lists.{tabulate}
+use Rattle.answer.proofs.Tabulate.{length-tabulate, getD-tabulate}
 use Rattle.index.specs.declared.Index.{Index}
 use Rattle.index.specs.declared.range.Bound.the-variants as Bound
 use Rattle.index.specs.declared.slice.SliceEnd.the-variants as SliceEnd

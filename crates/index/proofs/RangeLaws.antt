@@ -7,7 +7,7 @@ use native.Mathlib.Omega.{arith}
 use borrow.Author.Tests.{le-leb, lt-leb, leb-true}
 use lib.IntN.{ℤ, pos}
 use lib.Dec.{leb}
-use Rattle.genotype.specs.Answer.{Answer, done, refused, check, checkCount, countLimit}
+use Rattle.answer.specs.Answer.{Answer, done, refused, check, checkCount, countLimit}
 use Rattle.index.specs.declared.range.Bound.{Bound}
 use Rattle.index.specs.declared.range.RangeAny.{RangeAny}
 use Rattle.index.specs.declared.slice.RangeNdSlice.{RangeNdSlice}

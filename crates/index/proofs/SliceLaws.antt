@@ -10,9 +10,9 @@ use lib.IntN.{ℤ, pos, negsuc, natAbs}
 use lib.Signed.{ltZ}
 use mir.Syntax.{w64}
 use mir.Val.{SFits}
-use Rattle.genotype.specs.Answer.{Answer, refused, check, countLimit}
-use Rattle.genotype.specs.Lists.{tabulate}
-use Rattle.genotype.proofs.Tabulate.{tabulate-ext}
+use Rattle.answer.specs.Answer.{Answer, refused, check, countLimit}
+use Rattle.answer.specs.Lists.{tabulate}
+use Rattle.answer.proofs.Tabulate.{tabulate-ext}
 use Rattle.index.specs.declared.slice.RangeNdSlice.{RangeNdSlice}
 use Rattle.index.specs.declared.slice.SliceInfo1.{SliceInfo1}
 use Rattle.index.specs.declared.slice.SliceEnd.{SliceEnd}

@@ -12,8 +12,8 @@ use lib.ListN.{length}
 use mir.Syntax.{w64}
 use mir.Val.{toZ}
 use mir.Facts.{toZ-pos}
-use Rattle.genotype.specs.Lists.{tabulate}
-use Rattle.genotype.proofs.Tabulate.{length-tabulate, map-tabulate}
+use Rattle.answer.specs.Lists.{tabulate}
+use Rattle.answer.proofs.Tabulate.{length-tabulate, map-tabulate}
 use Rattle.index.specs.declared.slice.RangeNdSlice.{RangeNdSlice}
 use Rattle.index.specs.Numbers.{numbersBelow, distances, forward, backward}
 use Rattle.index.specs.Private.{Walk, stepsBelow, sliceNumber, numbers}

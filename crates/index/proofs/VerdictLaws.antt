@@ -5,7 +5,7 @@ use mathlib.Core.List.{List, []}
 use Prim.Native.Nat.{ℕ}
 use native.Mathlib.Omega.{arith}
 use lib.IntN.{ℤ}
-use Rattle.genotype.specs.Answer.{Answer, done, refused, check}
+use Rattle.answer.specs.Answer.{Answer, done, refused, check}
 
 pub data Verdict (checks : Answer → Answer) : Type 0 where
   passes : ((later : Answer) → checks later ≡ later) → Verdict checks

@@ -5,7 +5,7 @@ use Prim.Native.Nat.{ℕ}
 use lib.IntN.{ℤ, pos}
 use lib.Dec.{leb, eqb}
 use lib.ListN.{length, drop}
-use Rattle.genotype.specs.Answer.{Answer, done, refused, check, checkCount}
+use Rattle.answer.specs.Answer.{Answer, done, refused, check, checkCount}
 use Rattle.index.specs.declared.range.Bound.{Bound}
 use Rattle.index.specs.declared.slice.SliceEnd.{SliceEnd}
 use Rattle.index.specs.declared.range.RangeAny.{RangeAny}

@@ -5,7 +5,7 @@ use Prim.Native.Nat.{ℕ, zero, suc, _+_, _-_, _%_}
 use lib.IntN.{ℤ, pos, negsuc, natAbs}
 use lib.Dec.{eqb}
 use lib.ListN.{length, getD}
-use Rattle.genotype.specs.Lists.{tabulate}
+use Rattle.answer.specs.Lists.{tabulate}
 use Rattle.index.specs.declared.range.Bound.{Bound}
 use Rattle.index.specs.declared.slice.SliceEnd.{SliceEnd}
 use Rattle.index.specs.declared.range.RangeAny.{RangeAny}

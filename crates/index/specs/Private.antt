@@ -5,8 +5,8 @@ use mathlib.Core.Path.{_≡_}
 use Prim.Native.Nat.{ℕ, _+_, _-_, _*_, _/_, _^_, _≤_, _<_}
 use lib.IntN.{ℤ, pos}
 use lib.ListN.{length}
-use Rattle.genotype.specs.Answer.{Answer, refused, countLimit}
-use Rattle.genotype.specs.Lists.{tabulate}
+use Rattle.answer.specs.Answer.{Answer, refused, countLimit}
+use Rattle.answer.specs.Lists.{tabulate}
 use Rattle.index.specs.declared.slice.RangeNdSlice.{RangeNdSlice}
 use Rattle.index.specs.declared.slice.NewSlice.{NewSlice}
 use Rattle.index.specs.declared.slice.SliceInfo1.{SliceInfo1}

@@ -1,7 +1,7 @@
 -- What each answer enum of the code says: document 01's number and the values for each of its cases.
 use mathlib.Core.List.{[], _∷_}
 use lib.IntN.{pos}
-use Rattle.genotype.specs.Answer.{Answer, done, refused}
+use Rattle.answer.specs.Answer.{Answer, done, refused}
 use Rattle.index.specs.declared.ListAnswer.{ListAnswer}
 use Rattle.index.specs.declared.range.RangeAnswer.{RangeAnswer}
 use Rattle.index.specs.declared.ListAnswer.the-variants as ListAnswer

@@ -16,9 +16,6 @@ pub use range::RangeAny;
 pub use slice::SliceEnd;
 pub use slice::SliceInfo1;
 
-// The greatest count, and the greatest bound of a range: 2^63 - 1.
-const COUNT_LIMIT: usize = 9223372036854775807;
-
 // The kinds of an index. An enum holds no slice: the list of `Vec` and the marks of `VecBool` stand beside it.
 pub enum Index {
     All,
@@ -76,7 +73,7 @@ impl Index {
             × (now (list .exit) ≡ indexBuffer self count (now (vec .entry)) (now (marks .entry)) (now (list .entry)))
             ⌝ }
     {
-        if count > COUNT_LIMIT {
+        if count > answer::COUNT_LIMIT {
             return ListAnswer::CountTooLarge;
         }
         match self {

@@ -1,12 +1,11 @@
 // Ranges.
 ghost use mathlib.Core.Path.{_≡_};
 ghost use Prim.Native.Nat.{_≤_};
-ghost use Rattle.genotype.specs.Answer.{countLimit};
+ghost use Rattle.answer.specs.Answer.{countLimit};
 ghost use Rattle.index.specs.Numbers.{boundOr, rangeList};
 ghost use Rattle.index.specs.Checks.{checkRange, rangeAnswer};
 ghost use Rattle.index.specs.Says.{listSays, rangeSays};
 ghost use Rattle.index.specs.Private.{Checked};
-use crate::COUNT_LIMIT;
 use crate::ListAnswer;
 use crate::slice;
 
@@ -33,17 +32,17 @@ impl RangeAny {
     pub fn to_range(self, count: usize) -> RangeAnswer
         ensures { λ r. ⌜ rangeSays r ≡ rangeAnswer self count ⌝ }
     {
-        if count > COUNT_LIMIT {
+        if count > answer::COUNT_LIMIT {
             return RangeAnswer::CountTooLarge;
         }
         let start_bound = self.start;
         let start = bound_or(start_bound, 0);
-        if start > COUNT_LIMIT {
+        if start > answer::COUNT_LIMIT {
             return RangeAnswer::CountTooLarge;
         }
         let end_bound = self.end;
         let end = bound_or(end_bound, count);
-        if end > COUNT_LIMIT {
+        if end > answer::COUNT_LIMIT {
             return RangeAnswer::CountTooLarge;
         }
         if start > end {

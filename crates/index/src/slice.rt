@@ -2,7 +2,7 @@
 ghost use mathlib.Core.Path.{_≡_};
 ghost use mathlib.Core.Bool.{false};
 ghost use Prim.Native.Nat.{_+_, _-_, _*_, _≤_, _<_};
-ghost use Rattle.genotype.specs.Answer.{countLimit};
+ghost use Rattle.answer.specs.Answer.{countLimit};
 ghost use Rattle.index.specs.Numbers.{magnitude, fromCount, sliceList};
 ghost use Rattle.index.specs.Checks.{checkSlice};
 ghost use Rattle.index.specs.Says.{listSays};

@@ -8,8 +8,8 @@ use lib.ListN.{length}
 use mir.Syntax.{w8}
 use mir.Val.{SFits, toZ, ofZ}
 use mir.ValLaws.{toZ-ofZ}
-use Rattle.genotype.specs.Answer.{Answer}
-use Rattle.genotype.specs.Value.{i8}
+use Rattle.answer.specs.Answer.{Answer}
+use Rattle.codes.specs.Value.{i8}
 use Rattle.bed_read.specs.Reading.{readAnswer, readBuffer}
 use Rattle.bed_write.specs.Packing.{placeCode, Encodes}
 use Rattle.bed_write.specs.Writing.{valueCode, Writes}

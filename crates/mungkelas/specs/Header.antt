@@ -7,7 +7,7 @@ use Prim.Native.Nat.{ℕ}
 use lib.IntN.{ℤ}
 use lib.Ieee.{Float, binary64}
 use lib.ListN.{length}
-use Rattle.genotype.specs.Value.{Width}
+use Rattle.codes.specs.Value.{Width}
 use Rattle.index.specs.declared.Index.{Index}
 use Rattle.index.specs.Checks.{indexAnswer, indexBuffer}
 use Rattle.bed_read.specs.Reading.{readAnswer, readBuffer}

@@ -1,8 +1,8 @@
 // Counts, spans and lists.
 ghost use mathlib.Core.Path.{_≡_};
 ghost use mathlib.Core.List.{[]};
-ghost use Rattle.genotype.specs.Block.{divAnswer};
-ghost use Rattle.genotype.specs.Entry.{spanAnswer};
+ghost use Rattle.blocks.specs.Block.{divAnswer};
+ghost use Rattle.entries.specs.Entry.{spanAnswer};
 ghost use Rattle.index.specs.declared.Index.the-variants as Index;
 ghost use Rattle.index.specs.Checks.{rangeAnswer};
 ghost use Rattle.bed_answer.specs.Interface.{bedAnswer};
@@ -19,7 +19,7 @@ use index::SliceInfo1;
 pub extern "C" fn bed_try_div_4(in_iid_count: usize, in_sid_count: usize) -> BedAnswer
     ensures { λ r. ⌜ r ≡ bedAnswer (divAnswer «in_iid_count» «in_sid_count») ⌝ }
 {
-    let answer = genotype::blocks::try_div_4(in_iid_count, in_sid_count);
+    let answer = blocks::try_div_4(in_iid_count, in_sid_count);
     bed_answer::of_div(answer)
 }
 
@@ -27,7 +27,7 @@ pub extern "C" fn bed_try_div_4(in_iid_count: usize, in_sid_count: usize) -> Bed
 pub extern "C" fn bed_byte_span(count: usize, index: &[i64]) -> BedAnswer
     ensures { λ r. ⌜ r ≡ bedAnswer (spanAnswer count (now (index .entry))) ⌝ }
 {
-    let answer = genotype::entries::byte_span(count, index);
+    let answer = entries::byte_span(count, index);
     bed_answer::of_span(answer)
 }
 

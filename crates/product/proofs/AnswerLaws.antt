@@ -12,8 +12,8 @@ use lib.Ieee.{Float}
 use borrow.Author.Tests.{ltb-true, leb-true, eqb-true, lt-ltb, le-ltb, le-leb, lt-leb, ne-eqb}
 use denote.Enum.Declared.{tagOf}
 use types.Run.{OneOf}
-use Rattle.genotype.specs.Answer.{Answer, done, check, ifDone}
-use Rattle.genotype.proofs.Tests.{both-true}
+use Rattle.answer.specs.Answer.{Answer, done, check, ifDone}
+use Rattle.answer.proofs.Tests.{both-true}
 use Rattle.product.specs.Piece.{goodPiece, enoughBytes, pieceAnswer, ataAnswer, aatAnswer}
 use Rattle.product.specs.Says.{pieceSays}
 use Rattle.product.specs.Private.{LinesIn}

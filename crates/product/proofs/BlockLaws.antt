@@ -11,8 +11,8 @@ use lib.Seq.{getD-take, getD-drop}
 use lib.Arith.{digits-div, digits-mod}
 use lib.Ieee.{Float, nan, Format}
 use borrow.Author.Tests.{le-leb, lt-leb, lt-ltb, le-ltb}
-use Rattle.genotype.specs.Lists.{tabulate}
-use Rattle.genotype.proofs.Tabulate.{length-tabulate, getD-tabulate, is-tabulate}
+use Rattle.answer.specs.Lists.{tabulate}
+use Rattle.answer.proofs.Tabulate.{length-tabulate, getD-tabulate, is-tabulate}
 use Rattle.product.specs.Private.{sumMore, rowMore, inBlock, blockMore, Put}
 use Rattle.product.proofs.PartLaws.{below-or, length-part}
 use Rattle.product.proofs.GridLaws.{row-in}

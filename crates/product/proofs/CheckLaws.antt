@@ -6,10 +6,10 @@ use Prim.Native.Nat.{ℕ, _+_, _-_, _*_, _/_, _≤_, _<_}
 use native.Mathlib.Omega.{arith}
 use lib.Dec.{leb, eqb}
 use borrow.Author.Tests.{lt-ltb, le-ltb, le-leb, lt-leb, eq-eqb, ne-eqb}
-use Rattle.genotype.specs.Answer.{Answer, done, refused, check, countLimit}
-use Rattle.genotype.proofs.Tests.{leb-both}
+use Rattle.answer.specs.Answer.{Answer, done, refused, check, countLimit}
+use Rattle.answer.proofs.Tests.{leb-both}
 use Rattle.product.specs.Piece.{goodPiece, enoughBytes, pieceAnswer}
-use Rattle.genotype.proofs.AnswerLaws.{check-passes, check-refuses}
+use Rattle.answer.proofs.AnswerLaws.{check-passes, check-refuses}
 
 -- 18
 module _ (a b c d e : ℕ) where

@@ -7,8 +7,8 @@ use native.Mathlib.Nat.{div-add-mod', mod-lt, mul-le-mul-right}
 use native.Mathlib.Omega.{arith}
 use lib.ListN.{getD}
 use lib.Arith.{digits-div, digits-mod}
-use Rattle.genotype.specs.Lists.{tabulate}
-use Rattle.genotype.proofs.Tabulate.{getD-tabulate, tabulate-ext}
+use Rattle.answer.specs.Lists.{tabulate}
+use Rattle.answer.proofs.Tabulate.{getD-tabulate, tabulate-ext}
 use Rattle.product.proofs.PartLaws.{below-or}
 
 -- rows below h end within h × w

@@ -10,8 +10,8 @@ use lib.Dec.{leb}
 use lib.ListN.{length, getD}
 use lib.Ieee.{Float, nan, Format}
 use borrow.Author.Tests.{le-leb, lt-leb}
-use Rattle.genotype.specs.Lists.{tabulate}
-use Rattle.genotype.proofs.Tabulate.{length-tabulate, getD-tabulate, tabulate-ext, is-tabulate}
+use Rattle.answer.specs.Lists.{tabulate}
+use Rattle.answer.proofs.Tabulate.{length-tabulate, getD-tabulate, tabulate-ext, is-tabulate}
 use Rattle.product.specs.Values.{floatAt}
 use Rattle.product.specs.Dot.{plusZero}
 use Rattle.product.specs.Private.{sumMore, valueOfLine, blockMore, lowerPiece}

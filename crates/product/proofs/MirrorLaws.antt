@@ -11,8 +11,8 @@ use lib.ListN.{length, getD, set, length-set}
 use lib.Seq.{getD-set-same, getD-set-other}
 use lib.Ieee.{Float, nan}
 use borrow.Author.Tests.{le-leb, lt-leb, lt-ltb, le-ltb}
-use Rattle.genotype.specs.Lists.{tabulate}
-use Rattle.genotype.proofs.Tabulate.{tabulate-ext, is-tabulate}
+use Rattle.answer.specs.Lists.{tabulate}
+use Rattle.answer.proofs.Tabulate.{tabulate-ext, is-tabulate}
 use Rattle.product.proofs.PartLaws.{below-or}
 use Rattle.product.proofs.GridLaws.{grid, grid-same, row-in}
 

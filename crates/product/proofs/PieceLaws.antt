@@ -10,8 +10,8 @@ use lib.Dec.{leb}
 use lib.ListN.{length, getD}
 use lib.Ieee.{Float, nan, Format, binary64}
 use borrow.Author.Tests.{le-leb, lt-leb}
-use Rattle.genotype.specs.Lists.{tabulate}
-use Rattle.genotype.proofs.Tabulate.{length-tabulate, getD-tabulate, tabulate-ext}
+use Rattle.answer.specs.Lists.{tabulate}
+use Rattle.answer.proofs.Tabulate.{length-tabulate, getD-tabulate, tabulate-ext}
 use Rattle.product.specs.Values.{floatAt, floatsOf, matrixValue, column, row}
 use Rattle.product.specs.Dot.{plusZero, dot}
 use Rattle.product.specs.Piece.{pieceOf, ataEntry, aatEntry}

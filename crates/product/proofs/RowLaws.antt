@@ -7,8 +7,8 @@ use native.Mathlib.Omega.{arith}
 use lib.ListN.{length, getD, set, take, drop, List·getD-append}
 use lib.Seq.{length-take-le, getD-take}
 use lib.Ieee.{Float, nan, Format, add, mul}
-use Rattle.genotype.specs.Lists.{tabulate}
-use Rattle.genotype.proofs.Tabulate.{length-tabulate, getD-tabulate, tabulate-ext, is-tabulate}
+use Rattle.answer.specs.Lists.{tabulate}
+use Rattle.answer.proofs.Tabulate.{length-tabulate, getD-tabulate, tabulate-ext, is-tabulate}
 use Rattle.product.specs.Private.{sumMore, termMore, rowMore, Put}
 use Rattle.product.proofs.InPlaceLaws.{filled, mapped, mapped-step}
 use Rattle.product.proofs.SumLaws.{term-more, sum-add, sum-ext}

@@ -7,7 +7,7 @@ use native.Mathlib.Nat.{add-zero, add-suc, mul-comm}
 use native.Mathlib.Omega.{arith}
 use lib.Dec.{eqb}
 use lib.Ieee.{Float, nan, inf, fin, Format, up, down, unlike, round, add, mul}
-use Rattle.genotype.specs.Lists.{tabulate}
+use Rattle.answer.specs.Lists.{tabulate}
 use Rattle.product.specs.Dot.{plusZero, dotFrom, dot}
 use Rattle.product.specs.Private.{sumMore}
 

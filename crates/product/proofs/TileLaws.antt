@@ -7,8 +7,8 @@ use native.Mathlib.Omega.{arith}
 use lib.ListN.{length, take, drop, getD}
 use lib.Ieee.{Float, nan}
 use borrow.Rule.Slice.PartMut.{putMid}
-use Rattle.genotype.specs.Lists.{tabulate}
-use Rattle.genotype.proofs.Tabulate.{length-tabulate, getD-tabulate, tabulate-ext}
+use Rattle.answer.specs.Lists.{tabulate}
+use Rattle.answer.proofs.Tabulate.{length-tabulate, getD-tabulate, tabulate-ext}
 use Rattle.product.specs.Values.{floatAt}
 use Rattle.product.specs.Private.{spacedValue, SpacedIn, valueOfLine, Tile}
 use Rattle.product.proofs.PartLaws.{below-or, length-part, put-in, put-out}

@@ -5,8 +5,8 @@ use Prim.Native.Nat.{ℕ, _+_, _*_, _/_, _%_}
 use lib.ListN.{length}
 use lib.Dec.{leb, ltb, eqb}
 use lib.Ieee.{Float, Format, binary64}
-use Rattle.genotype.specs.Answer.{Answer, done, check, checkCount, ifDone}
-use Rattle.genotype.specs.Lists.{tabulate}
+use Rattle.answer.specs.Answer.{Answer, done, check, checkCount, ifDone}
+use Rattle.answer.specs.Lists.{tabulate}
 use Rattle.product.specs.Values.{floatsOf, column, row}
 use Rattle.product.specs.Dot.{dot, plusZero}
 

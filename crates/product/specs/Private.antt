@@ -6,7 +6,7 @@ use Prim.Native.Nat.{ℕ, zero, suc, _+_, _-_, _*_, _/_, _%_, _^_, _<_, _≤_}
 use lib.Dec.{leb, ltb}
 use lib.Ieee.{Float, nan, Format, add, mul}
 use lib.ListN.{length, getD, take, drop}
-use Rattle.genotype.specs.Lists.{tabulate}
+use Rattle.answer.specs.Lists.{tabulate}
 use Rattle.product.specs.Values.{leNumber, floatAt}
 use Rattle.product.specs.Dot.{plusZero}
 use Rattle.product.specs.Piece.{pieceOf}

@@ -1,6 +1,6 @@
 -- What `PieceAnswer` says: document 01's number for each of its cases.
 use mathlib.Core.List.{[]}
-use Rattle.genotype.specs.Answer.{Answer, done, refused}
+use Rattle.answer.specs.Answer.{Answer, done, refused}
 use Rattle.product.specs.declared.checks.PieceAnswer.{PieceAnswer}
 use Rattle.product.specs.declared.checks.PieceAnswer.the-variants.{Done, CountTooLarge, CannotConvertBetaToFromF64, IndexMismatch, ReadError}
 

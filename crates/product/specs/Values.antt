@@ -3,7 +3,7 @@ use mathlib.Core.List.{List, [], _∷_}
 use Prim.Native.Nat.{ℕ, _+_, _*_}
 use lib.ListN.{take, drop, getD}
 use lib.Ieee.{Float, nan, binary64, ofBits}
-use Rattle.genotype.specs.Lists.{tabulate}
+use Rattle.answer.specs.Lists.{tabulate}
 
 -- "little-endian": the number of a list of bytes, the lowest first
 unfoldable pub leNumber : List ℕ → ℕ

@@ -2,7 +2,7 @@
 ghost use mathlib.Core.Path.{_≡_};
 ghost use mathlib.Core.Bool.{_&&_};
 ghost use lib.Dec.{leb};
-ghost use Rattle.genotype.specs.Answer.{countLimit};
+ghost use Rattle.answer.specs.Answer.{countLimit};
 ghost use Rattle.product.specs.Piece.{pieceAnswer, goodPiece, enoughBytes};
 ghost use Rattle.product.specs.Says.{pieceSays};
 
@@ -19,19 +19,19 @@ pub enum PieceAnswer {
 fn counts_fit(a: usize, b: usize, c: usize, d: usize, e: usize) -> bool
     ensures { λ r. ⌜ r ≡ (leb a countLimit && (leb b countLimit && (leb c countLimit && (leb d countLimit && leb e countLimit)))) ⌝ }
 {
-    if a > 9223372036854775807 {
+    if a > answer::COUNT_LIMIT {
         return false;
     }
-    if b > 9223372036854775807 {
+    if b > answer::COUNT_LIMIT {
         return false;
     }
-    if c > 9223372036854775807 {
+    if c > answer::COUNT_LIMIT {
         return false;
     }
-    if d > 9223372036854775807 {
+    if d > answer::COUNT_LIMIT {
         return false;
     }
-    e <= 9223372036854775807
+    e <= answer::COUNT_LIMIT
 }
 
 // Whether a piece does not meet 20.
@@ -63,7 +63,7 @@ fn enough_bytes(bytes_len: usize, offset: u64, row_count: usize, col_count: usiz
     if offset > bytes_len as u64 {
         return false;
     }
-    genotype::blocks::product_at_most(row_count, col_count, (bytes_len - offset as usize) / 8)
+    blocks::product_at_most(row_count, col_count, (bytes_len - offset as usize) / 8)
 }
 
 // The checks of a piece of so many lines, in order: 18, 20, 15, 1.
@@ -89,7 +89,7 @@ pub(crate) fn check_piece(
     if !good_piece(total, start, height, width, least_width) {
         return PieceAnswer::CannotConvertBetaToFromF64;
     }
-    if !genotype::blocks::product_is(height, width, piece_len) {
+    if !blocks::product_is(height, width, piece_len) {
         return PieceAnswer::IndexMismatch;
     }
     if enough_bytes(bytes_len, offset, row_count, col_count) {

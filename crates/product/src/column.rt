@@ -3,7 +3,7 @@ ghost use mathlib.Core.Path.{_≡_};
 ghost use Prim.Native.Nat.{ℕ, _+_, _*_, _<_};
 ghost use lib.ListN.{length, getD};
 ghost use lib.Ieee.{nan};
-ghost use Rattle.genotype.specs.Lists.{tabulate};
+ghost use Rattle.answer.specs.Lists.{tabulate};
 ghost use Rattle.product.specs.Private.{Put};
 
 // Takes out values a width apart.

@@ -4,7 +4,7 @@ ghost use mathlib.Core.Bool.{true};
 ghost use Prim.Native.Nat.{_+_, _*_, _^_, _<_, _≤_};
 ghost use lib.ListN.{length, take, drop};
 ghost use lib.Ieee.{binary64, ofBits};
-ghost use Rattle.genotype.specs.Lists.{tabulate};
+ghost use Rattle.answer.specs.Lists.{tabulate};
 ghost use Rattle.product.specs.Values.{leNumber, floatAt};
 ghost use Rattle.product.specs.Private.{spacedValue, SpacedIn, RunsIn, NoNan, RunsNoNan, valueOfLine, LinesIn, Tile};
 

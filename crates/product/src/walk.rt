@@ -9,7 +9,7 @@ ghost use mathlib.Core.Path.{_≡_};
 ghost use Prim.Native.Nat.{_+_, _*_, _<_, _≤_, min};
 ghost use lib.ListN.{length};
 ghost use lib.Ieee.{binary64};
-ghost use Rattle.genotype.specs.Lists.{tabulate};
+ghost use Rattle.answer.specs.Lists.{tabulate};
 ghost use Rattle.product.specs.Dot.{plusZero};
 ghost use Rattle.product.specs.Private.{valueOfLine, LinesIn, LoadedOrStraight, BlockReady, rowsMore, lowerPiece, mirroredPiece};
 use crate::column;

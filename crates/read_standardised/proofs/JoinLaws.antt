@@ -9,11 +9,11 @@ use lib.Dec.{eqb}
 use lib.IntN.{ℤ}
 use lib.ListN.{length}
 use lib.Ieee.{Float, nan, Format}
-use Rattle.genotype.specs.Answer.{Answer, done, refused, check, checkCount, countLimit, isDone, ifDone}
-use Rattle.genotype.specs.Value.{float, valueOf}
-use Rattle.genotype.proofs.Tests.{by-test}
-use Rattle.genotype.proofs.AnswerLaws.{check-passes, check-refuses, count-passes, count-refuses, check-stage, count-stage, then-stage, Stage, lets, refuses, heard, new-if-done, old-if-not}
-use Rattle.genotype.proofs.MatrixLaws.{length-matrix}
+use Rattle.answer.specs.Answer.{Answer, done, refused, check, checkCount, countLimit, isDone, ifDone}
+use Rattle.codes.specs.Value.{float, valueOf}
+use Rattle.answer.proofs.Tests.{by-test}
+use Rattle.answer.proofs.AnswerLaws.{check-passes, check-refuses, count-passes, count-refuses, check-stage, count-stage, then-stage, Stage, lets, refuses, heard, new-if-done, old-if-not}
+use Rattle.answer.proofs.MatrixLaws.{length-matrix}
 use Rattle.bed_file.specs.File.{checkFile, acceptAnswer}
 use Rattle.bed_read.specs.Reading.{checkLists, readAnswer, readCode, codesRead, valuesRead, readBuffer}
 use Rattle.bed_file.proofs.FileLaws.{accepted, file-stage}

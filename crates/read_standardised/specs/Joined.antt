@@ -7,8 +7,8 @@ use lib.Dec.{eqb}
 use lib.IntN.{ℤ}
 use lib.ListN.{length}
 use lib.Ieee.{Float, nan, Format}
-use Rattle.genotype.specs.Answer.{Answer, done, check, checkCount, ifDone}
-use Rattle.genotype.specs.Value.{float}
+use Rattle.answer.specs.Answer.{Answer, done, check, checkCount, ifDone}
+use Rattle.codes.specs.Value.{float}
 use Rattle.bed_file.specs.File.{checkFile}
 use Rattle.bed_read.specs.Reading.{checkLists, valuesRead}
 use Rattle.statistics.specs.Statistics.{statsPerMarker}

@@ -1,7 +1,7 @@
 -- What the joined call's answer enum says: document 01's number and the values for each of its cases.
 use mathlib.Core.List.{List, [], _∷_}
 use lib.IntN.{pos}
-use Rattle.genotype.specs.Answer.{Answer, done, refused}
+use Rattle.answer.specs.Answer.{Answer, done, refused}
 use Rattle.bed_file.specs.Says.{faultNumber}
 use Rattle.bed_read.specs.Says.{readSays}
 use Rattle.standardise.specs.Says.{standardiseSays}

@@ -6,8 +6,8 @@ use Prim.Native.Nat.{ℕ}
 use lib.IntN.{ℤ}
 use lib.ListN.{length}
 use lib.Ieee.{Float, nan, Format}
-use Rattle.genotype.specs.Answer.{Answer}
-use Rattle.genotype.specs.Value.{float}
+use Rattle.answer.specs.Answer.{Answer}
+use Rattle.codes.specs.Value.{float}
 use Rattle.bed_read.specs.Reading.{readAnswer, readBuffer}
 use Rattle.standardise.specs.Standardised.{standardiseAnswer, laterStats, laterValues}
 use Rattle.read_standardised.specs.Joined.{joinedAnswer, joinedStats, joinedValues}

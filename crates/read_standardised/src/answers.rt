@@ -1,6 +1,6 @@
 // The answers: the joined call's, from those of the two calls.
 ghost use mathlib.Core.Path.{_≡_};
-ghost use Rattle.genotype.specs.Answer.{isDone};
+ghost use Rattle.answer.specs.Answer.{isDone};
 ghost use Rattle.bed_read.specs.Says.{readSays};
 ghost use Rattle.standardise.specs.Says.{standardiseSays};
 ghost use Rattle.read_standardised.specs.Says.{joinedSays};

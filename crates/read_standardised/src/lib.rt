@@ -26,16 +26,16 @@ pub fn read_standardised_f64(
     ensures { λ r. ⌜ Joins binary64 (now (file .entry)) «iid_count» «sid_count» «is_a1_counted» (now («iid_index» .entry)) (now («sid_index» .entry))
         «animal_order» (now (val .entry)) (now (stats .entry)) (joinedSays r) (now (val .exit)) (now (stats .exit)) ⌝ }
 {
-    if iid_count > 9223372036854775807 {
+    if iid_count > answer::COUNT_LIMIT {
         return JoinedAnswer::Refused(FileFault::CountTooLarge);
     }
-    if sid_count > 9223372036854775807 {
+    if sid_count > answer::COUNT_LIMIT {
         return JoinedAnswer::Refused(FileFault::CountTooLarge);
     }
-    if !genotype::blocks::product_is(iid_index.len(), sid_index.len(), val.len()) {
+    if !blocks::product_is(iid_index.len(), sid_index.len(), val.len()) {
         return JoinedAnswer::IndexMismatch;
     }
-    if !genotype::blocks::product_is(standardise::STATS_PER_MARKER, sid_index.len(), stats.len()) {
+    if !blocks::product_is(standardise::STATS_PER_MARKER, sid_index.len(), stats.len()) {
         return JoinedAnswer::StatsMismatch;
     }
     let missing: f64 = 0.0 / 0.0;

@@ -10,9 +10,9 @@ use lib.ListN.{length, getD, set}
 use lib.Seq.{getD-set-same, getD-set-other}
 use lib.Ieee.{Float, nan, Format, div}
 use borrow.Author.Tests.{eqb-true, eqb-false, lt-ltb, le-ltb, le-leb, lt-leb}
-use Rattle.genotype.specs.Matrix.{matrixPlace, matrix}
-use Rattle.genotype.proofs.Tests.{by-test, by-lt, leb-both}
-use Rattle.genotype.proofs.MatrixLaws.{length-matrix, getD-matrix, matrix-ext}
+use Rattle.answer.specs.Matrix.{matrixPlace, matrix}
+use Rattle.answer.proofs.Tests.{by-test, by-lt, leb-both}
+use Rattle.answer.proofs.MatrixLaws.{length-matrix, getD-matrix, matrix-ext}
 use Rattle.statistics.specs.declared.Stats.{Stats}
 use Rattle.statistics.specs.Statistics.{one, isInfinite, standardised, statsAt}
 use Rattle.standardise.specs.Standardised.{value}

@@ -9,10 +9,10 @@ use lib.Dec.{eqb}
 use lib.ListN.{length, getD}
 use lib.Ieee.{Float, nan, Format}
 use borrow.Author.Tests.{le-leb, lt-leb, eqb-true, eqb-false}
-use Rattle.genotype.specs.Answer.{Answer, done, refused, countLimit, isDone, ifDone}
-use Rattle.genotype.specs.Matrix.{matrixPlace, matrix}
-use Rattle.genotype.proofs.Tests.{by-test}
-use Rattle.genotype.proofs.MatrixLaws.{getD-matrix, matrix-ext}
+use Rattle.answer.specs.Answer.{Answer, done, refused, countLimit, isDone, ifDone}
+use Rattle.answer.specs.Matrix.{matrixPlace, matrix}
+use Rattle.answer.proofs.Tests.{by-test}
+use Rattle.answer.proofs.MatrixLaws.{getD-matrix, matrix-ext}
 use Rattle.statistics.specs.declared.Stats.{Stats}
 use Rattle.statistics.specs.declared.MarkerStats.{MarkerStats}
 use Rattle.statistics.specs.declared.MarkerStats.the-variants.{Found, NoIndividuals, IllegalSnpMean}

@@ -10,9 +10,9 @@ use lib.ListN.{length, getD}
 use lib.Seq.{ext-getD}
 use lib.Ieee.{Float, nan}
 use borrow.Author.Tests.{lt-ltb, le-ltb}
-use Rattle.genotype.specs.Matrix.{matrixPlace, matrix}
-use Rattle.genotype.proofs.Tests.{leb-both}
-use Rattle.genotype.proofs.MatrixLaws.{length-matrix, place-below, getD-matrix, matrix-ext}
+use Rattle.answer.specs.Matrix.{matrixPlace, matrix}
+use Rattle.answer.proofs.Tests.{leb-both}
+use Rattle.answer.proofs.MatrixLaws.{length-matrix, place-below, getD-matrix, matrix-ext}
 use Rattle.standardise.specs.Private.{written}
 use Rattle.standardise.proofs.StoreLaws.{length-written, getD-written}
 

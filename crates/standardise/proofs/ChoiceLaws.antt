@@ -7,7 +7,7 @@ use native.Mathlib.Nat.{add-zero}
 use native.Mathlib.Omega.{arith}
 use lib.ListN.{getD, set}
 use lib.Ieee.{Float, nan, Format, div}
-use Rattle.genotype.specs.Answer.{Answer, isDone, ifDone}
+use Rattle.answer.specs.Answer.{Answer, isDone, ifDone}
 use Rattle.statistics.specs.declared.Stats.{Stats}
 use Rattle.statistics.specs.declared.MarkerStats.{MarkerStats}
 use Rattle.statistics.specs.declared.MarkerStats.the-variants.{Found}

@@ -13,8 +13,8 @@ use lib.Ieee.{Float, nan, inf, binary64, add, mul, div, isNan}
 use Rattle.statistics.specs.declared.MarkerStats.{MarkerStats}
 use Rattle.statistics.specs.declared.MarkerStats.the-variants.{NoIndividuals, IllegalSnpMean}
 use Rattle.statistics.specs.Statistics.{plusZero, one, counted, accumulated, mean, noValue, markerStats, foundFor}
-use Rattle.genotype.specs.Answer.{Answer, done, refused, isDone, ifDone}
-use Rattle.genotype.specs.Matrix.{matrixPlace}
+use Rattle.answer.specs.Answer.{Answer, done, refused, isDone, ifDone}
+use Rattle.answer.specs.Matrix.{matrixPlace}
 use Rattle.statistics.specs.Calls.{two, IsCall, isZero, isTwo, total, SumsAgree}
 use Rattle.standardise.specs.Standardised.{markerAnswer, markersAnswer, bufferChecks, value, found, lowestRefused, standardiseAnswer, laterStats, laterValues}
 use Rattle.standardise.proofs.Theorems.{orders-same-answer, orders-same-stats, orders-same-values, rows-unchanged, one-marker-same-cells, one-marker-same-answer, one-marker-same-stats, one-marker-same-values, reordered-same-answer, reordered-same-stats, reordered-moved-values}

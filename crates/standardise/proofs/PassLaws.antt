@@ -8,14 +8,14 @@ use native.Mathlib.Nat.{add-zero, mul-comm, mul-le-mul-right, suc-mul}
 use native.Mathlib.Omega.{arith}
 use lib.ListN.{length, getD}
 use lib.Ieee.{Float, nan, Format}
-use Rattle.genotype.specs.Answer.{Answer, done, ifDone}
-use Rattle.genotype.specs.Matrix.{matrixPlace, matrix}
+use Rattle.answer.specs.Answer.{Answer, done, ifDone}
+use Rattle.answer.specs.Matrix.{matrixPlace, matrix}
 use Rattle.statistics.specs.declared.Stats.{Stats}
 use Rattle.statistics.specs.declared.MarkerStats.{MarkerStats}
 use Rattle.statistics.specs.Statistics.{statsPerMarker, statsAt, foundFor}
 use Rattle.standardise.specs.Standardised.{markerAnswer, markersAnswer, keptOrNew, applied, value, found, lowestRefused, newStats, mayChange, newValues}
 use Rattle.standardise.specs.Private.{laterStat, laterValue, written, from, changed, storedStats, StatsIn}
-use Rattle.genotype.proofs.MatrixLaws.{length-matrix}
+use Rattle.answer.proofs.MatrixLaws.{length-matrix}
 use Rattle.standardise.proofs.CellLaws.{own-cells, upTo, column-more, column-old, none-new, all-new}
 use Rattle.statistics.proofs.CountLaws.{foundFor-ext}
 

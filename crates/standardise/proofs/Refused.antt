@@ -10,10 +10,10 @@ use lib.Dec.{eqb}
 use lib.IntN.{ℤ, pos}
 use lib.ListN.{getD}
 use lib.Ieee.{Float, nan, Format, isNan}
-use Rattle.genotype.specs.Answer.{Answer, done, refused, isDone, ifDone}
-use Rattle.genotype.specs.Matrix.{matrixPlace, matrix}
-use Rattle.genotype.proofs.MatrixLaws.{getD-matrix}
-use Rattle.genotype.proofs.Tests.{by-test}
+use Rattle.answer.specs.Answer.{Answer, done, refused, isDone, ifDone}
+use Rattle.answer.specs.Matrix.{matrixPlace, matrix}
+use Rattle.answer.proofs.MatrixLaws.{getD-matrix}
+use Rattle.answer.proofs.Tests.{by-test}
 use Rattle.statistics.specs.declared.Stats.{Stats}
 use Rattle.statistics.specs.declared.MarkerStats.{MarkerStats}
 use Rattle.statistics.specs.declared.MarkerStats.the-variants.{Found, NoIndividuals, IllegalSnpMean}

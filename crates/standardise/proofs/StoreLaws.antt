@@ -9,7 +9,7 @@ use lib.ListN.{length, getD, set, length-set}
 use lib.Seq.{getD-set-same, getD-set-other, set-getD}
 use lib.Ieee.{Float, nan}
 use borrow.Author.Tests.{eqb-true, eqb-false}
-use Rattle.genotype.proofs.Tests.{by-test}
+use Rattle.answer.proofs.Tests.{by-test}
 use Rattle.standardise.specs.Private.{written, from, changed}
 
 module _ (xs : List Float) (place : ℕ → ℕ) where

@@ -11,12 +11,12 @@ use lib.IntN.{pos}
 use lib.ListN.{length, getD}
 use lib.Seq.{ext-getD}
 use lib.Ieee.{Float, nan, Format}
-use Rattle.genotype.specs.Answer.{Answer, done, refused, check, checkCount, countLimit, isDone, ifDone}
-use Rattle.genotype.specs.Value.{float, values, valueOf}
-use Rattle.genotype.specs.Matrix.{matrixPlace, matrix}
-use Rattle.genotype.proofs.AnswerLaws.{check-done, count-done, old-if-not}
-use Rattle.genotype.proofs.MatrixLaws.{length-matrix, getD-matrix, matrix-ext}
-use Rattle.genotype.proofs.Tests.{by-test}
+use Rattle.answer.specs.Answer.{Answer, done, refused, check, checkCount, countLimit, isDone, ifDone}
+use Rattle.codes.specs.Value.{float, values, valueOf}
+use Rattle.answer.specs.Matrix.{matrixPlace, matrix}
+use Rattle.answer.proofs.AnswerLaws.{check-done, count-done, old-if-not}
+use Rattle.answer.proofs.MatrixLaws.{length-matrix, getD-matrix, matrix-ext}
+use Rattle.answer.proofs.Tests.{by-test}
 use Rattle.statistics.specs.declared.MarkerStats.{MarkerStats}
 use Rattle.statistics.specs.declared.MarkerStats.the-variants.{Found, NoIndividuals, IllegalSnpMean}
 use Rattle.statistics.specs.Statistics.{statsPerMarker, statsAt, foundFor, markerStats}

@@ -10,9 +10,9 @@ use lib.ListN.{length, getD, set, length-set, replicate, getD-replicate}
 use lib.Seq.{getD-set-same, getD-set-other}
 use lib.Ieee.{Float, nan, Format}
 use borrow.Author.Tests.{eqb-true, eqb-false, lt-ltb, le-ltb}
-use Rattle.genotype.specs.Answer.{Answer, ifDone}
-use Rattle.genotype.specs.Matrix.{matrixPlace}
-use Rattle.genotype.proofs.Tests.{by-test, leb-both}
+use Rattle.answer.specs.Answer.{Answer, ifDone}
+use Rattle.answer.specs.Matrix.{matrixPlace}
+use Rattle.answer.proofs.Tests.{by-test, leb-both}
 use Rattle.statistics.specs.declared.Accumulator.{Accumulator}
 use Rattle.statistics.specs.declared.MarkerStats.{MarkerStats}
 use Rattle.statistics.specs.Statistics.{plusZero, start, counted, accumulated, foundFor}

@@ -6,8 +6,8 @@ use Prim.Native.Nat.{ℕ, zero, suc, _+_, _*_, _<_, _≤_}
 use lib.Dec.{leb, ltb}
 use lib.ListN.{length, getD, set}
 use lib.Ieee.{Float, nan, Format, div}
-use Rattle.genotype.specs.Answer.{Answer}
-use Rattle.genotype.specs.Matrix.{matrix}
+use Rattle.answer.specs.Answer.{Answer}
+use Rattle.answer.specs.Matrix.{matrix}
 use Rattle.statistics.specs.declared.Accumulator.{Accumulator}
 use Rattle.statistics.specs.declared.Stats.{Stats}
 use Rattle.statistics.specs.declared.MarkerStats.{MarkerStats}

@@ -1,7 +1,7 @@
 -- What `StandardiseAnswer` says: document 01's number and the values for each of its cases.
 use mathlib.Core.List.{[], _∷_}
 use lib.IntN.{pos}
-use Rattle.genotype.specs.Answer.{Answer, done, refused}
+use Rattle.answer.specs.Answer.{Answer, done, refused}
 use Rattle.standardise.specs.declared.answers.StandardiseAnswer.{StandardiseAnswer}
 use Rattle.standardise.specs.declared.answers.StandardiseAnswer.the-variants as answers
 

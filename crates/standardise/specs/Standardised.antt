@@ -7,8 +7,8 @@ use lib.IntN.{pos}
 use lib.Dec.{eqb}
 use lib.ListN.{length, getD}
 use lib.Ieee.{Float, nan, Format}
-use Rattle.genotype.specs.Answer.{Answer, done, refused, check, checkCount, isDone, ifDone}
-use Rattle.genotype.specs.Matrix.{matrixPlace, matrix}
+use Rattle.answer.specs.Answer.{Answer, done, refused, check, checkCount, isDone, ifDone}
+use Rattle.answer.specs.Matrix.{matrixPlace, matrix}
 use Rattle.statistics.specs.declared.MarkerStats.{MarkerStats}
 use Rattle.statistics.specs.declared.MarkerStats.the-variants.{Found, NoIndividuals, IllegalSnpMean}
 use Rattle.statistics.specs.Statistics.{foundFor, statsPerMarker, inPlaces, statsAt, standardised}

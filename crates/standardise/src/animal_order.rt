@@ -4,7 +4,7 @@ ghost use mathlib.Core.Bool.{true, false, _&&_, cond};
 ghost use Prim.Native.Nat.{ℕ, _+_, _*_, _≤_, _<_};
 ghost use lib.ListN.{length, getD};
 ghost use lib.Ieee.{nan, binary64};
-ghost use Rattle.genotype.specs.Answer.{isDone};
+ghost use Rattle.answer.specs.Answer.{isDone};
 ghost use Rattle.statistics.specs.Statistics.{start, counted, accumulated, statsPerMarker, statsAt};
 ghost use Rattle.standardise.specs.Standardised.{value};
 ghost use Rattle.standardise.specs.Says.{standardiseSays};

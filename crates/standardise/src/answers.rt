@@ -1,6 +1,6 @@
 // The answers: that of a marker, and the first refusal of several.
 ghost use mathlib.Core.Path.{_≡_};
-ghost use Rattle.genotype.specs.Answer.{isDone, ifDone};
+ghost use Rattle.answer.specs.Answer.{isDone, ifDone};
 ghost use Rattle.standardise.specs.Standardised.{markerAnswer};
 ghost use Rattle.standardise.specs.Says.{standardiseSays};
 use statistics::MarkerStats;

@@ -25,16 +25,16 @@ pub fn impute_and_zero_mean_snps_f64(
     ensures { λ r. ⌜ Standardises binary64 «animal_order» «iid_count» «sid_count» (now (val .entry)) «use_stats» (now (stats .entry)) «apply_in_place»
         (standardiseSays r) (now (val .exit)) (now (stats .exit)) ⌝ }
 {
-    if iid_count > 9223372036854775807 {
+    if iid_count > answer::COUNT_LIMIT {
         return StandardiseAnswer::CountTooLarge;
     }
-    if sid_count > 9223372036854775807 {
+    if sid_count > answer::COUNT_LIMIT {
         return StandardiseAnswer::CountTooLarge;
     }
-    if !genotype::blocks::product_is(iid_count, sid_count, val.len()) {
+    if !blocks::product_is(iid_count, sid_count, val.len()) {
         return StandardiseAnswer::IndexMismatch;
     }
-    if !genotype::blocks::product_is(STATS_PER_MARKER, sid_count, stats.len()) {
+    if !blocks::product_is(STATS_PER_MARKER, sid_count, stats.len()) {
         return StandardiseAnswer::StatsMismatch;
     }
     if animal_order {

@@ -4,7 +4,7 @@ use mathlib.Core.List.{List, [], _∷_}
 use Prim.Native.Nat.{ℕ, suc}
 use lib.Dec.{eqb}
 use lib.ListN.{length}
-use Rattle.genotype.specs.Lists.{tabulate}
+use Rattle.answer.specs.Lists.{tabulate}
 use Rattle.stored_list.specs.Words.{lengthAt, wordAt}
 
 -- the buffer of 64 places that has what each word of section k stands for

@@ -6,8 +6,8 @@ use bed_write::WriteAnswer;
 use block::CodeAnswer;
 use block::DecodeAnswer;
 use block::PackAnswer;
-use genotype::entries::IidIndex;
-use genotype::entries::SidIndex;
+use entries::IidIndex;
+use entries::SidIndex;
 use standardise::StandardiseAnswer;
 
 fn say(text: &[u8]) {

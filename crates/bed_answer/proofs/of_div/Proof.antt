@@ -1,5 +1,5 @@
 -- `of_div`, case by case.
-use Rattle.genotype.specs.Says.{divSays}
+use Rattle.blocks.specs.Says.{divSays}
 use Rattle.bed_answer.specs.Interface.{bedAnswer, numberOf, valuesOf, clip, carriesEntry, clipAnswer}
 use Rattle.bed_answer.proofs.AnswerLaws.{told}
 use borrow.Author.Needs.{needs}

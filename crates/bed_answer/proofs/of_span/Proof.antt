@@ -3,7 +3,7 @@ use mathlib.Core.Path.{ap, _∙_}
 use lib.IntN.{ℤ, pos}
 use mir.Syntax.{w64}
 use mir.ValLaws.{toZ-ofZ}
-use Rattle.genotype.specs.Says.{spanSays}
+use Rattle.entries.specs.Says.{spanSays}
 use Rattle.bed_answer.specs.Interface.{bedAnswer, numberOf, valuesOf, clip, carriesEntry, clipAnswer}
 use Rattle.bed_answer.specs.Private.{threeOf}
 use Rattle.bed_answer.proofs.AnswerLaws.{told}

@@ -1,7 +1,7 @@
 -- `check_length`: 18 and 4 by `try_div_4`, whose width makes the length.
 use mathlib.Core.Path.{sym, ap, _∙_}
 use native.Mathlib.Omega.{arith}
-use Rattle.genotype.specs.Says.{divSays}
+use Rattle.blocks.specs.Says.{divSays}
 use Rattle.bed_file.proofs.FileLaws.{length-refused, product-fits, length-right, length-wrong}
 use borrow.Author.Needs.{needs}
 use Rattle.bed_file.proofs.check_length.Statement.{statement}

@@ -1,13 +1,12 @@
 // Packing values of type i8.
 ghost use mathlib.Core.Path.{_≡_};
 ghost use lib.ListN.{length};
-ghost use Rattle.genotype.specs.Value.{i8};
+ghost use Rattle.codes.specs.Value.{i8};
 ghost use Rattle.bed_write.specs.Packing.{placeCode, packedCodes, firstBadAnimal, Encodes};
-ghost use Rattle.genotype.specs.Block.{blockWidth};
+ghost use Rattle.blocks.specs.Block.{blockWidth};
 ghost use mathlib.Core.Option.{none};
 ghost use Rattle.bed_write.specs.Says.{encodeSays};
 use super::EncodeAnswer;
-use crate::group;
 use crate::group::group_i8;
 use crate::search::BadCall;
 use crate::search::search_i8;
@@ -23,14 +22,14 @@ pub(crate) fn pack_i8(column: &[i8], is_a1_counted: bool, missing: i8, out: &mut
     while b < full {
         let start = 4 * b;
         let g = group_i8::group_good_i8(column, start, 1, 4, is_a1_counted);
-        out[b] = group::byte_of(g);
+        out[b] = codes::byte_of(g);
         b += 1;
     }
     if b < out.len() {
         let start = 4 * b;
         let left = column.len() - start;
         let g = group_i8::group_good_i8(column, start, 1, left, is_a1_counted);
-        out[b] = group::byte_of(g);
+        out[b] = codes::byte_of(g);
     }
 }
 
@@ -45,7 +44,7 @@ pub fn encode1_i8(
         (encodeSays r) (now («out_vector» .entry)) (now («out_vector» .exit)) ⌝ }
 {
     let iid_count = in_vector.len();
-    if out_vector.len() != genotype::blocks::block_width(iid_count) {
+    if out_vector.len() != blocks::block_width(iid_count) {
         return EncodeAnswer::EncodingLength;
     }
     let bad = search_i8::search_i8(in_vector, iid_count, 1, false, is_a1_counted, missing);

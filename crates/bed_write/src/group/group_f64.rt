@@ -1,11 +1,11 @@
 // Groups of values of type f64.
 ghost use mathlib.Core.Path.{_≡_};
 ghost use lib.ListN.{length};
-ghost use Rattle.genotype.specs.Value.{float};
+ghost use Rattle.codes.specs.Value.{float};
 ghost use Rattle.bed_write.specs.Private.{PlaceInside, FourInside, GoodPlace, GoodFour};
-use super::Group;
 use super::PAD;
 use crate::value_codes::codes_f64;
+use codes::Group;
 
 // The code of place k of the group of values that stand `stride` apart from `start` on, of which `left` are there and none is bad.
 fn held_good_f64(

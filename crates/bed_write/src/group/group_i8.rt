@@ -1,12 +1,12 @@
 // Groups of values of type i8.
 ghost use mathlib.Core.Path.{_≡_};
 ghost use lib.ListN.{length};
-ghost use Rattle.genotype.specs.Value.{i8};
+ghost use Rattle.codes.specs.Value.{i8};
 ghost use Rattle.bed_write.specs.Groups.{inGroup, Four};
 ghost use Rattle.bed_write.specs.Private.{byTable, strided, PlaceInside, FourInside, GoodPlace, GoodFour};
-use super::Group;
 use super::PAD;
 use crate::value_codes::codes_i8;
+use codes::Group;
 
 // The code of place k of the group of values that stand `stride` apart from `start` on, of which `left` are there.
 fn held_i8(val: &[i8], start: usize, stride: usize, left: usize, k: usize, table: &[u8; 256]) -> u8

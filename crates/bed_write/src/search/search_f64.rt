@@ -2,13 +2,13 @@
 ghost use mathlib.Core.Path.{_≡_};
 ghost use Prim.Native.Nat.{ℕ, _*_, _<_};
 ghost use lib.ListN.{length};
-ghost use Rattle.genotype.specs.Value.{float};
+ghost use Rattle.codes.specs.Value.{float};
 ghost use Rattle.bed_write.specs.Private.{byTests, Finds, badSays};
 use super::BadCall;
 use crate::matrix;
 use crate::value_codes::codes_f64;
-use genotype::entries::IidIndex;
-use genotype::entries::SidIndex;
+use entries::IidIndex;
+use entries::SidIndex;
 
 // How many values are bad, counted in the order in which they stand.
 fn bad_count_f64(val: &[f64], is_a1_counted: bool, missing: f64) -> usize

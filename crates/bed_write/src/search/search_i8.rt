@@ -4,13 +4,13 @@ ghost use Prim.Native.Nat.{ℕ, _*_, _<_, _≤_};
 ghost use lib.IntN.{pos};
 ghost use lib.ListN.{length, getD};
 ghost use lib.Signed.{mag};
-ghost use Rattle.genotype.specs.Value.{i8};
+ghost use Rattle.codes.specs.Value.{i8};
 ghost use Rattle.bed_write.specs.Private.{byTests, Finds, badSays};
 use super::BadCall;
 use crate::matrix;
 use crate::value_codes::codes_i8;
-use genotype::entries::IidIndex;
-use genotype::entries::SidIndex;
+use entries::IidIndex;
+use entries::SidIndex;
 
 // The larger of two codes.
 fn worse(a: u8, b: u8) -> u8

@@ -2,7 +2,7 @@
 ghost use mathlib.Core.Path.{_≡_};
 ghost use Prim.Native.Nat.{_<_};
 ghost use mathlib.Core.Bool.{cond};
-ghost use Rattle.genotype.specs.Value.{float, codeOf};
+ghost use Rattle.codes.specs.Value.{float, codeOf};
 ghost use Rattle.bed_write.specs.Groups.{orFour};
 ghost use Rattle.bed_write.specs.Private.{GoodCode};
 use super::code_of_two;

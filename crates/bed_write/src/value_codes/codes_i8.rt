@@ -3,7 +3,7 @@ ghost use mathlib.Core.Path.{_≡_};
 ghost use Prim.Native.Nat.{_<_};
 ghost use mathlib.Core.Bool.{cond};
 ghost use lib.ListN.{getD};
-ghost use Rattle.genotype.specs.Value.{i8, codeOf};
+ghost use Rattle.codes.specs.Value.{i8, codeOf};
 ghost use Rattle.bed_write.specs.Groups.{orFour};
 ghost use Rattle.bed_write.specs.Private.{byteIndex, CodesOfBytes, GoodCode};
 use super::code_of_two;

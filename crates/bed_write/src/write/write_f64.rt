@@ -3,19 +3,18 @@ ghost use mathlib.Core.Path.{_≡_};
 ghost use mathlib.Core.Bool.{cond};
 ghost use Prim.Native.Nat.{_+_, _*_, _<_};
 ghost use lib.ListN.{length};
-ghost use Rattle.genotype.specs.Block.{blockWidth};
-ghost use Rattle.genotype.specs.Value.{float};
+ghost use Rattle.blocks.specs.Block.{blockWidth};
+ghost use Rattle.codes.specs.Value.{float};
 ghost use Rattle.bed_write.specs.Writing.{bedFile, Writes};
 ghost use Rattle.bed_write.specs.Private.{byTests, placed, GoodMatrix, blockByte};
 ghost use Rattle.bed_write.specs.Says.{writeSays};
 use super::WriteAnswer;
-use crate::group;
 use crate::group::group_f64;
 use crate::matrix;
 use crate::search::BadCall;
 use crate::search::search_f64;
-use genotype::entries::IidIndex;
-use genotype::entries::SidIndex;
+use entries::IidIndex;
+use entries::SidIndex;
 
 // Byte b of the packed block of marker m, of a matrix without bad values.
 fn byte_at_f64(
@@ -43,7 +42,7 @@ fn byte_at_f64(
         SidIndex(m),
     );
     let g = group_f64::group_good_f64(val, start, stride, left, is_a1_counted);
-    group::byte_of(g)
+    codes::byte_of(g)
 }
 
 // The file of a matrix without bad values.
@@ -122,7 +121,7 @@ pub fn write_val_f64(
         if let BadCall::At(animal, marker) = bad {
             return WriteAnswer::BadValue(animal, marker);
         }
-        let width = genotype::blocks::block_width(iid_count);
+        let width = blocks::block_width(iid_count);
         write_file_f64(
             val,
             iid_count,

@@ -3,20 +3,19 @@ ghost use mathlib.Core.Path.{_≡_};
 ghost use mathlib.Core.Bool.{cond};
 ghost use Prim.Native.Nat.{_+_, _*_, _<_};
 ghost use lib.ListN.{length};
-ghost use Rattle.genotype.specs.Block.{blockWidth};
-ghost use Rattle.genotype.specs.Value.{i8};
+ghost use Rattle.blocks.specs.Block.{blockWidth};
+ghost use Rattle.codes.specs.Value.{i8};
 ghost use Rattle.bed_write.specs.Writing.{bedFile, Writes};
 ghost use Rattle.bed_write.specs.Private.{byTable, placed, GoodMatrix, blockByte};
 ghost use Rattle.bed_write.specs.Says.{writeSays};
 use super::WriteAnswer;
-use crate::group;
 use crate::group::group_i8;
 use crate::matrix;
 use crate::search::BadCall;
 use crate::search::search_i8;
 use crate::value_codes::codes_i8;
-use genotype::entries::IidIndex;
-use genotype::entries::SidIndex;
+use entries::IidIndex;
+use entries::SidIndex;
 
 // Byte b of the packed block of marker m, of a matrix without bad values.
 fn byte_at_i8(
@@ -43,7 +42,7 @@ fn byte_at_i8(
         SidIndex(m),
     );
     let g = group_i8::group_i8(val, start, stride, left, table);
-    group::byte_of(g)
+    codes::byte_of(g)
 }
 
 // The file of a matrix without bad values.
@@ -112,7 +111,7 @@ pub fn write_val_i8(
             return WriteAnswer::BadValue(animal, marker);
         }
         let table = codes_i8::code_table(is_a1_counted, missing);
-        let width = genotype::blocks::block_width(iid_count);
+        let width = blocks::block_width(iid_count);
         write_file_i8(val, iid_count, sid_count, animal_order, width, &table, out);
     }
     checked

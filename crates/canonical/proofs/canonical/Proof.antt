@@ -2,7 +2,7 @@
 use mathlib.Core.Path.{sym, ap, _∙_}
 use borrow.Author.Needs.{needs}
 use lib.ListN.{length}
-use Rattle.genotype.specs.Answer.{isDone}
+use Rattle.answer.specs.Answer.{isDone}
 use Rattle.canonical.proofs.CanonicalLaws.{Writable, writable, writable-by, canonical-wrote, canonical-kept}
 use Rattle.canonical.proofs.canonical.Statement.{statement}
 use Rattle.canonical.proofs.canonical.Tie as tie

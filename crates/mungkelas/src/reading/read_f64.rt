@@ -1,5 +1,5 @@
 // Reading values of type f64.
-ghost use Rattle.genotype.specs.Value.{float};
+ghost use Rattle.codes.specs.Value.{float};
 ghost use Rattle.mungkelas.specs.Header.{BedRead};
 use bed_answer::BedAnswer;
 

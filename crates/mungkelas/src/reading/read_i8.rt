@@ -1,5 +1,5 @@
 // Reading values of type i8.
-ghost use Rattle.genotype.specs.Value.{i8};
+ghost use Rattle.codes.specs.Value.{i8};
 ghost use Rattle.mungkelas.specs.Header.{BedRead};
 use bed_answer::BedAnswer;
 

@@ -1,5 +1,5 @@
 // Packing one marker's values of type f64.
-ghost use Rattle.genotype.specs.Value.{float};
+ghost use Rattle.codes.specs.Value.{float};
 ghost use Rattle.mungkelas.specs.Header.{BedEncode1};
 use bed_answer::BedAnswer;
 

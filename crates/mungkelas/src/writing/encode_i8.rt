@@ -1,5 +1,5 @@
 // Packing one marker's values of type i8.
-ghost use Rattle.genotype.specs.Value.{i8};
+ghost use Rattle.codes.specs.Value.{i8};
 ghost use Rattle.mungkelas.specs.Header.{BedEncode1};
 use bed_answer::BedAnswer;
 

@@ -1,5 +1,5 @@
 // Writing a whole file from values of type f64.
-ghost use Rattle.genotype.specs.Value.{float};
+ghost use Rattle.codes.specs.Value.{float};
 ghost use Rattle.mungkelas.specs.Header.{BedWrite};
 use bed_answer::BedAnswer;
 

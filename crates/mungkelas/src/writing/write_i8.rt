@@ -1,5 +1,5 @@
 // Writing a whole file from values of type i8.
-ghost use Rattle.genotype.specs.Value.{i8};
+ghost use Rattle.codes.specs.Value.{i8};
 ghost use Rattle.mungkelas.specs.Header.{BedWrite};
 use bed_answer::BedAnswer;
 

@@ -5,7 +5,7 @@ use native.Mathlib.Omega.{arith}
 use lib.Ieee.{binary64, ofBits, div}
 use lib.ListN.{length}
 use borrow.Author.Tests.{not-true, not-false}
-use Rattle.genotype.specs.Answer.{refused}
+use Rattle.answer.specs.Answer.{refused}
 use Rattle.read_standardised.proofs.JoinLaws.{iids-too-large, sids-too-large, values-mismatch, stats-mismatch, call-refused, standardised-after, refused-after}
 use borrow.Author.Needs.{needs}
 use Rattle.read_standardised.proofs.read_standardised_f64.Statement.{statement}

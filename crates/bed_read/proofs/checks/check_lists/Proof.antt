@@ -1,7 +1,7 @@
 -- 18, then 5 and 6 by `first_bad` of each list.
 use mathlib.Core.Path.{sym, ap, _∙_}
-use Rattle.genotype.specs.Says.{firstBadSays}
-use Rattle.genotype.proofs.AnswerLaws.{entry-some, entry-none}
+use Rattle.entries.specs.Says.{firstBadSays}
+use Rattle.answer.proofs.AnswerLaws.{entry-some, entry-none}
 use Rattle.bed_read.proofs.ReadLaws.{lists-first, lists-second, lists-5, lists-6, lists-good}
 use borrow.Author.Needs.{needs}
 use Rattle.bed_read.proofs.checks.check_lists.Statement.{statement}

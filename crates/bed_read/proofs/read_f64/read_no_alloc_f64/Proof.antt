@@ -6,13 +6,13 @@ use Prim.Native.Nat.{ℕ}
 use borrow.Author.Needs.{needs}
 use lib.Ieee.{Float, nan}
 use lib.ListN.{length, getD}
-use Rattle.genotype.specs.Answer.{Answer, isDone}
-use Rattle.genotype.specs.Code.{codeTable}
-use Rattle.genotype.specs.Value.{float, values}
+use Rattle.answer.specs.Answer.{Answer, isDone}
+use Rattle.codes.specs.Code.{codeTable}
+use Rattle.codes.specs.Value.{float, values}
 use Rattle.bed_read.specs.Reading.{readAnswer}
 use Rattle.bed_read.proofs.ReadLaws.{Readable, readable}
 use Rattle.bed_read.proofs.TableLaws.{made-by-code}
-use Rattle.genotype.proofs.AnswerLaws.{is-done-of}
+use Rattle.answer.proofs.AnswerLaws.{is-done-of}
 use Rattle.bed_read.proofs.BufferLaws.{ready, buffer-read, buffer-kept}
 use Rattle.bed_read.proofs.read_f64.read_no_alloc_f64.Statement.{statement}
 use Rattle.bed_read.proofs.read_f64.read_no_alloc_f64.Tie as tie

@@ -6,8 +6,8 @@ use native.Mathlib.Omega.{arith}
 use borrow.Author.Needs.{needs}
 use lib.Ieee.{Float, nan}
 use lib.ListN.{getD}
-use Rattle.genotype.specs.Code.{codeTable}
-use Rattle.genotype.specs.Value.{values}
+use Rattle.codes.specs.Code.{codeTable}
+use Rattle.codes.specs.Value.{values}
 use Rattle.bed_read.specs.Private.{Drawn}
 use Rattle.bed_read.proofs.DrawLaws.{drawn-none, drawn-one, drawn-end}
 use Rattle.bed_read.proofs.TableLaws.{entry-below, filled-table}

@@ -8,13 +8,13 @@ use lib.IntN.{ℤ, pos}
 use lib.ListN.{length, getD}
 use mir.Syntax.{w8}
 use mir.ValLaws.{toZ-ofZ}
-use Rattle.genotype.specs.Answer.{Answer, isDone}
-use Rattle.genotype.specs.Code.{codeTable}
-use Rattle.genotype.specs.Value.{i8, values}
+use Rattle.answer.specs.Answer.{Answer, isDone}
+use Rattle.codes.specs.Code.{codeTable}
+use Rattle.codes.specs.Value.{i8, values}
 use Rattle.bed_read.specs.Reading.{readAnswer}
 use Rattle.bed_read.proofs.ReadLaws.{Readable, readable}
 use Rattle.bed_read.proofs.TableLaws.{made-by-code}
-use Rattle.genotype.proofs.AnswerLaws.{is-done-of}
+use Rattle.answer.proofs.AnswerLaws.{is-done-of}
 use Rattle.bed_read.proofs.BufferLaws.{ready, buffer-read, buffer-kept}
 use Rattle.bed_read.proofs.read_i8.read_no_alloc_i8.Statement.{statement}
 use Rattle.bed_read.proofs.read_i8.read_no_alloc_i8.Tie as tie

@@ -8,8 +8,8 @@ use mir.Syntax.{w8}
 use mir.ValLaws.{toZ-ofZ}
 use lib.IntN.{ℤ, pos}
 use lib.ListN.{getD}
-use Rattle.genotype.specs.Code.{codeTable}
-use Rattle.genotype.specs.Value.{i8, values}
+use Rattle.codes.specs.Code.{codeTable}
+use Rattle.codes.specs.Value.{i8, values}
 use Rattle.bed_read.specs.Private.{Drawn}
 use Rattle.bed_read.proofs.DrawLaws.{drawn-none, drawn-one, drawn-end}
 use Rattle.bed_read.proofs.TableLaws.{entry-below, filled-table}

@@ -1,7 +1,7 @@
 -- `check_write`: 18 and 4 by `try_div_4`, whose width makes the length.
 use mathlib.Core.Path.{sym, ap, _∙_}
 use native.Mathlib.Omega.{arith}
-use Rattle.genotype.specs.Says.{divSays}
+use Rattle.blocks.specs.Says.{divSays}
 use Rattle.bed_write.proofs.WriteLaws.{whole-fits, buffers-refused, buffers-mismatch, buffers-length, buffers-done}
 use borrow.Author.Needs.{needs}
 use Rattle.bed_write.proofs.write.check_write.Statement.{statement}

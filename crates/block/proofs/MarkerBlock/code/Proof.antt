@@ -46,13 +46,13 @@ use Rattle.block.specs.Blocks.{codeAnswer}
 use Rattle.block.specs.Says.{codeSays}
 use Rattle.block.specs.declared.MarkerBlock.{MarkerBlock}
 use Rattle.block.specs.declared.decode.CodeAnswer.{CodeAnswer}
-use Rattle.genotype.specs.declared.entries.IidIndex.{IidIndex}
+use Rattle.entries.specs.declared.IidIndex.{IidIndex}
 use Rattle.block.proofs.MarkerBlock as T
 use Rattle.block.proofs.MarkerBlock.Laws as T′
 use Rattle.block.proofs.decode.CodeAnswer as S
 use Rattle.block.proofs.decode.CodeAnswer.Laws as S′
-use Rattle.genotype.proofs.entries.IidIndex as I
-use Rattle.genotype.proofs.entries.IidIndex.Laws as I′
+use Rattle.entries.proofs.IidIndex as I
+use Rattle.entries.proofs.IidIndex.Laws as I′
 use Rattle.block.proofs.decode.code_of_iid as callee
 use Rattle.block.proofs.decode.code_of_iid.Symbol as callee-def
 use Rattle.block.proofs.decode.code_of_iid.Symbol.{name as #code-of-iid}

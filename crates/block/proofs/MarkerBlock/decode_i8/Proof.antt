@@ -46,7 +46,7 @@ use denote.Triple.Table.{entered, cited}
 use denote.Triple.Walked.{says, Stays, stay-none, gave-slice, walkOf, goes-none, goes-gave-slice, Walks, ends-at, walked, walk-meets}
 use denote.Exit.{yes}
 use denote.Triple.Clauses.{ensured, lasts}
-use Rattle.genotype.specs.Value.{i8}
+use Rattle.codes.specs.Value.{i8}
 use Rattle.block.specs.Blocks.{decodeAnswer, decodeBuffer}
 use Rattle.block.specs.Says.{decodeSays}
 use Rattle.block.specs.declared.MarkerBlock.{MarkerBlock}

@@ -44,7 +44,7 @@ use denote.Triple.Walked.{says, Stays, stay-none, stay-none-slice, walkOf, goes-
 use denote.Exit.{yes}
 use denote.Signature.{plain, namedLft}
 use denote.Signature.Struct.{inStruct, makes}
-use Rattle.genotype.specs.Value.{i8}
+use Rattle.codes.specs.Value.{i8}
 use Rattle.bed_write.specs.Packing.{placeCode}
 use Rattle.block.specs.Blocks.{packAnswer, packBuffer}
 use Rattle.block.specs.Says.{packSays}

@@ -3,11 +3,11 @@ use mathlib.Core.Bool.{true, false}
 use mathlib.Core.Path.{sym, ap, _∙_}
 use lib.Ieee.{nan}
 use lib.ListN.{length}
-use Rattle.genotype.specs.Block.{blockWidth}
-use Rattle.genotype.specs.Value.{float}
+use Rattle.blocks.specs.Block.{blockWidth}
+use Rattle.codes.specs.Value.{float}
 use borrow.Author.Needs.{needs}
 use Rattle.block.proofs.CheckLaws.{decodable}
-use Rattle.genotype.proofs.AnswerLaws.{is-done-of}
+use Rattle.answer.proofs.AnswerLaws.{is-done-of}
 use Rattle.block.proofs.ColumnLaws.{column-new, column-kept}
 use Rattle.block.proofs.decode.decode1_f64.Statement.{statement}
 use Rattle.block.proofs.decode.decode1_f64.Tie as tie

@@ -5,11 +5,11 @@ use lib.IntN.{pos}
 use lib.ListN.{length}
 use mir.Syntax.{w8}
 use mir.ValLaws.{toZ-ofZ}
-use Rattle.genotype.specs.Block.{blockWidth}
-use Rattle.genotype.specs.Value.{i8, values}
+use Rattle.blocks.specs.Block.{blockWidth}
+use Rattle.codes.specs.Value.{i8, values}
 use borrow.Author.Needs.{needs}
 use Rattle.block.proofs.CheckLaws.{decodable}
-use Rattle.genotype.proofs.AnswerLaws.{is-done-of}
+use Rattle.answer.proofs.AnswerLaws.{is-done-of}
 use Rattle.block.proofs.ColumnLaws.{column-new, column-kept}
 use Rattle.block.proofs.decode.decode1_i8.Statement.{statement}
 use Rattle.block.proofs.decode.decode1_i8.Tie as tie

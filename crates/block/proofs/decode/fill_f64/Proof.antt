@@ -5,7 +5,7 @@ use native.Mathlib.Omega.{arith}
 use borrow.Author.Needs.{needs}
 use lib.Ieee.{nan}
 use lib.ListN.{length, getD}
-use Rattle.genotype.specs.Code.{itemCode}
+use Rattle.codes.specs.Code.{itemCode}
 use Rattle.block.proofs.CheckLaws.{byte-below}
 use Rattle.block.proofs.ColumnLaws.{Filled, filled-none, filled-more, filled-all}
 use Rattle.block.proofs.decode.fill_f64.Statement.{statement}

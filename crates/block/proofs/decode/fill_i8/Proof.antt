@@ -7,7 +7,7 @@ use mir.Syntax.{w8}
 use mir.ValLaws.{toZ-ofZ}
 use lib.IntN.{pos}
 use lib.ListN.{length, getD}
-use Rattle.genotype.specs.Code.{itemCode}
+use Rattle.codes.specs.Code.{itemCode}
 use Rattle.block.proofs.CheckLaws.{byte-below}
 use Rattle.block.proofs.ColumnLaws.{Filled, filled-none, filled-more, filled-all}
 use Rattle.block.proofs.decode.fill_i8.Statement.{statement}

@@ -2,7 +2,7 @@
 use mathlib.Core.Path.{sym, ap, _∙_}
 use borrow.Author.Needs.{needs}
 use lib.ListN.{length}
-use Rattle.genotype.specs.Value.{float}
+use Rattle.codes.specs.Value.{float}
 use Rattle.bed_write.specs.Packing.{placeCode}
 use Rattle.bed_write.specs.Says.{encodeSays}
 use Rattle.block.proofs.PackLaws.{pack-too-large, pack-length, pack-mismatch, pack-encoded}

@@ -2,7 +2,7 @@
 use mathlib.Core.Path.{sym, ap, _∙_}
 use borrow.Author.Needs.{needs}
 use lib.ListN.{length}
-use Rattle.genotype.specs.Value.{i8}
+use Rattle.codes.specs.Value.{i8}
 use Rattle.bed_write.specs.Packing.{placeCode}
 use Rattle.bed_write.specs.Says.{encodeSays}
 use Rattle.bed_write.proofs.ByteLaws.{held-answer}

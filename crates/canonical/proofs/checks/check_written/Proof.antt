@@ -1,7 +1,7 @@
 -- `check_written`: 18 and 4 by `try_div_4`, whose width makes the length.
 use mathlib.Core.Path.{sym, ap, _∙_}
 use native.Mathlib.Omega.{arith}
-use Rattle.genotype.specs.Says.{divSays}
+use Rattle.blocks.specs.Says.{divSays}
 use Rattle.canonical.proofs.CanonicalLaws.{written-refused, written-fits, written-done, written-length}
 use borrow.Author.Needs.{needs}
 use Rattle.canonical.proofs.checks.check_written.Statement.{statement}

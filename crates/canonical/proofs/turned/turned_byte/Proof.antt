@@ -3,7 +3,7 @@ use mathlib.Core.Path.{refl, _∙_}
 use native.Mathlib.Omega.{arith}
 use borrow.Author.Needs.{needs}
 use Rattle.bed_write.specs.Groups.{inGroup}
-use Rattle.canonical.proofs.TurnLaws.{held-below, four-same}
+use Rattle.canonical.proofs.TurnLaws.{four-same}
 use Rattle.canonical.proofs.turned.turned_byte.Statement.{statement}
 use Rattle.canonical.proofs.turned.turned_byte.Tie as tie
 
@@ -40,11 +40,7 @@ held-code-requires-4 c κs =
     (λ h. s .pre .0 .byte-in 3 (omega arith) h, s .pre .1, s .pre .2)
 
 byte-of-requires : tie.Need-byte-of-requires
-unfolding inGroup
-byte-of-requires c κs =
-    let a = c .before .before .before .before .before .before .before .before .before .args in
-    let below = held-below (a .file .now) (a .starts .now) (a .item) (a .left) in
-    (below 0 _ (c .before .before .before .before .before .before .held-code .ensures), below 1 _ (c .before .before .before .before .held-code2 .ensures), below 2 _ (c .before .before .held-code3 .ensures), below 3 _ (c .held-code4 .ensures))
+byte-of-requires c κs = search needs
 
 returns : tie.Need-returns
 unfolding inGroup

@@ -4,7 +4,7 @@ use mathlib.Core.List.{[], _∷_}
 use lib.IntN.{ℤ}
 use mir.Syntax.{w64}
 use mir.ValLaws.{toZ-ofZ}
-use Rattle.genotype.specs.Answer.{refused}
+use Rattle.answer.specs.Answer.{refused}
 use Rattle.bed_read.specs.Says.{readSays}
 use borrow.Author.Needs.{needs}
 use Rattle.read_standardised.proofs.answers.of_reading.Statement.{statement}

@@ -1,7 +1,7 @@
 -- `apply_by_rows`, by the choice and by the answer.
 use mathlib.Core.Path.{_∙_}
 use lib.Ieee.{binary64}
-use Rattle.genotype.specs.Answer.{isDone}
+use Rattle.answer.specs.Answer.{isDone}
 use Rattle.standardise.specs.Says.{standardiseSays}
 use Rattle.standardise.specs.Private.{allApplied}
 use borrow.Author.Tests.{not-true, not-false}

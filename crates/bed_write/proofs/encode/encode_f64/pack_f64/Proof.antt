@@ -3,9 +3,10 @@ use mathlib.Core.Path.{sym, _∙_}
 use Prim.Native.Nat.{_-_, _≤_}
 use native.Mathlib.Omega.{arith}
 use lib.ListN.{length, length-set}
-use Rattle.genotype.specs.Value.{float}
+use Rattle.codes.specs.Value.{float}
 use Rattle.bed_write.specs.Packing.{placeCode, packedCodes}
-use Rattle.bed_write.proofs.EncodeLaws.{Front, front-none, front-length, block-length, full-there, full-codes, full-more, last-there, last-codes, last-done, none-left}
+use Rattle.bed_write.proofs.EncodeLaws.{Front, front-none, front-length, block-length, full-there, full-more, last-there, last-done, none-left}
+use borrow.Author.Needs.{needs}
 use Rattle.bed_write.proofs.encode.encode_f64.pack_f64.Statement.{statement}
 use Rattle.bed_write.proofs.encode.encode_f64.pack_f64.Tie as tie
 
@@ -25,10 +26,7 @@ group-good-f64-requires : tie.Need-group-good-f64-requires Inv-loop μ-loop
 group-good-f64-requires c κs = λ k x y. let h = c .loop-test .taken in omega arith
 
 byte-of-requires : tie.Need-byte-of-requires Inv-loop μ-loop
-byte-of-requires c κs =
-    let s = c .before .before .before .before .before in
-    let a = s .args in
-    full-codes float (a .is-a1-counted) (a .missing) (a .column .now) (s .pre .1) (a .out .now) _ _ (s .pre .0) (c .before .before .loop .inv .1) (c .before .loop-test .taken) _ _ _ _ (c .group-good-f64 .ensures (a .missing))
+byte-of-requires c κs = search needs
 
 slice-write-out : tie.Need-slice-write-out Inv-loop μ-loop
 slice-write-out c =
@@ -68,10 +66,7 @@ group-good-f64-requires-2 : tie.Need-group-good-f64-requires-2 Inv-loop μ-loop
 group-good-f64-requires-2 c κs = λ k x y. omega arith
 
 byte-of-requires-2 : tie.Need-byte-of-requires-2 Inv-loop μ-loop
-byte-of-requires-2 c κs =
-    let s = c .before .before .before .before .before .before in
-    let a = s .args in
-    last-codes float (a .is-a1-counted) (a .missing) (a .column .now) (s .pre .1) (a .out .now) _ _ (s .pre .0) (c .before .before .before .loop .inv .1) (c .before .if1 .taken) _ _ _ _ (c .group-good-f642 .ensures (a .missing))
+byte-of-requires-2 c κs = search needs
 
 slice-write-out-2 : tie.Need-slice-write-out-2 Inv-loop μ-loop
 slice-write-out-2 c = c .before .before .if1 .taken

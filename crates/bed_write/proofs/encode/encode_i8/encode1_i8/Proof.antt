@@ -2,7 +2,7 @@
 use mathlib.Core.Path.{sym, ap, _∙_}
 use mathlib.Core.Bool.{false}
 use lib.ListN.{length}
-use Rattle.genotype.specs.Value.{i8}
+use Rattle.codes.specs.Value.{i8}
 use Rattle.bed_write.specs.Packing.{placeCode}
 use Rattle.bed_write.specs.First.{animalOf}
 use Rattle.bed_write.specs.Private.{badSays}

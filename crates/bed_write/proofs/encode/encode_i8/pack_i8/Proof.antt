@@ -5,12 +5,13 @@ use mathlib.Core.Option.{none}
 use Prim.Native.Nat.{ℕ, _-_, _≤_}
 use native.Mathlib.Omega.{arith}
 use lib.ListN.{length, length-set}
-use Rattle.genotype.specs.Value.{i8}
+use Rattle.codes.specs.Value.{i8}
 use Rattle.bed_write.specs.Packing.{placeCode, packedCodes, firstBadAnimal}
 use mir.Syntax.{w8}
 use mir.Val.{toZ}
 use Rattle.bed_write.proofs.ByteLaws.{held, as-held, as-given}
-use Rattle.bed_write.proofs.EncodeLaws.{Front, front-none, front-length, block-length, full-there, full-codes, full-more, last-there, last-codes, last-done, none-left}
+use Rattle.bed_write.proofs.EncodeLaws.{Front, front-none, front-length, block-length, full-there, full-more, last-there, last-done, none-left}
+use borrow.Author.Needs.{needs}
 use Rattle.bed_write.proofs.encode.encode_i8.pack_i8.Statement.{statement}
 use Rattle.bed_write.proofs.encode.encode_i8.pack_i8.Tie as tie
 
@@ -37,10 +38,7 @@ group-good-i8-requires : tie.Need-group-good-i8-requires Inv-loop μ-loop
 group-good-i8-requires c κs = λ k x y. let h = c .loop-test .taken in omega arith
 
 byte-of-requires : tie.Need-byte-of-requires Inv-loop μ-loop
-byte-of-requires c κs =
-    let s = c .before .before .before .before in
-    let a = s .args in
-    full-codes i8 (a .is-a1-counted) (held (a .missing)) (a .column .now) (none-bad s) (a .out .now) _ _ (s .pre .0) (c .before .before .loop .inv .1) (c .before .loop-test .taken) _ _ _ _ (c .group-good-i8 .ensures (held (a .missing)))
+byte-of-requires c κs = search needs
 
 slice-write-out : tie.Need-slice-write-out Inv-loop μ-loop
 slice-write-out c =
@@ -80,10 +78,7 @@ group-good-i8-requires-2 : tie.Need-group-good-i8-requires-2 Inv-loop μ-loop
 group-good-i8-requires-2 c κs = λ k x y. omega arith
 
 byte-of-requires-2 : tie.Need-byte-of-requires-2 Inv-loop μ-loop
-byte-of-requires-2 c κs =
-    let s = c .before .before .before .before .before in
-    let a = s .args in
-    last-codes i8 (a .is-a1-counted) (held (a .missing)) (a .column .now) (none-bad s) (a .out .now) _ _ (s .pre .0) (c .before .before .before .loop .inv .1) (c .before .if1 .taken) _ _ _ _ (c .group-good-i82 .ensures (held (a .missing)))
+byte-of-requires-2 c κs = search needs
 
 slice-write-out-2 : tie.Need-slice-write-out-2 Inv-loop μ-loop
 slice-write-out-2 c = c .before .before .if1 .taken

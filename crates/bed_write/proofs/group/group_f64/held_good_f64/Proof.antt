@@ -4,7 +4,7 @@ use Rattle.bed_write.proofs.FirstLaws.{good-read}
 use Rattle.bed_write.proofs.GroupLaws.{held-there, held-pad}
 use Rattle.bed_write.specs.Groups.{orFour}
 use Rattle.bed_write.specs.Packing.{placeCode}
-use Rattle.genotype.specs.Value.{float}
+use Rattle.codes.specs.Value.{float}
 use borrow.Author.Needs.{needs}
 use mathlib.Core.Path.{_∙_}
 use native.Mathlib.Omega.{arith}

@@ -5,7 +5,7 @@ use Rattle.bed_write.proofs.ByteLaws.{good-held}
 use Rattle.bed_write.proofs.GroupLaws.{held-there, held-pad}
 use Rattle.bed_write.specs.Groups.{orFour}
 use Rattle.bed_write.specs.Packing.{placeCode}
-use Rattle.genotype.specs.Value.{i8}
+use Rattle.codes.specs.Value.{i8}
 use borrow.Author.Needs.{needs}
 use mathlib.Core.Path.{_∙_}
 use native.Mathlib.Omega.{arith}

@@ -3,7 +3,7 @@ use mathlib.Core.Path.{_≡_}
 use Prim.Native.Nat.{ℕ, _-_, _<_, _≤_}
 use native.Mathlib.Omega.{arith}
 use lib.ListN.{length}
-use Rattle.genotype.specs.Value.{float}
+use Rattle.codes.specs.Value.{float}
 use Rattle.bed_write.specs.Private.{byTests}
 use Rattle.bed_write.proofs.FirstLaws.{code-read}
 use Rattle.bed_write.proofs.SearchLaws.{none-counted}

@@ -2,7 +2,7 @@
 use Prim.Native.Nat.{ℕ, _-_, _<_}
 use native.Mathlib.Omega.{arith}
 use borrow.Author.Count.{below-more}
-use Rattle.genotype.specs.Value.{float}
+use Rattle.codes.specs.Value.{float}
 use Rattle.bed_write.specs.Writing.{valueCode}
 use Rattle.bed_write.specs.Groups.{orFour}
 use Rattle.bed_write.proofs.SearchLaws.{GoodCodes, called-none, called-at}

@@ -1,5 +1,5 @@
 -- `search_f64`: nothing is found where none is counted.
-use Rattle.genotype.specs.Value.{float}
+use Rattle.codes.specs.Value.{float}
 use Rattle.bed_write.proofs.SearchLaws.{all-good}
 use borrow.Author.Needs.{needs}
 use Rattle.bed_write.proofs.search.search_f64.search_f64.Statement.{statement}

@@ -4,7 +4,7 @@ use native.Mathlib.Omega.{arith}
 use borrow.Author.Count.{below-more}
 use mir.Syntax.{w8}
 use mir.Val.{toZ}
-use Rattle.genotype.specs.Value.{i8}
+use Rattle.codes.specs.Value.{i8}
 use Rattle.bed_write.specs.Writing.{valueCode}
 use Rattle.bed_write.specs.Groups.{orFour}
 use Rattle.bed_write.proofs.ByteLaws.{held, code-held, held-found}

@@ -1,6 +1,6 @@
 -- `search_i8`: nothing is found where none is worse than a code.
 use native.Mathlib.Omega.{arith}
-use Rattle.genotype.specs.Value.{i8}
+use Rattle.codes.specs.Value.{i8}
 use Rattle.bed_write.proofs.ByteLaws.{held, held-found}
 use Rattle.bed_write.proofs.SearchLaws.{all-good}
 use borrow.Author.Needs.{needs}

@@ -5,7 +5,7 @@ use lib.ListN.{length, getD}
 use lib.Signed.{mag}
 use mir.Syntax.{w8}
 use mir.Val.{toZ}
-use Rattle.genotype.specs.Value.{i8}
+use Rattle.codes.specs.Value.{i8}
 use Rattle.bed_write.specs.Private.{byTests}
 use Rattle.bed_write.proofs.SearchLaws.{grow}
 use lib.IntN.{pos}

@@ -1,7 +1,7 @@
 -- `good_code_f64`: the choices in order are the code, if there is one.
 use mathlib.Core.Path.{_∙_}
 use Rattle.bed_write.proofs.ChooseLaws.{small-code, good-chosen}
-use Rattle.genotype.specs.Value.{float}
+use Rattle.codes.specs.Value.{float}
 use borrow.Author.Needs.{needs}
 use lib.Ieee.{ofBits}
 use native.Mathlib.Omega.{arith}

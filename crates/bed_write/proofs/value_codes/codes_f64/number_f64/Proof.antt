@@ -2,7 +2,7 @@
 use mathlib.Core.Path.{_∙_}
 use native.Mathlib.Omega.{arith}
 use lib.Ieee.{ofBits}
-use Rattle.genotype.specs.Value.{float}
+use Rattle.codes.specs.Value.{float}
 use Rattle.bed_write.proofs.ChooseLaws.{small-code, code-chosen}
 use borrow.Author.Needs.{needs}
 use Rattle.bed_write.proofs.value_codes.codes_f64.number_f64.Statement.{statement}

@@ -2,7 +2,7 @@
 use native.Mathlib.Omega.{arith}
 use lib.Dec.{lit<}
 use lib.IntN.{pos}
-use Rattle.genotype.specs.Value.{i8}
+use Rattle.codes.specs.Value.{i8}
 use Rattle.bed_write.proofs.ByteLaws.{tested}
 use Rattle.bed_write.proofs.ChooseLaws.{small-code, good-chosen}
 use borrow.Author.Needs.{needs, sfits-of}

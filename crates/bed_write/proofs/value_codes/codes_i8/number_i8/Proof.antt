@@ -2,10 +2,10 @@
 use mathlib.Core.Path.{refl, sym, ap}
 use mathlib.Core.Bool.{Bool, cond}
 use native.Mathlib.Omega.{arith}
-use Rattle.genotype.specs.Value.{i8, sameInt}
+use Rattle.codes.specs.Value.{i8, sameInt}
 use Rattle.bed_write.proofs.ChooseLaws.{small-code, code-chosen}
 use Rattle.bed_write.proofs.ByteLaws.{tested}
-use Rattle.genotype.proofs.SignedLaws.{sameInt-refl}
+use Rattle.codes.proofs.ValueLaws.{sameInt-refl}
 use borrow.Author.Needs.{needs, sfits-of}
 use lib.Dec.{lit<}
 use lib.IntN.{pos}

@@ -2,7 +2,7 @@
 use mathlib.Core.Path.{sym, _∙_}
 use Prim.Native.Nat.{_-_}
 use native.Mathlib.Omega.{arith}
-use Rattle.genotype.specs.Value.{float}
+use Rattle.codes.specs.Value.{float}
 use Rattle.bed_write.specs.Writing.{bedFile}
 use Rattle.bed_write.specs.Private.{byTests, placed}
 use Rattle.bed_write.proofs.RowLaws.{Rows, byte-in, stored, row-done, tile-done, tile-starts, row-starts, all-done, whole-size, first-in, whole-byte, headed-length, headed-1, headed-2, headed-rows, headed-done}

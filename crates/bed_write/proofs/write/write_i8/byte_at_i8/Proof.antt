@@ -1,7 +1,8 @@
 -- `byte_at_i8`: the four codes of the group make the byte.
 use native.Mathlib.Omega.{arith}
 use Rattle.bed_write.specs.Private.{byTable}
-use Rattle.bed_write.proofs.PlaceLaws.{walk-inside, matrix-codes, matrix-byte}
+use Rattle.bed_write.proofs.PlaceLaws.{walk-inside, matrix-byte}
+use borrow.Author.Needs.{needs}
 use Rattle.bed_write.proofs.write.write_i8.byte_at_i8.Statement.{statement}
 use Rattle.bed_write.proofs.write.write_i8.byte_at_i8.Tie as tie
 
@@ -18,7 +19,7 @@ group-i8-requires : tie.Need-group-i8-requires
 group-i8-requires c κs = λ k h g. walk-inside (byTable (c .before .args .table .now) (c .before .args .val .now)) (c .before .args .animal-order) (c .before .args .iid-count) (c .before .args .sid-count) (c .before .args .m) (c .before .args .b) (c .before .args .stride) _ (c .before .pre .2) (c .before .pre .3) (c .before .pre .1) (c .matrix-place .ensures) _ (c .before .pre .0 .0) k h
 
 byte-of-requires : tie.Need-byte-of-requires
-byte-of-requires c κs = matrix-codes (byTable (c .before .before .args .table .now) (c .before .before .args .val .now)) (c .before .before .args .animal-order) (c .before .before .args .iid-count) (c .before .before .args .sid-count) (c .before .before .args .m) (c .before .before .args .b) (c .before .before .args .stride) _ (c .before .before .pre .2) (c .before .before .pre .3) (c .before .before .pre .1) (c .before .matrix-place .ensures) (c .before .before .pre .0 .1) _ _ _ _ (c .group-i8 .ensures)
+byte-of-requires c κs = search needs
 
 returns : tie.Need-returns
 returns c = matrix-byte (byTable (c .before .before .before .args .table .now) (c .before .before .before .args .val .now)) (c .before .before .before .args .animal-order) (c .before .before .before .args .iid-count) (c .before .before .before .args .sid-count) (c .before .before .before .args .m) (c .before .before .before .args .b) (c .before .before .before .args .stride) _ (c .before .before .before .pre .2) (c .before .before .before .pre .3) (c .before .before .before .pre .1) (c .before .before .matrix-place .ensures) (c .before .before .before .pre .0 .1) _ _ _ _ (c .before .group-i8 .ensures) _ (c .byte-of .ensures)

@@ -1,7 +1,7 @@
 -- `write_val_i8`: the checks of the buffers, then the first bad value, then the file.
 use mathlib.Core.Path.{sym, ap, _∙_}
 use Prim.Native.Nat.{ℕ, _+_, _*_}
-use Rattle.genotype.specs.Value.{i8}
+use Rattle.codes.specs.Value.{i8}
 use Rattle.bed_write.specs.Writing.{valueCode}
 use Rattle.bed_write.specs.Private.{badSays, CodesOfBytes, byTable, placed}
 use Rattle.bed_write.proofs.ByteLaws.{as-given, held-found}

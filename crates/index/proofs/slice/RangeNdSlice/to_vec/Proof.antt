@@ -5,7 +5,7 @@ use native.Mathlib.Omega.{arith}
 use borrow.Author.Needs.{sfits-of}
 use lib.ListN.{length}
 use mir.Facts.{toZ-ofZ}
-use Rattle.genotype.specs.Lists.{tabulate}
+use Rattle.answer.specs.Lists.{tabulate}
 use Rattle.index.specs.Private.{sliceNumber}
 use Rattle.index.proofs.StepLaws.{len-is, numbers-all, inside}
 use Rattle.index.proofs.BufferLaws.{too-short, placed, Filled, filled-none, filled-more, tabulate-more}

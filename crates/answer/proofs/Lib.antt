@@ -1,0 +1,4 @@
+pub mod Tests
+pub mod AnswerLaws
+pub mod Tabulate
+pub mod MatrixLaws

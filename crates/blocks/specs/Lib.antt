@@ -1,0 +1,3 @@
+-- Block widths and lengths of files.
+pub mod Block
+pub mod Says

@@ -1,0 +1,3 @@
+pub mod ValueLaws
+pub mod CodeLaws
+pub mod PlinkLaws

@@ -1,0 +1,14 @@
+-- `iid_of` is `means`.
+use Rattle.entries.proofs.EntryLaws.{means-back}
+use borrow.Author.Needs.{needs}
+use Rattle.entries.proofs.iid_of.Statement.{statement}
+use Rattle.entries.proofs.iid_of.Tie as tie
+
+number-requires : tie.Need-number-requires
+number-requires c κs = search needs
+
+returns : tie.Need-returns
+returns c = means-back _ _ (c .before .fits .entry) _ (c .number .ensures)
+
+pub iid-of-spec : {M : Type 1} → statement M
+iid-of-spec = tie.close (tie.spec number-requires returns)

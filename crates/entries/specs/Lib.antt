@@ -1,0 +1,3 @@
+-- Entries of a list.
+pub mod Entry
+pub mod Says
