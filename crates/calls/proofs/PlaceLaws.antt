@@ -3,7 +3,7 @@ use mathlib.Core.Path.{_≡_, refl, sym, ap, subst, _∙_}
 use mathlib.Core.Bool.{Bool, true, false, cond}
 use mathlib.Core.List.{List}
 use Prim.Native.Nat.{ℕ, _+_, _-_, _*_, _/_, _%_, _^_, _<_, _≤_}
-use native.Mathlib.Nat.{mul-comm, mul-le-mul-right}
+use native.Mathlib.Nat.{mul-comm, mul-le-mul, mul-le-mul-right}
 use native.Mathlib.Omega.{arith}
 use borrow.Author.Tests.{le-leb, lt-leb, leb-true, leb-false}
 use lib.Dec.{eqb, leb}
@@ -64,9 +64,16 @@ pub item-adds : (w n : ℕ) (part : Part) → n < 2 ^ 64 → part .byte ≡ n / 
 unfolding partByte partPlace
 item-adds w n part h b p = record { byte-is = b ∙ sym (in-word (n / 4) (omega arith)); place-is = p }
 
-module _ (w n : ℕ) (b : Bool) (e : b ≡ leb (n * w) 18446744073709551612) where
+pub small-product : (a b : ℕ) → a < 4294967296 → b < 4294967296 → true ≡ leb (a * b) 18446744073709551612
+small-product a b h k =
+    let ha : a ≤ 4294967295 = omega arith in
+    let hb : b ≤ 4294967295 = omega arith in
+    let m : a * b ≤ 4294967295 * 4294967295 = mul-le-mul ha hb in
+    sym (le-leb (a * b) 18446744073709551612 (omega arith))
+
+module _ (w n : ℕ) (b : Bool) (e : b ≡ leb (w * n) 18446744073709551612) where
   pub block-fits : b ≡ true → 3 + n * w < 2 ^ 64
-  block-fits t = let h = leb-true (n * w) 18446744073709551612 (sym e ∙ t) in omega arith
+  block-fits t = let h = leb-true (w * n) 18446744073709551612 (sym e ∙ t) in let c = mul-comm n w in omega arith
 
   pub block-adds : b ≡ true → IsPart true w n (record { byte = 3 + n * w; place = 0 })
   unfolding partByte partPlace
@@ -75,7 +82,8 @@ module _ (w n : ℕ) (b : Bool) (e : b ≡ leb (n * w) 18446744073709551612) whe
   pub block-past : b ≡ false → IsPart true w n (record { byte = 18446744073709551615; place = 0 })
   unfolding partByte partPlace
   block-past t =
-      let h = leb-false (n * w) 18446744073709551612 (sym e ∙ t) in
+      let h = leb-false (w * n) 18446744073709551612 (sym e ∙ t) in
+      let c = mul-comm n w in
       record { byte-is = sym (past-word (3 + n * w) (omega arith)); place-is = refl }
 
 pub part-of : (b c : Bool) (w n : ℕ) (part : Part) → b ≡ c → IsPart b w n part → IsPart c w n part

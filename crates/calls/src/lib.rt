@@ -2,6 +2,7 @@
 ghost use mathlib.Core.Path.{_≡_};
 ghost use mathlib.Core.Bool.{true, false};
 ghost use Prim.Native.Nat.{_+_, _*_, _/_, _%_};
+ghost use lib.Dec.{leb};
 ghost use lib.ListN.{take, drop};
 ghost use Rattle.codes.specs.Code.{itemCode};
 ghost use Rattle.bed_file.specs.File.{isMode1};
@@ -62,11 +63,23 @@ fn item_part(item: usize) -> Part
     Part { byte, place }
 }
 
+// Whether 64 bits hold the first byte of a block: no division where both numbers are below 2^32.
+fn start_fits(width: usize, block: usize) -> bool
+    ensures { λ r. ⌜ r ≡ leb (width * block) 18446744073709551612 ⌝ }
+{
+    if width < 4294967296 {
+        if block < 4294967296 {
+            return true;
+        }
+    }
+    blocks::product_at_most(width, block, 18446744073709551612)
+}
+
 // What the number of a block adds: its first byte, or 2^64 − 1 if that passes 64 bits.
 fn block_part(width: usize, block: usize) -> Part
     ensures { λ r. ⌜ IsPart true width block r ⌝ }
 {
-    if blocks::product_at_most(block, width, 18446744073709551612) {
+    if start_fits(width, block) {
         let start = 3 + block * width;
         return Part {
             byte: start,

@@ -23,17 +23,16 @@ use Rattle.bed_write.proofs.GroupLaws.{held-there, held-pad, group-byte}
 use Rattle.canonical.specs.Private.{Starts, codeThere, groupCode, GroupInside, fourByte}
 
 -- the code at a place of a byte x of the file, by the table
-pub code-held :
-    (codes file : List ℕ) (start x : ℕ) (item : Part) (left k : ℕ) → codes ≡ codeTable → x ≡ getD file (start + item .byte) 0 → x < 256 → item .place < 4 → k < left
-    → getD codes (x * 4 + item .place) 0 ≡ inGroup left (λ _. codeThere file start item) k
+pub code-found :
+    (codes file : List ℕ) (start x : ℕ) (item : Part) → codes ≡ codeTable → x ≡ getD file (start + item .byte) 0 → x < 256 → item .place < 4
+    → getD codes (x * 4 + item .place) 0 ≡ codeThere file start item
 unfolding codeThere
-code-held codes file start x item left k t e h p l =
+code-found codes file start x item t e h p =
     let m : item .place % 4 ≡ item .place = omega arith in
     ap (λ (q : ℕ). getD codes (x * 4 + q) 0) (sym m)
     ∙ table-at codes x x (item .place) t refl h
     ∙ ap (codeAt x) m
     ∙ ap (λ (y : ℕ). codeAt y (item .place)) e
-    ∙ held-there left (λ _. codeAt (getD file (start + item .byte) 0) (item .place)) k l
 
 -- what a group holds are codes
 held-below : (file starts : List ℕ) (item : Part) (left k c : ℕ) → c ≡ inGroup left (groupCode file starts item) k → c < 4
@@ -47,6 +46,14 @@ held-below file starts item left k c e =
 pub four-same :
     (c0 c1 c2 c3 d0 d1 d2 d3 : ℕ) → c0 ≡ d0 → c1 ≡ d1 → c2 ≡ d2 → c3 ≡ d3 → groupByte c0 c1 c2 c3 ≡ groupByte d0 d1 d2 d3
 four-same c0 c1 c2 c3 d0 d1 d2 d3 e0 e1 e2 e3 = λ i. groupByte (e0 i) (e1 i) (e2 i) (e3 i)
+
+-- of four animals that are there
+pub four-held :
+    (left : ℕ) (number : ℕ → ℕ) (c0 c1 c2 c3 : ℕ) → 3 < left → c0 ≡ number 0 → c1 ≡ number 1 → c2 ≡ number 2 → c3 ≡ number 3
+    → groupByte c0 c1 c2 c3 ≡ fourByte (inGroup left number)
+four-held left number c0 c1 c2 c3 h e0 e1 e2 e3 =
+    four-same c0 c1 c2 c3 _ _ _ _ (e0 ∙ held-there left number 0 (omega arith)) (e1 ∙ held-there left number 1 (omega arith))
+    (e2 ∙ held-there left number 2 (omega arith)) (e3 ∙ held-there left number 3 (omega arith))
 
 -- four starts
 pub starts-are :

@@ -46,15 +46,23 @@ fn four_starts(shape: Shape, first: usize) -> [usize; 4]
     [a, b, c, d]
 }
 
-// The code of item `item` of the block that starts at `start`, if it is that of one of the `left` animals of a group; else a pad.
+// The code of an item of the block that starts there.
+fn code_there(file: &[u8], start: usize, item: Part, codes: &[u8; 1024]) -> u8
+    requires { ⌜ (start + item .byte < length (now file)) × (item .place < 4) × (now codes ≡ codeTable) ⌝ }
+    ensures { λ r. ⌜ r ≡ codeThere (now (file .entry)) start item ⌝ }
+{
+    let byte = start + item.byte;
+    let at = wide(file[byte]) * 4 + item.place;
+    codes[at]
+}
+
+// The same of animal k of a group, if it is one of the `left` animals there; else a pad.
 fn held_code(file: &[u8], start: usize, item: Part, left: usize, k: usize, codes: &[u8; 1024]) -> u8
     requires { ⌜ (k < left → start + item .byte < length (now file)) × (item .place < 4) × (now codes ≡ codeTable) ⌝ }
     ensures { λ r. ⌜ r ≡ inGroup left (λ _. codeThere (now (file .entry)) start item) k ⌝ }
 {
     if k < left {
-        let byte = start + item.byte;
-        let at = wide(file[byte]) * 4 + item.place;
-        return codes[at];
+        return code_there(file, start, item, codes);
     }
     PAD
 }
@@ -64,11 +72,22 @@ fn turned_byte(file: &[u8], starts: &[usize; 4], item: Part, left: usize, codes:
     requires { ⌜ GroupInside (now file) (now starts) item left × (item .place < 4) × (now codes ≡ codeTable) ⌝ }
     ensures { λ r. ⌜ r ≡ fourByte (inGroup left (groupCode (now (file .entry)) (now (starts .entry)) item)) ⌝ }
 {
+    if left > 3 {
+        let c0 = code_there(file, starts[0], item, codes);
+        let c1 = code_there(file, starts[1], item, codes);
+        let c2 = code_there(file, starts[2], item, codes);
+        let c3 = code_there(file, starts[3], item, codes);
+        return codes::byte_of(Group { c0, c1, c2, c3 });
+    }
     let c0 = held_code(file, starts[0], item, left, 0, codes);
     let c1 = held_code(file, starts[1], item, left, 1, codes);
     let c2 = held_code(file, starts[2], item, left, 2, codes);
-    let c3 = held_code(file, starts[3], item, left, 3, codes);
-    codes::byte_of(Group { c0, c1, c2, c3 })
+    codes::byte_of(Group {
+        c0,
+        c1,
+        c2,
+        c3: PAD,
+    })
 }
 
 // The end of the markers that are packed together from `from` on: 16, whose codes share four bytes of each block.
