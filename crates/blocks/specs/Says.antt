@@ -1,6 +1,5 @@
 -- What each answer enum of the code says: document 01's number and the values for each of its cases.
 use mathlib.Core.List.{[], _∷_}
-use Prim.Native.Nat.{ℕ}
 use lib.IntN.{pos}
 use Rattle.answer.specs.Answer.{Answer, done, refused}
 use Rattle.blocks.specs.declared.DivAnswer.{DivAnswer}
