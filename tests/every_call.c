@@ -217,23 +217,59 @@ static void files_and_widths(void) {
     same(bed_try_div_4(TOO_LARGE - 1, 8), answer(4, 0, 0));
     same(bed_try_div_4(TOO_LARGE - 1, 7), answer(0, (int64_t)1 << 61, 0));
     end();
+}
 
+/* "The byte span of a list is its lowest i/4, rounded down, and the length highest − lowest + 1, or (0, 0) when empty." */
+static bed_answer span_of(size_t count, const int64_t *list, size_t n) {
+    int64_t e;
+    if (count >= TOO_LARGE) return answer(18, 0, 0);
+    if (bad_entry(count, list, n, &e)) return answer(5, e, 0);
+    if (n == 0) return answer(0, 0, 0);
+    size_t lowest = SIZE_MAX, highest = 0;
+    for (size_t k = 0; k < n; k++) {
+        size_t byte = means(count, list[k]) / 4;
+        if (byte < lowest) lowest = byte;
+        if (byte > highest) highest = byte;
+    }
+    return answer(0, (int64_t)lowest, (int64_t)(highest - lowest + 1));
+}
+
+static void spans(void) {
+    enum { LONG = 1000000 };
+    static int64_t list[LONG];
     begin("bed_byte_span");
     for (int i = 0; i < 2000; i++) {
-        int64_t list[16], e, lowest = 0, highest = -1;
         size_t count = draw_count(), n = draw_list(count, list);
-        bed_answer want = answer(18, 0, 0);
-        if (count < TOO_LARGE) {
-            bool bad = bad_entry(count, list, n, &e);
-            for (size_t k = 0; k < n && !bad; k++) {
-                int64_t byte = (int64_t)(means(count, list[k]) / 4);
-                if (k == 0 || byte < lowest) lowest = byte;
-                if (k == 0 || byte > highest) highest = byte;
-            }
-            want = bad ? answer(5, e, 0) : n == 0 ? answer(0, 0, 0) : answer(0, lowest, highest - lowest + 1);
-        }
-        same(bed_byte_span(count, list, n), want);
+        same(bed_byte_span(count, list, n), span_of(count, list, n));
     }
+
+    /* entries at the ends of what they can be, by counts at the ends of theirs: each alone, and each after each other */
+    static const int64_t entries[] = {INT64_MIN, INT64_MIN + 1, INT64_MIN + 2, -2, -1, 0, 1, INT64_MAX - 2, INT64_MAX - 1, INT64_MAX};
+    static const size_t counts[] = {0, 1, 2, 9, TOO_LARGE - 2, TOO_LARGE - 1, TOO_LARGE, SIZE_MAX};
+    for (size_t c = 0; c < sizeof counts / sizeof *counts; c++)
+        for (size_t a = 0; a < sizeof entries / sizeof *entries; a++) {
+            same(bed_byte_span(counts[c], &entries[a], 1), span_of(counts[c], &entries[a], 1));
+            for (size_t b = 0; b < sizeof entries / sizeof *entries; b++) {
+                list[0] = entries[a], list[1] = entries[b];
+                same(bed_byte_span(counts[c], list, 2), span_of(counts[c], list, 2));
+            }
+        }
+
+    /* 1,000,000 entries, some from the end; then with the lowest byte last and the highest first, the other way about, and a bad entry */
+    const size_t count = 6000001;
+    for (size_t k = 0; k < LONG; k++) {
+        int64_t i = (int64_t)(1000 + draw(count - 2000));
+        list[k] = draw(2) ? i : i - (int64_t)count;
+    }
+    same(bed_byte_span(count, list, LONG), span_of(count, list, LONG));
+    list[0] = -1, list[LONG - 1] = 7;
+    same(bed_byte_span(count, list, LONG), answer(0, 1, 1500000));
+    list[0] = -(int64_t)count, list[LONG - 1] = (int64_t)count - 5;
+    same(bed_byte_span(count, list, LONG), answer(0, 0, 1500000));
+    list[LONG - 1] = -(int64_t)count - 1;
+    same(bed_byte_span(count, list, LONG), answer(5, -6000002, 0));
+    list[LONG / 2] = (int64_t)count;
+    same(bed_byte_span(count, list, LONG), answer(5, 6000001, 0));
     end();
 }
 
@@ -686,6 +722,7 @@ static void nulls(void) {
 
 int main(void) {
     files_and_widths();
+    spans();
     reading_calls();
     packing(true);
     packing(false);

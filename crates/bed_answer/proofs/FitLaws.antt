@@ -1,6 +1,6 @@
 -- The numbers of every answer of the core fit in a signed number.
 use mathlib.Core.Path.{_≡_, refl, sym, _∙_}
-use mathlib.Core.Bool.{Bool, true, false, cond, _&&_}
+use mathlib.Core.Bool.{Bool, true, false, _&&_}
 use mathlib.Core.List.{List, [], _∷_, map}
 use mathlib.Core.Option.{Option, some, none}
 use Prim.Native.Nat.{ℕ, zero, suc, _+_, _-_, _*_, _/_, _^_, _≤_, _<_}
@@ -12,8 +12,8 @@ use lib.IntN.{ℤ, pos, negsuc}
 use lib.ListN.{length, getD}
 use Rattle.answer.specs.Answer.{Answer, done, refused, check, checkEntry, checkCount, countLimit, ifDone}
 use Rattle.blocks.specs.Block.{blockWidth, checkSize, fileLength, divAnswer}
-use Rattle.entries.specs.Entry.{isGood, firstBad, least, greatest, byteOf, span, spanAnswer}
-use Rattle.entries.proofs.EntryLaws.{means-below}
+use Rattle.entries.specs.Entry.{isGood, firstBad, least, byteOf, span, spanAnswer}
+use Rattle.entries.proofs.SpanLaws.{pair-good, byte-below, greatest-below}
 use Rattle.blocks.proofs.Widths.{width-none, width-some}
 use Rattle.index.specs.declared.range.Bound.{Bound}
 use Rattle.index.specs.declared.slice.SliceEnd.{SliceEnd}
@@ -76,37 +76,20 @@ div-fits iids sids =
     count-fits iids _ (λ h. count-fits sids _ (λ _. check-fits (leb (fileLength iids sids) (2 ^ 64 - 1)) 4 _ (width-below iids h, tt)))
 
 -- ---- spans
--- a list without bad entries: its first is good, and the others have no bad one
-pair-good : (b : Bool) (later : Option ℤ) (e : ℤ) → cond b later (some e) ≡ none → (b ≡ true) × (later ≡ none)
-pair-good true later e n = (refl, n)
-pair-good false later e n = absurd (let q : _≡_ {A = ℕ} 0 1 = cc in omega arith)
-
 module _ (count : ℕ) where
-  byte-below : (e : ℤ) → isGood count e ≡ true → byteOf count e < count
-  unfolding byteOf
-  byte-below e g = let b = means-below count e g in omega arith
-
   least-below : (n : ℕ) (ms : List ℕ) → n < count → least n ms < count
   unfolding least
   least-below n [] h = h
   least-below n (m ∷ ms) h = omega arith
-
-  greatest-below : (n : ℕ) (es : List ℤ) → n < count → firstBad count es ≡ none → greatest n (map (byteOf count) es) < count
-  unfolding greatest firstBad
-  greatest-below n [] h f = h
-  greatest-below n (e ∷ es) h f =
-      let p = pair-good (isGood count e) (firstBad count es) e f in
-      let r = greatest-below (byteOf count e) es (byte-below e (p .0)) (p .1) in
-      omega arith
 
   spans-fit : (list : List ℤ) → count ≤ countLimit → firstBad count list ≡ none → Fits (done (span count list))
   unfolding Fits AllBelow span firstBad
   spans-fit [] h f = (omega arith, (omega arith, tt))
   spans-fit (e ∷ es) h f =
       let p = pair-good (isGood count e) (firstBad count es) e f in
-      let b = byte-below e (p .0) in
+      let b = byte-below count e (p .0) in
       let l = least-below (byteOf count e) (map (byteOf count) es) b in
-      let g = greatest-below (byteOf count e) es b (p .1) in
+      let g = greatest-below count (byteOf count e) es b (p .1) in
       (omega arith, (omega arith, tt))
 
 pub span-fits : (count : ℕ) (list : List ℤ) → Fits (spanAnswer count list)

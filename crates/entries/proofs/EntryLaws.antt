@@ -3,10 +3,10 @@ use mathlib.Core.Path.{_≡_, refl, sym, ap, subst, _∙_}
 use mathlib.Core.Bool.{Bool, true, false}
 use mathlib.Core.List.{List, [], _∷_}
 use mathlib.Core.Option.{some, none}
-use Prim.Native.Nat.{ℕ, _+_, _-_, _^_, _<_, _≤_}
+use Prim.Native.Nat.{ℕ, suc, _+_, _-_, _%_, _^_, _<_, _≤_}
 use native.Mathlib.Numerals.{add-one}
 use native.Mathlib.Omega.{arith}
-use borrow.Author.Tests.{ltb-true}
+use borrow.Author.Tests.{ltb-true, ltb-false, lt-ltb, le-ltb}
 use lib.Dec.{ltb}
 use lib.IntN.{ℤ, pos, negsuc}
 use lib.ListN.{length, getD, drop, drop-of-length-le}
@@ -19,20 +19,32 @@ use Rattle.answer.specs.Answer.{done, refused, checkEntry}
 use Rattle.entries.specs.Entry.{isGood, means, firstBad, entryAnswer}
 
 -- ---- one entry
-distance-good : (count : ℕ) (z : ℤ) → ltb (mag z) count ≡ isGood count z
-unfolding isGood
-distance-good count (pos i) = refl
-distance-good count (negsuc k) = refl
-
-from-back : (count : ℕ) (z : ℤ) → ltZ z (pos 0) ≡ true → count - 1 - mag z ≡ means count z
-unfolding means
-from-back count (pos i) h = absurd (let b : i < 0 = ltb-true i 0 h in omega arith)
-from-back count (negsuc k) h = omega arith
-
-from-front : (count : ℕ) (z : ℤ) → ltZ z (pos 0) ≡ false → mag z ≡ means count z
-unfolding means
-from-front count (pos i) h = refl
+-- an entry z ≥ 0 means itself
+from-front : (count : ℕ) (z : ℤ) → ltZ z (pos 0) ≡ false → (ltb (mag z) count ≡ isGood count z) × (mag z ≡ means count z)
+unfolding isGood means
+from-front count (pos i) h = (refl, refl)
 from-front count (negsuc k) h = absurd (let q : _≡_ {A = ℕ} 0 1 = cc in omega arith)
+
+-- k before the last, with p the machine's count − (k + 1)
+wrapped : (count k p : ℕ) → k < 2 ^ 63 → p < 2 ^ 64 → (p + (k + 1)) % 2 ^ 64 ≡ count → (ltb p count ≡ ltb k count) × (ltb k count ≡ true → p ≡ count - suc k)
+wrapped count k p hk hp e = by-test (ltb k count) refl
+  where
+    by-test : (b : Bool) → ltb k count ≡ b → (ltb p count ≡ b) × (b ≡ true → p ≡ count - suc k)
+    by-test true t = let h : k < count = ltb-true k count t in (lt-ltb p count (omega arith), λ _. omega arith)
+    by-test false t = let h : count ≤ k = ltb-false k count t in (le-ltb p count (omega arith), λ b. absurd (let q : _≡_ {A = ℕ} 0 1 = cc in omega arith))
+
+from-back :
+    (count : ℕ) (z : ℤ) (p : ℕ) → ltZ z (pos 0) ≡ true → mag z < 2 ^ 63 → p < 2 ^ 64 → (p + (mag z + 1)) % 2 ^ 64 ≡ count
+    → (ltb p count ≡ isGood count z) × (isGood count z ≡ true → p ≡ means count z)
+unfolding isGood means
+from-back count (pos i) p h f hp e = absurd (let b : i < 0 = ltb-true i 0 h in omega arith)
+from-back count (negsuc k) p h f hp e = wrapped count k p f hp e
+
+-- a bad entry from the back
+past-front : (count : ℕ) (z : ℤ) → ltZ z (pos 0) ≡ true → isGood count z ≡ false → 0 ≡ means count z
+unfolding isGood means
+past-front count (pos i) h b = absurd (let c : i < 0 = ltb-true i 0 h in omega arith)
+past-front count (negsuc k) h b = let c : count ≤ k = ltb-false k count b in omega arith
 
 -- a good entry means a number below the count
 pub means-below : (count : ℕ) (z : ℤ) → isGood count z ≡ true → means count z < count
@@ -45,21 +57,39 @@ module _ (count : ℕ) (z : ℤ) (f : SFits w64 z) where
   back : toZ w64 (ofZ w64 z) ≡ z
   back = toZ-ofZ w64 z f
 
-  module _ (m : ℕ) (e : m ≡ mag (toZ w64 (ofZ w64 z))) where
-    e′ : m ≡ mag z
-    e′ = e ∙ ap mag back
+  negative : ltZ (toZ w64 (ofZ w64 z)) (pos 0) ≡ true → ltZ z (pos 0) ≡ true
+  negative = subst (λ (y : ℤ). ltZ y (pos 0) ≡ true) back
 
-    pub tests-good : ltb m count ≡ isGood count z
-    tests-good = ap (λ (k : ℕ). ltb k count) e′ ∙ distance-good count z
+  front : ltZ (toZ w64 (ofZ w64 z)) (pos 0) ≡ false → ltZ z (pos 0) ≡ false
+  front = subst (λ (y : ℤ). ltZ y (pos 0) ≡ false) back
 
-    pub number-back : ltZ (toZ w64 (ofZ w64 z)) (pos 0) ≡ true → count - 1 - m ≡ means count z
-    number-back h = ap (λ (k : ℕ). count - 1 - k) e′ ∙ from-back count z (subst (λ (y : ℤ). ltZ y (pos 0) ≡ true) back h)
+  -- `place`, from the distance m that the cast gives
+  module _ (m : ℕ) (e : m ≡ mag z) where
+    pub distance-below : m < 2 ^ 63
+    distance-below = subst (λ (k : ℕ). k < 2 ^ 63) (sym e) (f .sfits)
 
-    pub number-none : ltZ (toZ w64 (ofZ w64 z)) (pos 0) ≡ true → count ≤ m → 0 ≡ means count z
-    number-none h g = let k : count - 1 - m ≡ 0 = omega arith in sym k ∙ number-back h
+    pub place-back :
+        (p : ℕ) → ltZ (toZ w64 (ofZ w64 z)) (pos 0) ≡ true → p < 2 ^ 64 → (p + (m + 1)) % 2 ^ 64 ≡ count
+        → (ltb p count ≡ isGood count z) × (isGood count z ≡ true → p ≡ means count z)
+    place-back p h hp w = from-back count z p (negative h) (f .sfits) hp (ap (λ (k : ℕ). (p + (k + 1)) % 2 ^ 64) (sym e) ∙ w)
 
+    -- `number` of any entry from the front
     pub number-front : ltZ (toZ w64 (ofZ w64 z)) (pos 0) ≡ false → m ≡ means count z
-    number-front h = e′ ∙ from-front count z (subst (λ (y : ℤ). ltZ y (pos 0) ≡ false) back h)
+    number-front h = e ∙ from-front count z (front h) .1
+
+    pub place-front : ltZ (toZ w64 (ofZ w64 z)) (pos 0) ≡ false → (ltb m count ≡ isGood count z) × (isGood count z ≡ true → m ≡ means count z)
+    place-front h = (ap (λ (k : ℕ). ltb k count) e ∙ from-front count z (front h) .0, λ _. number-front h)
+
+  -- `is_good` and `number`, from the place p
+  module _ (p : ℕ) (t : (ltb p count ≡ isGood count (toZ w64 (ofZ w64 z))) × (isGood count (toZ w64 (ofZ w64 z)) ≡ true → p ≡ means count (toZ w64 (ofZ w64 z)))) where
+    pub tests-good : ltb p count ≡ isGood count z
+    tests-good = t .0 ∙ ap (isGood count) back
+
+    pub number-good : p < count → p ≡ means count z
+    number-good h = t .1 (sym (t .0) ∙ lt-ltb p count h) ∙ ap (means count) back
+
+    pub number-none : count ≤ p → ltZ (toZ w64 (ofZ w64 z)) (pos 0) ≡ true → 0 ≡ means count z
+    number-none g h = past-front count z (negative h) (sym tests-good ∙ le-ltb p count g)
 
   pub still-good : (b : Bool) → b ≡ isGood count (toZ w64 (ofZ w64 z)) → b ≡ isGood count z
   still-good b e = e ∙ ap (isGood count) back

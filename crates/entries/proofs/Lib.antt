@@ -1,3 +1,4 @@
 pub mod SignedLaws
 pub mod EntryLaws
 pub mod SpanLaws
+pub mod SpanExamples

@@ -1,3 +1,4 @@
 -- Entries of a list.
 pub mod Entry
 pub mod Says
+pub mod Private

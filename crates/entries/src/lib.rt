@@ -1,13 +1,14 @@
 // Entries of a list: what they mean for a count.
 ghost use mathlib.Core.Path.{_≡_};
-ghost use mathlib.Core.List.{[], _∷_};
-ghost use Prim.Native.Nat.{ℕ, _<_, min, max};
-ghost use lib.ListN.{length};
-ghost use lib.IntN.{pos};
-ghost use lib.Signed.{mag};
+ghost use mathlib.Core.Bool.{true};
+ghost use mathlib.Core.List.{List, [], _∷_, _++_};
+ghost use Prim.Native.Nat.{ℕ, min, max};
+ghost use lib.Dec.{ltb};
+ghost use lib.IntN.{ℤ};
 ghost use Rattle.answer.specs.Answer.{done, checkEntry};
-ghost use Rattle.entries.specs.Entry.{isGood, means, firstBad, entryAnswer, span, spanAnswer};
+ghost use Rattle.entries.specs.Entry.{isGood, means, firstBad, entryAnswer, spanAnswer};
 ghost use Rattle.entries.specs.Says.{iidSays, sidSays, firstBadSays, spanSays};
+ghost use Rattle.entries.specs.Private.{IsSpan};
 
 // An animal's number and a marker's number, never one for the other.
 pub struct IidIndex(pub usize);
@@ -46,12 +47,14 @@ pub fn sid_index(sid_count: usize, entry: i64) -> SidEntry
     }
 }
 
-// The place that a signed entry counts: e from the front, −1 − e from the back.
-fn distance(entry: i64) -> usize
-    ensures { λ r. ⌜ r ≡ mag entry ⌝ }
+// The place that a good entry means, and of a bad entry none below the count: from the back the machine's difference, which wraps where the
+// count is too small.
+fn place(count: usize, entry: i64) -> usize
+    ensures { λ r. ⌜ (ltb r count ≡ isGood count entry) × (isGood count entry ≡ true → r ≡ means count entry) ⌝ }
 {
     if entry < 0 {
-        return (-1 - entry) as usize;
+        let before_last = (-1 - entry) as usize;
+        return std::num::wrapping_sub_usize(count, before_last + 1);
     }
     entry as usize
 }
@@ -59,21 +62,21 @@ fn distance(entry: i64) -> usize
 fn is_good(count: usize, entry: i64) -> bool
     ensures { λ r. ⌜ r ≡ isGood count entry ⌝ }
 {
-    distance(entry) < count
+    place(count, entry) < count
 }
 
 // The number that a good entry means.
 fn number(count: usize, entry: i64) -> usize
     ensures { λ r. ⌜ r ≡ means count entry ⌝ }
 {
-    let place = distance(entry);
+    let place = place(count, entry);
+    if place < count {
+        return place;
+    }
     if entry < 0 {
-        if place < count {
-            return count - 1 - place;
-        }
         return 0;
     }
-    place
+    entry as usize
 }
 
 // The animal that a good entry means, and the marker.
@@ -116,12 +119,6 @@ pub enum SpanAnswer {
     IidIndexTooBig(i64),
 }
 
-// The least and the greatest byte so far.
-struct Bytes {
-    lowest: usize,
-    highest: usize,
-}
-
 fn smaller(a: usize, b: usize) -> usize
     ensures { λ r. ⌜ r ≡ min a b ⌝ }
 {
@@ -134,57 +131,42 @@ fn larger(a: usize, b: usize) -> usize
     if a < b { b } else { a }
 }
 
-// The span so far and the next byte make the span that far.
-fn widened(sofar: Bytes, byte: usize) -> Bytes
-    ensures { λ r. ⌜ (r .lowest ≡ min (sofar .lowest) byte) × (r .highest ≡ max (sofar .highest) byte) ⌝ }
+// A span so far: of nothing, or its lowest and its highest byte.
+enum Span {
+    Nothing,
+    Bytes(usize, usize),
+}
+
+// The step: the span so far and the next entry make the span of the list that far.
+fn widened(count: usize, sofar: Span, entry: i64) -> Span
+    ensures { λ r. ⌜ ((before : List ℤ) → IsSpan count before sofar → IsSpan count (before ++ (entry ∷ [])) r) ⌝ }
 {
-    Bytes {
-        lowest: smaller(sofar.lowest, byte),
-        highest: larger(sofar.highest, byte),
+    let byte = number(count, entry) / 4;
+    match sofar {
+        Span::Nothing => Span::Bytes(byte, byte),
+        Span::Bytes(lowest, highest) => Span::Bytes(smaller(lowest, byte), larger(highest, byte)),
     }
 }
 
-struct Span {
-    lowest: usize,
-    length: usize,
-}
-
-// The span of a list that is not empty: one walk.
-fn list_span(count: usize, list: &[i64]) -> Span
-    requires { ⌜ 0 < length (now list) ⌝ }
-    ensures { λ r. ⌜ pos (r .lowest) ∷ pos (r .length) ∷ [] ≡ span count (now (list .entry)) ⌝ }
-{
-    let first = number(count, list[0]) / 4;
-    let mut sofar = Bytes {
-        lowest: first,
-        highest: first,
-    };
-    let mut i = 1;
-    while i < list.len() {
-        sofar = widened(sofar, number(count, list[i]) / 4);
-        i += 1;
-    }
-    let lowest = sofar.lowest;
-    Span {
-        lowest,
-        length: sofar.highest - lowest + 1,
-    }
-}
-
-// The byte span of a list, as its lowest byte and its length in bytes.
+// The byte span of a list, as its lowest byte and its length in bytes: one walk, in which each entry is tested and meets the step.
 pub fn byte_span(count: usize, list: &[i64]) -> SpanAnswer
     ensures { λ r. ⌜ spanSays r ≡ spanAnswer count (now (list .entry)) ⌝ }
 {
     if count > answer::COUNT_LIMIT {
         return SpanAnswer::CountTooLarge;
     }
-    let bad = first_bad(count, list);
-    if let FirstBad::Entry(e) = bad {
-        return SpanAnswer::IidIndexTooBig(e);
+    let mut sofar = Span::Nothing;
+    let mut met = 0;
+    while met < list.len() {
+        let entry = list[met];
+        if !is_good(count, entry) {
+            return SpanAnswer::IidIndexTooBig(entry);
+        }
+        sofar = widened(count, sofar, entry);
+        met += 1;
     }
-    if list.len() == 0 {
-        return SpanAnswer::Span(0, 0);
+    match sofar {
+        Span::Nothing => SpanAnswer::Span(0, 0),
+        Span::Bytes(lowest, highest) => SpanAnswer::Span(lowest, highest - lowest + 1),
     }
-    let s = list_span(count, list);
-    SpanAnswer::Span(s.lowest, s.length)
 }
