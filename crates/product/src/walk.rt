@@ -58,6 +58,31 @@ fn add_block(
     }
 }
 
+// How many of n terms go into a tile: none where the products of lines top to bottom - 1 can be formed straight from the
+// bytes. These are then near, since they were just looked at.
+fn tile_terms(
+    bytes: &[u8],
+    base: usize,
+    line: usize,
+    step: usize,
+    n: usize,
+    top: usize,
+    bottom: usize,
+) -> usize
+    requires { ⌜ (top < bottom) × LinesIn (length (now bytes)) base line step bottom n ⌝ }
+    ensures { λ r. ⌜ (r ≤ n) × LoadedOrStraight (now (bytes .entry)) base line step n r top bottom ⌝ }
+{
+    if line == 1 {
+        if n == 4 {
+            let at = floats::place(base, line, step, top, 0);
+            if floats::four_finite(bytes, at, step, bottom - top) {
+                return 0;
+            }
+        }
+    }
+    n
+}
+
 // Adds n products to the sums of rows top to bottom - 1.
 fn add_blocks(
     bytes: &[u8],
@@ -65,7 +90,6 @@ fn add_blocks(
     line: usize,
     step: usize,
     n: usize,
-    loaded: usize,
     g: usize,
     top: usize,
     bottom: usize,
@@ -73,15 +97,15 @@ fn add_blocks(
     x: &mut [f64],
     piece: &mut [f64],
 )
-    requires { ⌜ (0 < g) × (g ≤ 64) × (0 < n) × (loaded ≤ n) × (loaded * g + 8 ≤ length (now x)) × (0 < width) × (top ≤ bottom)
-        × (bottom * width ≤ length (now piece)) × LinesIn (length (now bytes)) base line step bottom n
-        × LoadedOrStraight (now bytes) base line step n loaded top bottom ⌝ }
+    requires { ⌜ (0 < g) × (g ≤ 64) × (0 < n) × (n * g + 8 ≤ length (now x)) × (0 < width) × (top ≤ bottom)
+        × (bottom * width ≤ length (now piece)) × LinesIn (length (now bytes)) base line step bottom n ⌝ }
     ensures { λ _. ⌜ now (piece .exit) ≡ rowsMore binary64 width (valueOfLine (now (bytes .entry)) base line step) n top bottom (now (piece .entry)) ⌝ }
 {
     let mut room = [0.0f64; 64];
     let mut r = top;
     while r < bottom {
         let m = least(g, bottom - r);
+        let loaded = tile_terms(bytes, base, line, step, n, r, r + m);
         floats::load_tile(bytes, base, line, step, loaded, r, m, g, x);
         add_block(
             bytes,
@@ -125,31 +149,6 @@ fn pass_terms(rows: usize, width: usize) -> usize
     1792 / rows
 }
 
-// How many of n terms go into tiles: none where the products of lines top to bottom - 1 can be formed straight from the
-// bytes. These are then read once in their order, which is as fast as they come.
-fn tile_terms(
-    bytes: &[u8],
-    base: usize,
-    line: usize,
-    step: usize,
-    n: usize,
-    top: usize,
-    bottom: usize,
-) -> usize
-    requires { ⌜ (top < bottom) × LinesIn (length (now bytes)) base line step bottom n ⌝ }
-    ensures { λ r. ⌜ (r ≤ n) × LoadedOrStraight (now (bytes .entry)) base line step n r top bottom ⌝ }
-{
-    if line == 1 {
-        if n == 4 {
-            let at = floats::place(base, line, step, top, 0);
-            if floats::four_finite(bytes, at, step, bottom - top) {
-                return 0;
-            }
-        }
-    }
-    n
-}
-
 // Adds all terms to the sums of rows top to bottom - 1.
 fn add_terms(
     bytes: &[u8],
@@ -173,21 +172,7 @@ fn add_terms(
     while k < count {
         let n = least(terms, count - k);
         let at = floats::place(base, line, step, 0, k);
-        let loaded = tile_terms(bytes, at, line, step, n, top, bottom);
-        add_blocks(
-            bytes,
-            at,
-            line,
-            step,
-            n,
-            loaded,
-            g,
-            top,
-            bottom,
-            width,
-            x,
-            piece,
-        );
+        add_blocks(bytes, at, line, step, n, g, top, bottom, width, x, piece);
         k += n;
     }
 }

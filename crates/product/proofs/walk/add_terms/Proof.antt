@@ -41,35 +41,42 @@ sized c =
 place-requires : tie.Need-place-requires Inv-loop μ-loop
 place-requires c κs = omega (arith, c .before .before .before .before .before .before .before .before .pre .4 0 (c .before .before .loop .k) (omega arith) (omega arith))
 
-tile-terms-requires : tie.Need-tile-terms-requires Inv-loop μ-loop
-tile-terms-requires c κs =
-    let s = c .before .before .before .before .before .before .before .before .before .pre in
-    (s .2, λ r i h h'. omega (arith, c .place .ensures, s .4 r (c .before .before .before .loop .k + i) h (omega (arith, sized (c .before)))))
-
 add-blocks-requires : tie.Need-add-blocks-requires Inv-loop μ-loop
 add-blocks-requires c κs =
-    let s = c .before .before .before .before .before .before .before .before .before .before .before .before .pre in
-    let w = c .before .before .before .before .before .before .loop in
-    let l = sized (c .before .before .before .before) in
-    let g = c .before .before .before .before .before .before .before .before .block-rows in
-    let p = c .before .before .before .before .before .before .before .pass-terms in
-    let m = c .before .before .tile-terms in
-    (g .ensures .0, g .ensures .1, l .0, m .ensures .0, omega (arith, w .inv .1, s .0, p .ensures .1, mul-le-mul-right (g .result) (let t : m .result ≤ p .result = omega (arith, m .ensures .0, l) in t)), s .1, omega (arith, s .2), omega (arith, w .inv .2, s .3), λ r i h h'. omega (arith, c .before .before .before .place .ensures, s .4 r (w .k + i) h (omega (arith, l))), m .ensures .1)
+    let least = c .before .before .before in
+    let s = c .before .before .before .before .before .before .before .before .before .before .before .pre in
+    let w = c .before .before .before .before .before .loop in
+    let l = sized least in
+    let g = c .before .before .before .before .before .before .before .block-rows in
+    let p = c .before .before .before .before .before .before .pass-terms in (
+      g .ensures .0,
+      g .ensures .1,
+      l .0,
+      omega (arith, w .inv .1, s .0, p .ensures .1, mul-le-mul-right (g .result) (l .1)),
+      s .1,
+      omega (arith, s .2),
+      omega (arith, w .inv .2, s .3),
+      λ r i h h'. omega (arith, c .before .before .place .ensures, s .4 r (w .k + i) h (omega (arith, l))),
+    )
 
 add-k : tie.Need-add-k Inv-loop μ-loop
-add-k c = omega (arith, sized (c .before .before .before .before .before .before .before .before .before))
+add-k c = omega (arith, sized (c .before .before .before .before .before .before .before .before))
 
 loop-less : tie.Need-loop-less Inv-loop μ-loop
-loop-less c = omega (arith, sized (c .before .before .before .before .before .before .before .before .before))
+loop-less c = omega (arith, sized (c .before .before .before .before .before .before .before .before))
 
 loop-again : tie.Need-loop-again Inv-loop μ-loop
 loop-again c =
-    let place = c .before .before .before .before .before .before .before .before .place in
-    let a = c .before .before .before .before .before .before .before .before .before .before .before .before .before .before .before .before .before .args in
-    let w = c .before .before .before .before .before .before .before .before .before .before .before .loop in
+    let place = c .before .before .before .before .before .before .before .place in
+    let a = c .before .before .before .before .before .before .before .before .before .before .before .before .before .before .before .before .args in
+    let w = c .before .before .before .before .before .before .before .before .before .before .loop in
     let q = c .before .before .before .before .add-blocks in
-    let l = sized (c .before .before .before .before .before .before .before .before .before) in
-    (omega (arith, l), q .kept .1 .1 .1 .1 .1 .1 .1 .1 .1 .1 .0 ∙ w .inv .1, q .kept .1 .1 .1 .1 .1 .1 .1 .1 .1 .1 .1 .0 ∙ w .inv .2, block-terms binary64 (a .width) (valueOfLine (a .bytes .now) (a .base) (a .line) (a .step)) (valueOfLine (a .bytes .now) (place .result) (a .line) (a .step)) (w .k) (c .before .before .before .before .before .before .before .before .before .least .result) (a .top) (a .bottom) 0 (a .width) (a .piece .now) (w .piece) (q .last .1 .1 .1 .1 .1 .1 .1 .1 .1 .1 .1 .0) (line-from (a .bytes .now) (a .base) (a .line) (a .step) (w .k) (place .result) (place .ensures)) (w .inv .3) (q .ensures))
+    let l = sized (c .before .before .before .before .before .before .before .before) in (
+      omega (arith, l),
+      q .kept .1 .1 .1 .1 .1 .1 .1 .1 .1 .0 ∙ w .inv .1,
+      q .kept .1 .1 .1 .1 .1 .1 .1 .1 .1 .1 .0 ∙ w .inv .2,
+      block-terms binary64 (a .width) (valueOfLine (a .bytes .now) (a .base) (a .line) (a .step)) (valueOfLine (a .bytes .now) (place .result) (a .line) (a .step)) (w .k) (c .before .before .before .before .before .before .before .before .least .result) (a .top) (a .bottom) 0 (a .width) (a .piece .now) (w .piece) (q .last .1 .1 .1 .1 .1 .1 .1 .1 .1 .1 .0) (line-from (a .bytes .now) (a .base) (a .line) (a .step) (w .k) (place .result) (place .ensures)) (w .inv .3) (q .ensures),
+    )
 
 same-length : tie.Need-same-length Inv-loop μ-loop
 same-length c = c .before .loop .inv .1
@@ -94,7 +101,6 @@ add-terms-spec =
     sub-least
     least-requires
     place-requires
-    tile-terms-requires
     add-blocks-requires
     add-k
     loop-less
