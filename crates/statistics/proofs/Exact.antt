@@ -1,4 +1,5 @@
--- Over decoded calls of few enough animals count, sum and sum of squares are exact whole numbers; so the statistics of animals reordered are equal.
+-- Of any values the count is an exact whole number; of decoded calls of few enough animals the sum and the sum of squares are too; so the statistics of
+-- animals reordered are equal.
 use mathlib.Core.Path.{_≡_, refl, sym, ap, subst, _∙_}
 use mathlib.Core.Bool.{Bool, true, false, cond, true≢false}
 use Prim.Native.Nat.{ℕ, zero, suc, _+_, _*_, _^_, _<_, _≤_}
@@ -64,68 +65,88 @@ unfolding mul round
 two-squared binary32 = refl
 two-squared binary64 = refl
 
+-- ---- the count, of any values: up to 2^prec of them, 2^53 at f64, it is exactly how many are no NaN
+count-more : (f : Format) (a : Accumulator) (n : ℕ) (v : Float) → n ≤ 2 ^ prec f → a .count ≡ whole f n → counted f a v .count ≡ whole f (n + present v)
+unfolding counted present
+count-more f a n v h e = by-test (isNan v)
+  where
+    by-test :
+        (b : Bool) → cond b a (record { count = add f (a .count) one; sum = add f (a .sum) v; squares = add f (a .squares) (mul f v v) }) .count ≡ whole f (n + cond b 0 1)
+    by-test true = let z : n ≡ n + 0 = omega arith in e ∙ ap (whole f) z
+    by-test false = ap (λ (x : Float). add f x one) e ∙ whole-add f n 1 one h (refl, refl)
+
+present-total : (column : ℕ → Float) (n : ℕ) → total (λ i. present (column i)) n ≤ n
+unfolding total present
+present-total column zero = omega arith
+present-total column (suc n) = let a = present-total column n in let b : present (column n) ≤ 1 = at-most (isNan (column n)) in omega arith
+  where
+    at-most : (b : Bool) → cond b 0 1 ≤ 1
+    at-most true = omega arith
+    at-most false = omega arith
+
+module _ (f : Format) (column : ℕ → Float) where
+  pub observed-is : (n : ℕ) → n ≤ 2 ^ prec f → accumulated f column n .count ≡ whole f (total (λ i. present (column i)) n)
+  unfolding accumulated total
+  observed-is zero h = whole-zero f
+  observed-is (suc n) h =
+      let a : total (λ i. present (column i)) n ≤ n = present-total column n in
+      count-more f (accumulated f column n) (total (λ i. present (column i)) n) (column n) (omega arith) (observed-is n (omega arith))
+
 -- ---- one call more
-pub record Exactly (f : Format) (a : Accumulator) (n s q : ℕ) : Type 0 where
-  pub count-exact : a .count ≡ whole f n
+pub record Exactly (f : Format) (a : Accumulator) (s q : ℕ) : Type 0 where
   pub sum-exact : a .sum ≡ whole f s
   pub squares-exact : a .squares ≡ whole f q
 
-one-more : (f : Format) (a : Accumulator) (n s q : ℕ) (v : Float) (k l : ℕ) → n ≤ 2 ^ prec f → s ≤ 2 ^ prec f → q ≤ 2 ^ prec f → Exactly f a n s q
+one-more : (f : Format) (a : Accumulator) (s q : ℕ) (v : Float) (k l : ℕ) → s ≤ 2 ^ prec f → q ≤ 2 ^ prec f → Exactly f a s q
     → HasValue v false k 1 → HasValue (mul f v v) false l 1
-    → Exactly f (record { count = add f (a .count) one; sum = add f (a .sum) v; squares = add f (a .squares) (mul f v v) }) (n + 1) (s + k) (q + l)
-one-more f a n s q v k l hn hs hq p w z = record {
-  count-exact = ap (λ (x : Float). add f x one) (p .count-exact) ∙ whole-add f n 1 one hn (refl, refl);
+    → Exactly f (record { count = add f (a .count) one; sum = add f (a .sum) v; squares = add f (a .squares) (mul f v v) }) (s + k) (q + l)
+one-more f a s q v k l hs hq p w z = record {
   sum-exact = ap (λ (x : Float). add f x v) (p .sum-exact) ∙ whole-add f s k v hs w;
   squares-exact = ap (λ (x : Float). add f x (mul f v v)) (p .squares-exact) ∙ whole-add f q l (mul f v v) hq z;
 }
 
-none-more : (f : Format) (a : Accumulator) (n s q : ℕ) → Exactly f a n s q → Exactly f a (n + 0) (s + 0) (q + 0)
-none-more f a n s q p =
-    let x : n ≡ n + 0 = omega arith in
+none-more : (f : Format) (a : Accumulator) (s q : ℕ) → Exactly f a s q → Exactly f a (s + 0) (q + 0)
+none-more f a s q p =
     let y : s ≡ s + 0 = omega arith in
     let z : q ≡ q + 0 = omega arith in
-    record { count-exact = p .count-exact ∙ ap (whole f) x; sum-exact = p .sum-exact ∙ ap (whole f) y; squares-exact = p .squares-exact ∙ ap (whole f) z }
+    record { sum-exact = p .sum-exact ∙ ap (whole f) y; squares-exact = p .squares-exact ∙ ap (whole f) z }
 
-call-more : (f : Format) (a : Accumulator) (n s q : ℕ) (v : Float) → IsCall v → n ≤ 2 ^ prec f → s ≤ 2 ^ prec f → q ≤ 2 ^ prec f → Exactly f a n s q
-    → Exactly f (counted f a v) (n + present v) (s + copyCount v) (q + copyCount v * copyCount v)
-unfolding counted present copyCount isNan
-call-more f a n s q v isZero hn hs hq p =
-    one-more f a n s q plusZero 0 0 hn hs hq p (refl, refl) (subst (λ (x : Float). HasValue x false 0 1) (sym (zero-squared f)) (refl, refl))
-call-more f a n s q v isOne hn hs hq p =
-    one-more f a n s q one 1 1 hn hs hq p (refl, refl) (subst (λ (x : Float). HasValue x false 1 1) (sym (one-squared f)) (refl, refl))
-call-more f a n s q v isTwo hn hs hq p =
-    one-more f a n s q two 2 4 hn hs hq p (refl, refl) (subst (λ (x : Float). HasValue x false 4 1) (sym (two-squared f)) (refl, refl))
-call-more f a n s q v isMissing hn hs hq p = none-more f a n s q p
+call-more : (f : Format) (a : Accumulator) (s q : ℕ) (v : Float) → IsCall v → s ≤ 2 ^ prec f → q ≤ 2 ^ prec f → Exactly f a s q
+    → Exactly f (counted f a v) (s + copyCount v) (q + copyCount v * copyCount v)
+unfolding counted copyCount isNan
+call-more f a s q v isZero hs hq p =
+    one-more f a s q plusZero 0 0 hs hq p (refl, refl) (subst (λ (x : Float). HasValue x false 0 1) (sym (zero-squared f)) (refl, refl))
+call-more f a s q v isOne hs hq p =
+    one-more f a s q one 1 1 hs hq p (refl, refl) (subst (λ (x : Float). HasValue x false 1 1) (sym (one-squared f)) (refl, refl))
+call-more f a s q v isTwo hs hq p =
+    one-more f a s q two 2 4 hs hq p (refl, refl) (subst (λ (x : Float). HasValue x false 4 1) (sym (two-squared f)) (refl, refl))
+call-more f a s q v isMissing hs hq p = none-more f a s q p
 
 -- ---- the sums are small
-call-small : (v : Float) → IsCall v → (present v ≤ 4) × (copyCount v ≤ 4) × (copyCount v * copyCount v ≤ 4)
-unfolding present copyCount isNan
-call-small v isZero = (lit≤ tt, lit≤ tt, lit≤ tt)
-call-small v isOne = (lit≤ tt, lit≤ tt, lit≤ tt)
-call-small v isTwo = (lit≤ tt, lit≤ tt, lit≤ tt)
-call-small v isMissing = (lit≤ tt, lit≤ tt, lit≤ tt)
+call-small : (v : Float) → IsCall v → (copyCount v ≤ 4) × (copyCount v * copyCount v ≤ 4)
+unfolding copyCount
+call-small v isZero = (lit≤ tt, lit≤ tt)
+call-small v isOne = (lit≤ tt, lit≤ tt)
+call-small v isTwo = (lit≤ tt, lit≤ tt)
+call-small v isMissing = (lit≤ tt, lit≤ tt)
 
 total-small : (h : ℕ → ℕ) (n : ℕ) → ((i : ℕ) → i < n → h i ≤ 4) → total h n ≤ 4 * n
 unfolding total
 total-small h zero s = omega arith
 total-small h (suc n) s = let a : total h n ≤ 4 * n = total-small h n (λ i l. s i (omega arith)) in let b : h n ≤ 4 = s n (omega arith) in omega arith
 
--- ---- count, sum and sum of squares are exact
+-- ---- sum and sum of squares of calls are exact
 module _ (f : Format) (column : ℕ → Float) where
   sums : (n : ℕ) → Calls column n → FewEnough f n
-      → Exactly f (accumulated f column n) (total (λ i. present (column i)) n) (total (λ i. copyCount (column i)) n) (total (λ i. copyCount (column i) * copyCount (column i)) n)
+      → Exactly f (accumulated f column n) (total (λ i. copyCount (column i)) n) (total (λ i. copyCount (column i) * copyCount (column i)) n)
   unfolding accumulated total
-  sums zero calls few = record { count-exact = whole-zero f; sum-exact = whole-zero f; squares-exact = whole-zero f }
+  sums zero calls few = record { sum-exact = whole-zero f; squares-exact = whole-zero f }
   sums (suc n) calls few =
-      let small : (i : ℕ) → i < n → (present (column i) ≤ 4) × (copyCount (column i) ≤ 4) × (copyCount (column i) * copyCount (column i) ≤ 4) = (λ i l. call-small (column i) (calls i (omega arith))) in
-      let a : total (λ i. present (column i)) n ≤ 4 * n = total-small (λ i. present (column i)) n (λ i l. small i l .0) in
-      let b : total (λ i. copyCount (column i)) n ≤ 4 * n = total-small (λ i. copyCount (column i)) n (λ i l. small i l .1) in
-      let c : total (λ i. copyCount (column i) * copyCount (column i)) n ≤ 4 * n = total-small (λ i. copyCount (column i) * copyCount (column i)) n (λ i l. small i l .2) in
-      call-more f (accumulated f column n) (total (λ i. present (column i)) n) (total (λ i. copyCount (column i)) n) (total (λ i. copyCount (column i) * copyCount (column i)) n) (column n)
-      (calls n (omega arith)) (omega arith) (omega arith) (omega arith) (sums n (λ i l. calls i (omega arith)) (omega arith))
-
-  pub exact-count : (n : ℕ) → Calls column n → FewEnough f n → accumulated f column n .count ≡ whole f (total (λ i. present (column i)) n)
-  exact-count n calls few = sums n calls few .count-exact
+      let small : (i : ℕ) → i < n → (copyCount (column i) ≤ 4) × (copyCount (column i) * copyCount (column i) ≤ 4) = (λ i l. call-small (column i) (calls i (omega arith))) in
+      let b : total (λ i. copyCount (column i)) n ≤ 4 * n = total-small (λ i. copyCount (column i)) n (λ i l. small i l .0) in
+      let c : total (λ i. copyCount (column i) * copyCount (column i)) n ≤ 4 * n = total-small (λ i. copyCount (column i) * copyCount (column i)) n (λ i l. small i l .1) in
+      call-more f (accumulated f column n) (total (λ i. copyCount (column i)) n) (total (λ i. copyCount (column i) * copyCount (column i)) n) (column n)
+      (calls n (omega arith)) (omega arith) (omega arith) (sums n (λ i l. calls i (omega arith)) (omega arith))
 
   pub exact-sum : (n : ℕ) → Calls column n → FewEnough f n → accumulated f column n .sum ≡ whole f (total (λ i. copyCount (column i)) n)
   exact-sum n calls few = sums n calls few .sum-exact
@@ -141,7 +162,8 @@ module _ (f : Format) (xs ys : ℕ → Float) (n : ℕ) (calls : Calls xs n) (ca
   pub reordered-accumulator : accumulated f xs n ≡ accumulated f ys n
   unfolding triple
   reordered-accumulator =
-      let a : accumulated f xs n .count ≡ accumulated f ys n .count = (exact-count f xs n calls few ∙ ap (whole f) (same present) ∙ sym (exact-count f ys n calls′ few)) in
+      let most : n ≤ 2 ^ prec f = omega arith in
+      let a : accumulated f xs n .count ≡ accumulated f ys n .count = (observed-is f xs n most ∙ ap (whole f) (same present) ∙ sym (observed-is f ys n most)) in
       let b : accumulated f xs n .sum ≡ accumulated f ys n .sum = (exact-sum f xs n calls few ∙ ap (whole f) (same copyCount) ∙ sym (exact-sum f ys n calls′ few)) in
       let c : accumulated f xs n .squares ≡ accumulated f ys n .squares = (
       exact-squares f xs n calls few ∙ ap (whole f) (same (λ v. copyCount v * copyCount v)) ∙ sym (exact-squares f ys n calls′ few)
