@@ -31,7 +31,7 @@
 /* The version; it stands here alone. MAJOR rises with every change that breaks a caller (CHANGELOG.md). */
 #define MUNGKELAS_VERSION_MAJOR 1
 #define MUNGKELAS_VERSION_MINOR 0
-#define MUNGKELAS_VERSION_PATCH 0
+#define MUNGKELAS_VERSION_PATCH 1
 #define MUNGKELAS_TEXT_(a, b, c) #a "." #b "." #c
 #define MUNGKELAS_TEXT(a, b, c) MUNGKELAS_TEXT_(a, b, c)
 #define MUNGKELAS_VERSION MUNGKELAS_TEXT(MUNGKELAS_VERSION_MAJOR, MUNGKELAS_VERSION_MINOR, MUNGKELAS_VERSION_PATCH)
