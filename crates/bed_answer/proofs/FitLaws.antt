@@ -13,7 +13,8 @@ use lib.ListN.{length, getD}
 use Rattle.answer.specs.Answer.{Answer, done, refused, check, checkEntry, checkCount, countLimit, ifDone}
 use Rattle.blocks.specs.Block.{blockWidth, checkSize, fileLength, divAnswer}
 use Rattle.entries.specs.Entry.{isGood, firstBad, least, byteOf, span, spanAnswer}
-use Rattle.entries.proofs.SpanLaws.{pair-good, byte-below, greatest-below}
+use Rattle.entries.proofs.EntryLaws.{pair-good}
+use Rattle.entries.proofs.SpanLaws.{byte-below, greatest-below}
 use Rattle.blocks.proofs.Widths.{width-none, width-some}
 use Rattle.index.specs.declared.range.Bound.{Bound}
 use Rattle.index.specs.declared.slice.SliceEnd.{SliceEnd}

@@ -15,8 +15,7 @@ use mir.Syntax.{w64}
 use mir.Val.{ofZ, toZ}
 use Rattle.codes.specs.Code.{codeAt}
 use Rattle.entries.specs.Entry.{firstBad, means}
-use Rattle.entries.proofs.EntryLaws.{means-below}
-use Rattle.entries.proofs.SpanLaws.{all-good, still-means}
+use Rattle.entries.proofs.EntryLaws.{means-back, means-below, all-good}
 use Rattle.answer.proofs.Tests.{by-lt}
 use Rattle.calls.specs.Calls.{callCode}
 use Rattle.calls.specs.declared.Part.{Part}
@@ -61,7 +60,7 @@ along-zero m false e = sym e
 -- the number that an entry of a good list means, as the machine holds it
 module _ (count : ℕ) (list : List ℤ) (k n : ℕ) (f : mag (getD list k (pos 0)) < 2 ^ 63) (e : n ≡ means count (toZ w64 (ofZ w64 (getD list k (pos 0))))) where
   pub meant : n ≡ means count (getD list k (pos 0))
-  meant = still-means count list k n f e
+  meant = means-back count (getD list k (pos 0)) (record { sfits = f }) n e
 
   pub meant-below : firstBad count list ≡ none → k < length list → n < count
   meant-below g h = subst (λ (x : ℕ). x < count) (sym meant) (means-below count (getD list k (pos 0)) (all-good count list k g h))

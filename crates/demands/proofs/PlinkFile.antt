@@ -21,8 +21,7 @@ use Rattle.codes.specs.Value.{Width, valueOf}
 use Rattle.answer.proofs.AnswerLaws.{check-passes, count-passes, check-done, count-done, new-if-done}
 use Rattle.codes.proofs.CodeLaws.{width-room}
 use Rattle.answer.proofs.MatrixLaws.{matrix-ext, map-matrix}
-use Rattle.entries.proofs.EntryLaws.{means-below}
-use Rattle.entries.proofs.SpanLaws.{all-good}
+use Rattle.entries.proofs.EntryLaws.{means-below, all-good}
 use Rattle.codes.proofs.PlinkLaws.{width-is-plink, pads-are-zero}
 use Rattle.answer.proofs.Tabulate.{length-tabulate, getD-tabulate}
 use Rattle.answer.proofs.Tests.{both-true}

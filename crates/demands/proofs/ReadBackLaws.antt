@@ -14,7 +14,7 @@ use Rattle.answer.specs.Matrix.{matrixPlace, matrix}
 use Rattle.codes.specs.Value.{Width, valueOf}
 use Rattle.answer.proofs.AnswerLaws.{new-if-done}
 use Rattle.answer.proofs.MatrixLaws.{length-matrix, getD-matrix, place-below}
-use Rattle.entries.proofs.SpanLaws.{none-bad}
+use Rattle.entries.proofs.EntryLaws.{none-bad}
 use Rattle.answer.proofs.Tabulate.{length-tabulate, getD-tabulate, getD-inside}
 use Rattle.bed_file.specs.File.{acceptAnswer}
 use Rattle.calls.specs.Calls.{callCode}

@@ -10,8 +10,7 @@ use Rattle.answer.specs.Answer.{done, isDone}
 use Rattle.entries.specs.Entry.{means}
 use Rattle.answer.specs.Matrix.{matrixPlace}
 use Rattle.codes.specs.Value.{Width, float, valueOf}
-use Rattle.entries.proofs.EntryLaws.{means-below}
-use Rattle.entries.proofs.SpanLaws.{all-good}
+use Rattle.entries.proofs.EntryLaws.{means-below, all-good}
 use Rattle.answer.proofs.MatrixLaws.{length-matrix, getD-matrix, matrix-ext, map-matrix}
 use Rattle.calls.specs.Calls.{callCode}
 use Rattle.bed_read.specs.Reading.{readAnswer, readCode, codesRead, valuesRead}

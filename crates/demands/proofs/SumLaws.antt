@@ -4,8 +4,7 @@ use mathlib.Core.List.{List}
 use Prim.Native.Nat.{ℕ, _<_}
 use lib.IntN.{ℤ, pos}
 use lib.ListN.{length, getD}
-use Rattle.entries.proofs.EntryLaws.{means-below}
-use Rattle.entries.proofs.SpanLaws.{all-good}
+use Rattle.entries.proofs.EntryLaws.{means-below, all-good}
 use Rattle.statistics.specs.Calls.{SumsAgree}
 use Rattle.statistics.proofs.Names.{as-long, each-once}
 use Rattle.demands.specs.Demand.{meant, NamesEachOnce}

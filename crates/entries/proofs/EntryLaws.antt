@@ -1,9 +1,9 @@
 -- Laws of entries, over plain numbers and lists.
 use mathlib.Core.Path.{_≡_, refl, sym, ap, subst, _∙_}
-use mathlib.Core.Bool.{Bool, true, false}
+use mathlib.Core.Bool.{Bool, true, false, cond}
 use mathlib.Core.List.{List, [], _∷_}
-use mathlib.Core.Option.{some, none}
-use Prim.Native.Nat.{ℕ, suc, _+_, _-_, _%_, _^_, _<_, _≤_}
+use mathlib.Core.Option.{Option, some, none}
+use Prim.Native.Nat.{ℕ, zero, suc, _+_, _-_, _%_, _^_, _<_, _≤_}
 use native.Mathlib.Numerals.{add-one}
 use native.Mathlib.Omega.{arith}
 use borrow.Author.Tests.{ltb-true, ltb-false, lt-ltb, le-ltb}
@@ -127,3 +127,22 @@ module _ (count : ℕ) (list : List ℤ) (i : ℕ) (h : i < length list) (f : ma
 pub bad-none : (count : ℕ) (list : List ℤ) (i : ℕ) → length list ≤ i → firstBad count (drop i list) ≡ firstBad count list → none ≡ firstBad count list
 unfolding firstBad
 bad-none count list i h sofar = sym (ap (firstBad count) (drop-of-length-le list h)) ∙ sofar
+
+-- ---- a list with no bad entry
+-- its first is good, and the others have no bad one
+pub pair-good : (b : Bool) (later : Option ℤ) (e : ℤ) → cond b later (some e) ≡ none → (b ≡ true) × (later ≡ none)
+pair-good true later e n = (refl, n)
+pair-good false later e n = absurd (let q : _≡_ {A = ℕ} 0 1 = cc in omega arith)
+
+-- so every entry is good
+pub all-good : (count : ℕ) (list : List ℤ) (i : ℕ) → firstBad count list ≡ none → i < length list → isGood count (getD list i (pos 0)) ≡ true
+unfolding firstBad
+all-good count [] i n h = absurd (omega arith)
+all-good count (e ∷ es) zero n h = pair-good (isGood count e) (firstBad count es) e n .0
+all-good count (e ∷ es) (suc i) n h = all-good count es i (pair-good (isGood count e) (firstBad count es) e n .1) (omega arith)
+
+-- and a list all of whose entries are good has no bad one
+pub none-bad : (count : ℕ) (list : List ℤ) → ((i : ℕ) → i < length list → isGood count (getD list i (pos 0)) ≡ true) → firstBad count list ≡ none
+unfolding firstBad
+none-bad count [] g = refl
+none-bad count (e ∷ es) g = rw (g 0 (omega arith)) (none-bad count es (λ i h. g (suc i) (omega arith)))

@@ -1,9 +1,9 @@
 -- Laws of the byte span, over plain numbers and lists.
 use mathlib.Core.Path.{_≡_, refl, sym, ap, _∙_}
-use mathlib.Core.Bool.{Bool, true, false, cond}
+use mathlib.Core.Bool.{true}
 use mathlib.Core.List.{List, [], _∷_, _++_, map}
-use mathlib.Core.Option.{Option, some, none}
-use Prim.Native.Nat.{ℕ, zero, suc, _+_, _-_, _/_, _^_, _<_, _≤_, min, max}
+use mathlib.Core.Option.{some, none}
+use Prim.Native.Nat.{ℕ, _+_, _-_, _/_, _^_, _<_, _≤_, min, max}
 use native.Mathlib.Numerals.{add-one}
 use native.Mathlib.Omega.{arith}
 use borrow.Author.Tests.{le-leb, lt-leb}
@@ -19,29 +19,7 @@ use Rattle.entries.specs.Entry.{isGood, means, firstBad, least, greatest
 use Rattle.entries.specs.Private.{IsSpan}
 use Rattle.entries.specs.declared.Span.{Span}
 use Rattle.entries.specs.declared.Span.the-variants as spans
-use Rattle.entries.proofs.EntryLaws.{means-below}
-
--- a list with no bad entry: its first is good, and the others have no bad one
-pub pair-good : (b : Bool) (later : Option ℤ) (e : ℤ) → cond b later (some e) ≡ none → (b ≡ true) × (later ≡ none)
-pair-good true later e n = (refl, n)
-pair-good false later e n = absurd (let q : _≡_ {A = ℕ} 0 1 = cc in omega arith)
-
--- so every entry is good
-pub all-good : (count : ℕ) (list : List ℤ) (i : ℕ) → firstBad count list ≡ none → i < length list → isGood count (getD list i (pos 0)) ≡ true
-unfolding firstBad
-all-good count [] i n h = absurd (omega arith)
-all-good count (e ∷ es) zero n h = pair-good (isGood count e) (firstBad count es) e n .0
-all-good count (e ∷ es) (suc i) n h = all-good count es i (pair-good (isGood count e) (firstBad count es) e n .1) (omega arith)
-
--- and a list all of whose entries are good has no bad one
-pub none-bad : (count : ℕ) (list : List ℤ) → ((i : ℕ) → i < length list → isGood count (getD list i (pos 0)) ≡ true) → firstBad count list ≡ none
-unfolding firstBad
-none-bad count [] g = refl
-none-bad count (e ∷ es) g = rw (g 0 (omega arith)) (none-bad count es (λ i h. g (suc i) (omega arith)))
-
--- as the machine holds the entry
-pub still-means : (count : ℕ) (list : List ℤ) (i k : ℕ) → mag (getD list i (pos 0)) < 2 ^ 63 → k ≡ means count (toZ w64 (ofZ w64 (getD list i (pos 0)))) → k ≡ means count (getD list i (pos 0))
-still-means count list i k f e = e ∙ ap (means count) (toZ-ofZ w64 (getD list i (pos 0)) (record { sfits = f }))
+use Rattle.entries.proofs.EntryLaws.{means-below, pair-good}
 
 -- ---- the span of a list with one entry more
 least-last : (n : ℕ) (ms : List ℕ) (k : ℕ) → least n (ms ++ (k ∷ [])) ≡ min (least n ms) k
