@@ -15,10 +15,12 @@ use Rattle.answer.proofs.Tests.{by-test}
 use Rattle.answer.proofs.MatrixLaws.{getD-matrix, matrix-ext}
 use Rattle.statistics.specs.declared.Stats.{Stats}
 use Rattle.statistics.specs.declared.MarkerStats.{MarkerStats}
-use Rattle.statistics.specs.declared.MarkerStats.the-variants.{Found, NoIndividuals, IllegalSnpMean}
+use Rattle.statistics.specs.declared.MarkerStats.the-variants.{Lent, Found, NoIndividuals, IllegalSnpMean}
 use Rattle.statistics.specs.Statistics.{statsPerMarker, statsAt, inPlaces, foundFor, standardised}
 use Rattle.standardise.specs.Standardised.{markerAnswer, markersAnswer, bufferChecks, keptOrNew, applied, value, found, lowestRefused, standardiseAnswer, newStats, mayChange, newValues, laterStats, laterValues, Standardises}
 use Rattle.standardise.specs.Private.{allApplied, Processes, FindsStats}
+use Rattle.statistics.proofs.CountLaws.{found-not-lent}
+use Rattle.standardise.proofs.CellLaws.{own-cells}
 
 -- ---- the checks, in order
 module _ (iids sids : ℕ) (val stats : List Float) (later : Answer) where
@@ -67,7 +69,7 @@ module _ (f : Format) (order : Bool) (iids sids : ℕ) (val : List Float) (useSt
   )
 
 -- ---- lent statistics
-none-refused : (st : ℕ → Stats) (n : ℕ) → markersAnswer (λ m. Found (st m)) n ≡ done []
+none-refused : (st : ℕ → Stats) (n : ℕ) → markersAnswer (λ m. Lent (st m)) n ≡ done []
 unfolding markersAnswer
 none-refused st zero = refl
 none-refused st (suc n) = ap (λ (a : Answer). ifDone a (done []) a) (none-refused st n)
@@ -80,9 +82,9 @@ module _ (f : Format) (order : Bool) (iids sids : ℕ) (val : List Float) (useSt
   pub lent-answer : useStats ≡ true → done [] ≡ lowestRefused f order iids sids val useStats stats
   lent-answer e = subst (λ (b : Bool). done [] ≡ lowestRefused f order iids sids val b stats) (sym e) lent
 
-  pub lent-stats : useStats ≡ true → stats ≡ newStats f order iids sids val useStats stats
-  unfolding newStats
-  lent-stats e = simp e
+  pub lent-stats : statsPerMarker * sids ≡ length stats → useStats ≡ true → stats ≡ newStats f order iids sids val useStats stats
+  unfolding newStats found foundFor keptOrNew matrixPlace
+  lent-stats l e = own-cells false statsPerMarker sids stats (sym l) ∙ ap (λ (b : Bool). newStats f order iids sids val b stats) (sym e)
 
   pub as-not-lent : useStats ≡ false → (answer : Answer) (statistics : List Float)
       → FindsStats f order iids sids val false stats answer statistics → FindsStats f order iids sids val useStats stats answer statistics
@@ -122,38 +124,41 @@ done-found found (suc n) m e h = by-test (isDone (markersAnswer found n)) (λ t.
     earlier t before =
         by-test (eqb m n) (λ q. subst (λ (x : ℕ). isDone (markerAnswer x (found x)) ≡ true) (sym (eqb-true m n q)) (last t)) (λ q. let d : m ≡ n → ⊥ = eqb-false m n q in before (omega arith))
 
-module _ (f : Format) (sids : ℕ) (found : ℕ → MarkerStats) (old : ℕ → ℕ → Float) (m : ℕ) (h : m < sids) (v : Float) where
+module _ (f : Format) (sids : ℕ) (found : ℕ → MarkerStats) (old : ℕ → ℕ → Float) (m : ℕ) (h : m < sids) (v : Float)
+    (own : (s : Stats) → found m ≡ Lent s → ⊥) where
   abbrev stored : List Float
   stored = matrix false statsPerMarker sids (λ c k. keptOrNew (found k) c (old c k))
 
-  stored-is : (s : Stats) → found m ≡ Found s → statsAt stored m ≡ s
+  stored-is : (s : Stats) (observed : Float) → found m ≡ Found s observed → statsAt stored m ≡ s
   unfolding statsAt matrixPlace keptOrNew inPlaces
-  stored-is s e =
-      let place : (c : ℕ) → c < 2 → getD stored (m * 2 + c) nan ≡ keptOrNew (Found s) c (old c m) = (
+  stored-is s observed e =
+      let place : (c : ℕ) → c < statsPerMarker → getD stored (m * statsPerMarker + c) nan ≡ keptOrNew (Found s observed) c (old c m) = (
       λ c k. getD-matrix statsPerMarker sids c m k h false (λ c k. keptOrNew (found k) c (old c k)) nan ∙ ap (λ (x : MarkerStats). keptOrNew x c (old c m)) e
       ) in
-      let a : getD stored (m * 2) nan ≡ s .mean = (ap (λ (x : ℕ). getD stored x nan) (sym (add-zero (m * 2))) ∙ place 0 (omega arith)) in
-      let b : getD stored (m * 2 + 1) nan ≡ s .deviation = place 1 (omega arith) in
-      ap (λ (x : Float). pairOf x (getD stored (m * 2 + 1) nan)) a ∙ ap (pairOf (s .mean)) b
+      let a : getD stored (m * statsPerMarker) nan ≡ s .mean = (ap (λ (x : ℕ). getD stored x nan) (sym (add-zero (m * statsPerMarker))) ∙ place 0 (omega arith)) in
+      let b : getD stored (m * statsPerMarker + 1) nan ≡ s .deviation = place 1 (omega arith) in
+      ap (λ (x : Float). pairOf x (getD stored (m * statsPerMarker + 1) nan)) a ∙ ap (pairOf (s .mean)) b
     where
       pairOf : Float → Float → Stats
       pairOf x y = record { mean = x; deviation = y }
 
   stored-applies : (x : MarkerStats) → found m ≡ x → isDone (markerAnswer m x) ≡ true → standardised f (statsAt stored m) v ≡ applied f x v
   unfolding applied markerAnswer
-  stored-applies (Found s) e t = ap (λ (y : Stats). standardised f y v) (stored-is s e)
+  stored-applies (Lent s) e t = absurd (own s e)
+  stored-applies (Found s observed) e t = ap (λ (y : Stats). standardised f y v) (stored-is s observed e)
   stored-applies NoIndividuals e t = absurd (true≢false (sym t))
   stored-applies IllegalSnpMean e t = absurd (true≢false (sym t))
 
   pub new-applies : isDone (markersAnswer found sids) ≡ true → standardised f (statsAt stored m) v ≡ applied f (found m) v
   new-applies t = stored-applies (found m) refl (done-found found sids m t h)
 
-module _ (f : Format) (iids sids : ℕ) (val : List Float) (stats : List Float) (apply : Bool) where
+module _ (f : Format) (iids sids : ℕ) (val : List Float) (stats : List Float) (l : statsPerMarker * sids ≡ length stats) (apply : Bool) where
   applies : (useStats : Bool) → isDone (lowestRefused f true iids sids val useStats stats) ≡ true → (m : ℕ) → m < sids → (v : Float)
       → standardised f (statsAt (newStats f true iids sids val useStats stats) m) v ≡ applied f (found f true iids sids val useStats stats m) v
   unfolding lowestRefused newStats found foundFor applied
-  applies true t m h v = refl
-  applies false t m h v = new-applies f sids (found f true iids sids val false stats) (λ c k. getD stats (k * statsPerMarker + c) nan) m h v t
+  applies true t m h v = ap (λ (x : List Float). standardised f (statsAt x m) v) (sym (lent-stats f true iids sids val true stats l refl))
+  applies false t m h v = new-applies f sids (found f true iids sids val false stats) (λ c k. getD stats (k * statsPerMarker + c) nan) m h v
+      (found-not-lent f iids (λ i. value true iids sids val i m)) t
 
   pub rows-values : (useStats : Bool) (answer : Answer) (values statistics : List Float) → answer ≡ lowestRefused f true iids sids val useStats stats
       → statistics ≡ newStats f true iids sids val useStats stats → values ≡ cond (apply && isDone answer) (allApplied f iids sids statistics val) val

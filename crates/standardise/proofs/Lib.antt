@@ -8,4 +8,5 @@ pub mod ApplyLaws
 pub mod CallLaws
 pub mod Theorems
 pub mod Refused
+pub mod Observed
 pub mod Examples

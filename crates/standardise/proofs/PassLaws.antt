@@ -14,7 +14,7 @@ use Rattle.statistics.specs.declared.Stats.{Stats}
 use Rattle.statistics.specs.declared.MarkerStats.{MarkerStats}
 use Rattle.statistics.specs.Statistics.{statsPerMarker, statsAt, foundFor}
 use Rattle.standardise.specs.Standardised.{markerAnswer, markersAnswer, keptOrNew, applied, value, found, lowestRefused, newStats, mayChange, newValues}
-use Rattle.standardise.specs.Private.{laterStat, laterValue, written, from, changed, storedStats, StatsIn}
+use Rattle.standardise.specs.Private.{laterValue, written, from, changed, storedStats, StatsIn}
 use Rattle.answer.proofs.MatrixLaws.{length-matrix}
 use Rattle.standardise.proofs.CellLaws.{own-cells, upTo, column-more, column-old, none-new, all-new}
 use Rattle.statistics.proofs.CountLaws.{foundFor-ext}
@@ -44,50 +44,50 @@ pairOf x y = record { mean = x; deviation = y }
 abbrev pub oldStat : List Float → ℕ → ℕ → Float
 oldStat stats c m = getD stats (m * statsPerMarker + c) nan
 
-abbrev pub newStat : Bool → (ℕ → MarkerStats) → List Float → ℕ → ℕ → Float
-newStat useStats found stats c m = laterStat useStats (found m) c (oldStat stats c m)
+abbrev pub newStat : (ℕ → MarkerStats) → List Float → ℕ → ℕ → Float
+newStat found stats c m = keptOrNew (found m) c (oldStat stats c m)
 
-module _ (sids : ℕ) (useStats : Bool) (found : ℕ → MarkerStats) (stats : List Float) where
+module _ (sids : ℕ) (found : ℕ → MarkerStats) (stats : List Float) where
   -- the markers below m are passed
   pub record StatsPassed (m : ℕ) (answer : Answer) (now : List Float) : Type 0 where
     pub within : m ≤ sids
     pub answered : answer ≡ markersAnswer found m
-    pub stored : now ≡ matrix false statsPerMarker sids (upTo m (newStat useStats found stats) (oldStat stats))
+    pub stored : now ≡ matrix false statsPerMarker sids (upTo m (newStat found stats) (oldStat stats))
 
   module _ {m : ℕ} {answer : Answer} {now : List Float} (p : StatsPassed m answer now) where
     pub stats-length : length now ≡ statsPerMarker * sids
     stats-length = ap length (p .stored) ∙ length-matrix false statsPerMarker sids _
 
     pub marker-inside : m < sids → StatsIn now m
-    marker-inside h = let l : length now ≡ 2 * sids = stats-length in omega arith
+    marker-inside h = let l : length now ≡ 3 * sids = stats-length in omega arith
 
     module _ (h : m < sids) where
       stat-old : (c : ℕ) → c < statsPerMarker → oldStat now c m ≡ oldStat stats c m
       stat-old c k =
           ap (λ (x : List Float). getD x (m * statsPerMarker + c) nan) (p .stored)
-          ∙ column-old statsPerMarker sids (newStat useStats found stats) (oldStat stats) m c h k
+          ∙ column-old statsPerMarker sids (newStat found stats) (oldStat stats) m c h k
 
       pub statsAt-old : statsAt now m ≡ statsAt stats m
       unfolding statsAt
       statsAt-old =
-          let z : getD now (m * 2) nan ≡ getD stats (m * 2) nan = (
-          ap (λ (x : ℕ). getD now x nan) (sym (add-zero (m * 2)))
+          let z : getD now (m * statsPerMarker) nan ≡ getD stats (m * statsPerMarker) nan = (
+          ap (λ (x : ℕ). getD now x nan) (sym (add-zero (m * statsPerMarker)))
           ∙ stat-old 0 (omega arith)
-          ∙ ap (λ (x : ℕ). getD stats x nan) (add-zero (m * 2))
+          ∙ ap (λ (x : ℕ). getD stats x nan) (add-zero (m * statsPerMarker))
           ) in
-          ap (λ (x : Float). pairOf x (getD now (m * 2 + 1) nan)) z ∙ ap (pairOf (getD stats (m * 2) nan)) (stat-old 1 (omega arith))
+          ap (λ (x : Float). pairOf x (getD now (m * statsPerMarker + 1) nan)) z ∙ ap (pairOf (getD stats (m * statsPerMarker) nan)) (stat-old 1 (omega arith))
 
       pub stats-passed-more : (answer′ : Answer) (later : List Float) (r : MarkerStats) → r ≡ found m → answer′ ≡ ifDone answer (markerAnswer m r) answer
-          → later ≡ storedStats useStats r m now
+          → later ≡ storedStats r m now
           → StatsPassed (m + 1) answer′ later
       stats-passed-more answer′ later r g a w = record {
         within = omega arith;
         answered = answer-more found m answer answer′ r (p .answered) g a;
         stored =
             w
-            ∙ ap (λ (x : List Float). written x (λ c. m * statsPerMarker + c) (λ c. laterStat useStats r c (oldStat now c m)) statsPerMarker) (p .stored)
-            ∙ column-more statsPerMarker sids (newStat useStats found stats) (oldStat stats) m h (λ c. laterStat useStats r c (oldStat now c m))
-            (λ c k. ap (λ (x : MarkerStats). laterStat useStats x c (oldStat now c m)) g ∙ ap (laterStat useStats (found m) c) (stat-old c k));
+            ∙ ap (λ (x : List Float). written x (λ c. m * statsPerMarker + c) (λ c. keptOrNew r c (oldStat now c m)) statsPerMarker) (p .stored)
+            ∙ column-more statsPerMarker sids (newStat found stats) (oldStat stats) m h (λ c. keptOrNew r c (oldStat now c m))
+            (λ c k. ap (λ (x : MarkerStats). keptOrNew x c (oldStat now c m)) g ∙ ap (keptOrNew (found m) c) (stat-old c k));
       }
 
   module _ (l : statsPerMarker * sids ≡ length stats) where
@@ -100,18 +100,13 @@ module _ (sids : ℕ) (useStats : Bool) (found : ℕ → MarkerStats) (stats : L
     stats-passed-none = record {
       within = omega arith;
       answered = refl;
-      stored = stats-own ∙ none-new false statsPerMarker sids (newStat useStats found stats) (oldStat stats);
+      stored = stats-own ∙ none-new false statsPerMarker sids (newStat found stats) (oldStat stats);
     }
 
     pub stats-passed-all : {m : ℕ} {answer : Answer} {now : List Float} → StatsPassed m answer now → sids ≤ m
-        → (answer ≡ markersAnswer found sids) × (now ≡ cond useStats stats (matrix false statsPerMarker sids (λ c k. keptOrNew (found k) c (oldStat stats c k))))
-    unfolding laterStat
+        → (answer ≡ markersAnswer found sids) × (now ≡ matrix false statsPerMarker sids (newStat found stats))
     stats-passed-all {m} {answer} {now} p h =
-        (answer-all found m sids answer (p .answered) (p .within) h, p .stored ∙ all-new false statsPerMarker sids (newStat useStats found stats) (oldStat stats) m h ∙ choice useStats)
-      where
-        choice : (b : Bool) → matrix false statsPerMarker sids (newStat b found stats) ≡ cond b stats (matrix false statsPerMarker sids (λ c k. keptOrNew (found k) c (oldStat stats c k)))
-        choice true = sym stats-own
-        choice false = refl
+        (answer-all found m sids answer (p .answered) (p .within) h, p .stored ∙ all-new false statsPerMarker sids (newStat found stats) (oldStat stats) m h)
 
 -- ---- the values, in marker order
 module _ (f : Format) (iids sids : ℕ) (apply : Bool) (found : ℕ → MarkerStats) (val : List Float) where
@@ -157,7 +152,7 @@ module _ (f : Format) (iids sids : ℕ) (val : List Float) (useStats : Bool) (st
   here = found f false iids sids val useStats stats
 
   pub record Passed (m : ℕ) (answer : Answer) (values statistics : List Float) : Type 0 where
-    pub counted : StatsPassed sids useStats here stats m answer statistics
+    pub counted : StatsPassed sids here stats m answer statistics
     pub valued : ValuesPassed f iids sids apply here val m values
 
   module _ {m : ℕ} {answer : Answer} {values statistics : List Float} (p : Passed m answer values statistics) where
@@ -174,14 +169,14 @@ module _ (f : Format) (iids sids : ℕ) (val : List Float) (useStats : Bool) (st
 
   module _ (l : iids * sids ≡ length val) (k : statsPerMarker * sids ≡ length stats) where
     pub passed-none : Passed 0 (done []) val stats
-    passed-none = record { counted = stats-passed-none sids useStats here stats k; valued = values-none f iids sids apply here val l }
+    passed-none = record { counted = stats-passed-none sids here stats k; valued = values-none f iids sids apply here val l }
 
     pub passed-all : {m : ℕ} {answer : Answer} {values statistics : List Float} → Passed m answer values statistics → sids ≤ m
         → (answer ≡ lowestRefused f false iids sids val useStats stats) × (values ≡ newValues f false iids sids val useStats stats apply)
         × (statistics ≡ newStats f false iids sids val useStats stats)
     unfolding lowestRefused newValues newStats mayChange value matrixPlace
     passed-all {m} {answer} {values} {statistics} p h =
-        let q = stats-passed-all sids useStats here stats k (p .counted) h in
+        let q = stats-passed-all sids here stats k (p .counted) h in
         (q .0, values-all f iids sids apply here val l m values (p .valued) h, q .1)
 
   module _ {m : ℕ} (h : m < sids) {answer : Answer} {values statistics : List Float} (p : Passed m answer values statistics) (r : MarkerStats)
@@ -190,14 +185,14 @@ module _ (f : Format) (iids sids : ℕ) (val : List Float) (useStats : Bool) (st
     unfolding found value matrixPlace
     is-found =
         e
-        ∙ ap (λ (s : Stats). foundFor f useStats s iids (from values (m * iids))) (statsAt-old sids useStats here stats (p .counted) h)
+        ∙ ap (λ (s : Stats). foundFor f useStats s iids (from values (m * iids))) (statsAt-old sids here stats (p .counted) h)
         ∙ foundFor-ext f (from values (m * iids)) (λ i. getD val (m * iids + i) nan) useStats (statsAt stats m) iids (λ i b. value-old f iids sids apply here val m h values (p .valued) i b)
 
     pub passed-more : (answer′ : Answer) (values′ statistics′ : List Float) → answer′ ≡ ifDone answer (markerAnswer m r) answer
         → values′ ≡ changed values (m * iids) iids (laterValue f apply r)
-        → statistics′ ≡ storedStats useStats r m statistics
+        → statistics′ ≡ storedStats r m statistics
         → Passed (m + 1) answer′ values′ statistics′
     passed-more answer′ values′ statistics′ a v s = record {
-      counted = stats-passed-more sids useStats here stats (p .counted) h answer′ statistics′ r is-found a s;
+      counted = stats-passed-more sids here stats (p .counted) h answer′ statistics′ r is-found a s;
       valued = values-more f iids sids apply here val m h values (p .valued) values′ r is-found v;
     }

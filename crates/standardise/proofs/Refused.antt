@@ -16,36 +16,40 @@ use Rattle.answer.proofs.MatrixLaws.{getD-matrix}
 use Rattle.answer.proofs.Tests.{by-test}
 use Rattle.statistics.specs.declared.Stats.{Stats}
 use Rattle.statistics.specs.declared.MarkerStats.{MarkerStats}
-use Rattle.statistics.specs.declared.MarkerStats.the-variants.{Found, NoIndividuals, IllegalSnpMean}
+use Rattle.statistics.specs.declared.MarkerStats.the-variants.{Lent, Found, NoIndividuals, IllegalSnpMean}
 use Rattle.statistics.specs.Statistics.{accumulated, mean, statsOf, noValue, markerStats, foundFor, statsPerMarker, statsAt}
 use Rattle.standardise.specs.Standardised.{markerAnswer, markersAnswer, bufferChecks, keptOrNew, applied, value, found, lowestRefused, newStats, laterStats, laterValues}
-use Rattle.standardise.specs.Refused.{IsRefused, IsFound, IsLowestRefused}
+use Rattle.standardise.specs.Refused.{IsRefused, NotRefused, IsLowestRefused}
 use Rattle.standardise.specs.Private.{laterValue}
 use Rattle.standardise.proofs.Theorems.{later-value, changes, either-same}
 
 -- ---- 1. the answer of the first n markers
--- a marker's answer is done exactly if the marker is found
-found-done : (m : ℕ) (x : MarkerStats) → isDone (markerAnswer m x) ≡ true → IsFound x
+-- a marker's answer is done exactly if the marker is not refused
+not-refused : (m : ℕ) (x : MarkerStats) → isDone (markerAnswer m x) ≡ true → NotRefused x
 unfolding markerAnswer
-found-done m (Found s) e = (s, refl)
-found-done m NoIndividuals e = absurd (true≢false (sym e))
-found-done m IllegalSnpMean e = absurd (true≢false (sym e))
+not-refused m (Lent s) e = inl (s, refl)
+not-refused m (Found s observed) e = inr (s, observed, refl)
+not-refused m NoIndividuals e = absurd (true≢false (sym e))
+not-refused m IllegalSnpMean e = absurd (true≢false (sym e))
 
-done-found : (m : ℕ) (x : MarkerStats) → IsFound x → markerAnswer m x ≡ done []
+answer-done : (m : ℕ) (x : MarkerStats) → NotRefused x → markerAnswer m x ≡ done []
 unfolding markerAnswer
-done-found m x (s, e) = ap (markerAnswer m) e
+answer-done m x (inl (s, e)) = ap (markerAnswer m) e
+answer-done m x (inr (s, observed, e)) = ap (markerAnswer m) e
 
 -- a refused marker's answer carries its place
 carries : (m : ℕ) (x : MarkerStats) (k : ℕ) (vs : List ℤ) → markerAnswer m x ≡ refused k vs → vs ≡ pos m ∷ []
 unfolding markerAnswer
-carries m (Found s) k vs e = absurd (let q : _≡_ {A = ℕ} 0 1 = cc in omega arith)
+carries m (Lent s) k vs e = absurd (let q : _≡_ {A = ℕ} 0 1 = cc in omega arith)
+carries m (Found s observed) k vs e = absurd (let q : _≡_ {A = ℕ} 0 1 = cc in omega arith)
 carries m NoIndividuals k vs e = cc
 carries m IllegalSnpMean k vs e = cc
 
 -- 13 for "no non-NaN value", 14 for "a NaN mean", and no other number
 pub number-told : (m : ℕ) (x : MarkerStats) (k : ℕ) (vs : List ℤ) → markerAnswer m x ≡ refused k vs → ((k ≡ 13) × (x ≡ NoIndividuals)) ⊎ ((k ≡ 14) × (x ≡ IllegalSnpMean))
 unfolding markerAnswer
-number-told m (Found s) k vs e = absurd (let q : _≡_ {A = ℕ} 0 1 = cc in omega arith)
+number-told m (Lent s) k vs e = absurd (let q : _≡_ {A = ℕ} 0 1 = cc in omega arith)
+number-told m (Found s observed) k vs e = absurd (let q : _≡_ {A = ℕ} 0 1 = cc in omega arith)
 number-told m NoIndividuals k vs e = inl (cc, refl)
 number-told m IllegalSnpMean k vs e = inr (cc, refl)
 
@@ -56,20 +60,20 @@ both-done (done vs) b e = (refl, e)
 both-done (refused k vs) b e = absurd (true≢false (sym e))
 
 module _ (g : ℕ → MarkerStats) where
-  all-found : (n : ℕ) → isDone (markersAnswer g n) ≡ true → (j : ℕ) → j < n → IsFound (g j)
+  each-not-refused : (n : ℕ) → isDone (markersAnswer g n) ≡ true → (j : ℕ) → j < n → NotRefused (g j)
   unfolding markersAnswer
-  all-found zero e j h = absurd (omega arith)
-  all-found (suc n) e j h =
+  each-not-refused zero e j h = absurd (omega arith)
+  each-not-refused (suc n) e j h =
       let d = both-done (markersAnswer g n) (markerAnswer n (g n)) e in
-      by-test (eqb j n) (λ t. subst (λ (i : ℕ). IsFound (g i)) (sym (eqb-true j n t)) (found-done n (g n) (d .1)))
-      (λ t. let q : j ≡ n → ⊥ = eqb-false j n t in all-found n (d .0) j (omega arith))
+      by-test (eqb j n) (λ t. subst (λ (i : ℕ). NotRefused (g i)) (sym (eqb-true j n t)) (not-refused n (g n) (d .1)))
+      (λ t. let q : j ≡ n → ⊥ = eqb-false j n t in each-not-refused n (d .0) j (omega arith))
 
-  -- nothing is refused exactly if every marker is found
-  none-refused : (n : ℕ) → ((j : ℕ) → j < n → IsFound (g j)) → markersAnswer g n ≡ done []
+  -- nothing is refused exactly if no marker is
+  none-refused : (n : ℕ) → ((j : ℕ) → j < n → NotRefused (g j)) → markersAnswer g n ≡ done []
   unfolding markersAnswer ifDone
   none-refused zero h = refl
   none-refused (suc n) h =
-      ap (λ (a : Answer). ifDone a (markerAnswer n (g n)) a) (none-refused n (λ j l. h j (omega arith))) ∙ done-found n (g n) (h n (omega arith))
+      ap (λ (a : Answer). ifDone a (markerAnswer n (g n)) a) (none-refused n (λ j l. h j (omega arith))) ∙ answer-done n (g n) (h n (omega arith))
 
   -- the answer is the lowest refused marker's, with its place
   lowest : (n k : ℕ) (vs : List ℤ) → markersAnswer g n ≡ refused k vs → (m : ℕ) × (vs ≡ pos m ∷ []) × IsLowestRefused g n k m
@@ -81,10 +85,10 @@ module _ (g : ℕ → MarkerStats) where
           → ifDone a (markerAnswer n (g n)) a ≡ refused k vs → (m : ℕ) × (vs ≡ pos m ∷ []) × IsLowestRefused g (suc n) k m
       go (done us) a earlier e =
           let c = carries n (g n) k vs e in
-          (n, c, record { in-matrix = omega arith; is-refused = e ∙ ap (refused k) c; lower-found = all-found n (ap isDone a) })
+          (n, c, record { in-matrix = omega arith; is-refused = e ∙ ap (refused k) c; lower-not-refused = each-not-refused n (ap isDone a) })
       go (refused j us) a earlier e =
           let (m, c, l) = earlier (a ∙ e) in
-          (m, c, record { in-matrix = let h = l .in-matrix in omega arith; is-refused = l .is-refused; lower-found = l .lower-found })
+          (m, c, record { in-matrix = let h = l .in-matrix in omega arith; is-refused = l .is-refused; lower-not-refused = l .lower-not-refused })
 
   -- and the lowest refused marker's is the answer
   lowest-only : (n k m : ℕ) → IsLowestRefused g n k m → markersAnswer g n ≡ refused k (pos m ∷ [])
@@ -93,12 +97,12 @@ module _ (g : ℕ → MarkerStats) where
   lowest-only (suc n) k m l =
       by-test (eqb m n)
       (λ t. let q : n ≡ m = sym (eqb-true m n t) in
-      ap (λ (a : Answer). ifDone a (markerAnswer n (g n)) a) (none-refused n (λ j h. l .lower-found j (omega arith)))
+      ap (λ (a : Answer). ifDone a (markerAnswer n (g n)) a) (none-refused n (λ j h. l .lower-not-refused j (omega arith)))
       ∙ subst (λ (i : ℕ). markerAnswer i (g i) ≡ refused k (pos m ∷ [])) (sym q) (l .is-refused))
       (λ t. let q : m ≡ n → ⊥ = eqb-false m n t in
       let h = l .in-matrix in
       ap (λ (a : Answer). ifDone a (markerAnswer n (g n)) a)
-      (lowest-only n k m (record { in-matrix = omega arith; is-refused = l .is-refused; lower-found = l .lower-found })))
+      (lowest-only n k m (record { in-matrix = omega arith; is-refused = l .is-refused; lower-not-refused = l .lower-not-refused })))
 
 -- ---- of a call
 module _ (f : Format) (order : Bool) (iids sids : ℕ) (val : List Float) (useStats : Bool) (stats : List Float) where
@@ -114,13 +118,13 @@ module _ (f : Format) (order : Bool) (iids sids : ℕ) (val : List Float) (useSt
   is-lowest-refused k m l = lowest-only (found f order iids sids val useStats stats) sids k m l
 
   -- and it is done exactly if no marker is refused
-  pub none-is-refused : ((m : ℕ) → m < sids → IsFound (found f order iids sids val useStats stats m)) → lowestRefused f order iids sids val useStats stats ≡ done []
+  pub none-is-refused : ((m : ℕ) → m < sids → NotRefused (found f order iids sids val useStats stats m)) → lowestRefused f order iids sids val useStats stats ≡ done []
   unfolding lowestRefused
   none-is-refused h = none-refused (found f order iids sids val useStats stats) sids h
 
-  pub done-all-found : isDone (lowestRefused f order iids sids val useStats stats) ≡ true → (m : ℕ) → m < sids → IsFound (found f order iids sids val useStats stats m)
+  pub done-none-refused : isDone (lowestRefused f order iids sids val useStats stats) ≡ true → (m : ℕ) → m < sids → NotRefused (found f order iids sids val useStats stats m)
   unfolding lowestRefused
-  done-all-found e = all-found (found f order iids sids val useStats stats) sids e
+  done-none-refused e = each-not-refused (found f order iids sids val useStats stats) sids e
 
 -- ---- which markers are refused. 13: "has no non-NaN value"; 14: "has a NaN mean"
 all-nan : (column : ℕ → Float) (n : ℕ) → noValue column n ≡ true → (i : ℕ) → i < n → isNan (column i) ≡ true
@@ -151,15 +155,15 @@ some-value column (suc n) e = go (noValue column n) refl e (some-value column n)
     go false p e earlier = let (i, h, q) = earlier p in (i, omega arith, q)
 
 -- what is found, by the two tests
-told-13 : (p q : Bool) (s : Stats) → cond p NoIndividuals (cond q IllegalSnpMean (Found s)) ≡ NoIndividuals → p ≡ true
-told-13 true q s e = refl
-told-13 false true s e = absurd (let z : _≡_ {A = ℕ} 0 1 = cc in omega arith)
-told-13 false false s e = absurd (let z : _≡_ {A = ℕ} 0 1 = cc in omega arith)
+told-13 : (p q : Bool) (s : Stats) (observed : Float) → cond p NoIndividuals (cond q IllegalSnpMean (Found s observed)) ≡ NoIndividuals → p ≡ true
+told-13 true q s observed e = refl
+told-13 false true s observed e = absurd (let z : _≡_ {A = ℕ} 0 1 = cc in omega arith)
+told-13 false false s observed e = absurd (let z : _≡_ {A = ℕ} 0 1 = cc in omega arith)
 
-told-14 : (p q : Bool) (s : Stats) → cond p NoIndividuals (cond q IllegalSnpMean (Found s)) ≡ IllegalSnpMean → (p ≡ false) × (q ≡ true)
-told-14 true q s e = absurd (let z : _≡_ {A = ℕ} 0 1 = cc in omega arith)
-told-14 false true s e = (refl, refl)
-told-14 false false s e = absurd (let z : _≡_ {A = ℕ} 0 1 = cc in omega arith)
+told-14 : (p q : Bool) (s : Stats) (observed : Float) → cond p NoIndividuals (cond q IllegalSnpMean (Found s observed)) ≡ IllegalSnpMean → (p ≡ false) × (q ≡ true)
+told-14 true q s observed e = absurd (let z : _≡_ {A = ℕ} 0 1 = cc in omega arith)
+told-14 false true s observed e = (refl, refl)
+told-14 false false s observed e = absurd (let z : _≡_ {A = ℕ} 0 1 = cc in omega arith)
 
 -- of marker m, if no statistics are lent
 module _ (f : Format) (order : Bool) (iids sids : ℕ) (val stats : List Float) (m : ℕ) where
@@ -170,8 +174,8 @@ module _ (f : Format) (order : Bool) (iids sids : ℕ) (val stats : List Float) 
       × (((i : ℕ) → i < iids → isNan (value order iids sids val i m) ≡ true) → found f order iids sids val false stats m ≡ NoIndividuals)
   unfolding found foundFor markerStats
   is-13 = (
-    λ e. all-nan column iids (told-13 (noValue column iids) (isNan (mean f (accumulated f column iids))) (statsOf f (accumulated f column iids)) e),
-    λ h. ap (λ (b : Bool). cond b NoIndividuals (cond (isNan (mean f (accumulated f column iids))) IllegalSnpMean (Found (statsOf f (accumulated f column iids))))) (no-value column iids h),
+    λ e. all-nan column iids (told-13 (noValue column iids) (isNan (mean f (accumulated f column iids))) (statsOf f (accumulated f column iids)) (accumulated f column iids .count) e),
+    λ h. ap (λ (b : Bool). cond b NoIndividuals (cond (isNan (mean f (accumulated f column iids))) IllegalSnpMean (Found (statsOf f (accumulated f column iids)) (accumulated f column iids .count)))) (no-value column iids h),
   )
 
   pub is-14 : (found f order iids sids val false stats m ≡ IllegalSnpMean
@@ -180,16 +184,16 @@ module _ (f : Format) (order : Bool) (iids sids : ℕ) (val stats : List Float) 
       → found f order iids sids val false stats m ≡ IllegalSnpMean)
   unfolding found foundFor markerStats
   is-14 = (
-    λ e. let t = told-14 (noValue column iids) (isNan (mean f (accumulated f column iids))) (statsOf f (accumulated f column iids)) e in (some-value column iids (t .0), t .1),
+    λ e. let t = told-14 (noValue column iids) (isNan (mean f (accumulated f column iids))) (statsOf f (accumulated f column iids)) (accumulated f column iids .count) e in (some-value column iids (t .0), t .1),
     λ i h v n.
         by-test (noValue column iids) (λ t. absurd (true≢false (sym (all-nan column iids t i h) ∙ v)))
-        (λ t. λ j. cond (t j) NoIndividuals (cond (n j) IllegalSnpMean (Found (statsOf f (accumulated f column iids))))),
+        (λ t. λ j. cond (t j) NoIndividuals (cond (n j) IllegalSnpMean (Found (statsOf f (accumulated f column iids)) (accumulated f column iids .count)))),
   )
 
 -- "With lent statistics nothing is recomputed or refused for 13, 14."
 pub lent-not-refused : (f : Format) (order : Bool) (iids sids : ℕ) (val stats : List Float) → lowestRefused f order iids sids val true stats ≡ done []
 unfolding found foundFor
-lent-not-refused f order iids sids val stats = none-is-refused f order iids sids val true stats (λ m h. (statsAt stats m, refl))
+lent-not-refused f order iids sids val stats = none-is-refused f order iids sids val true stats (λ m h. inl (statsAt stats m, refl))
 
 -- ---- 2. "At 13 or 14 refused markers keep old statistics"; "still applies to every marker not refused"
 kept-value : (f : Format) (b : Bool) (x : MarkerStats) (v : Float) → IsRefused x → laterValue f b x v ≡ v
@@ -211,7 +215,7 @@ module _ (f : Format) (order : Bool) (iids sids : ℕ) (val : List Float) (useSt
       later-value f order iids sids val useStats stats apply i m hi hm
       ∙ kept-value f (changes f order iids sids val useStats stats apply) (found f order iids sids val useStats stats m) (value order iids sids val i m) r
 
-  -- both its places, 2m and 2m + 1
+  -- all three of its places
   pub refused-keeps-stats : (c : ℕ) → c < statsPerMarker → getD (laterStats f order iids sids val useStats stats) (m * statsPerMarker + c) nan ≡ getD stats (m * statsPerMarker + c) nan
   unfolding laterStats newStats ifDone matrixPlace
   refused-keeps-stats c hc = checked (isDone (bufferChecks iids sids val stats (done [])))
@@ -219,10 +223,6 @@ module _ (f : Format) (order : Bool) (iids sids : ℕ) (val : List Float) (useSt
       new : ℕ → ℕ → Float
       new c m = keptOrNew (found f order iids sids val useStats stats m) c (getD stats (m * statsPerMarker + c) nan)
 
-      chosen : (u : Bool) → getD (cond u stats (matrix false statsPerMarker sids new)) (m * statsPerMarker + c) nan ≡ getD stats (m * statsPerMarker + c) nan
-      chosen true = refl
-      chosen false = getD-matrix statsPerMarker sids c m hc hm false new nan ∙ kept-stat (found f order iids sids val useStats stats m) c (getD stats (m * statsPerMarker + c) nan) r
-
-      checked : (b : Bool) → getD (cond b (cond useStats stats (matrix false statsPerMarker sids new)) stats) (m * statsPerMarker + c) nan ≡ getD stats (m * statsPerMarker + c) nan
-      checked true = chosen useStats
+      checked : (b : Bool) → getD (cond b (matrix false statsPerMarker sids new) stats) (m * statsPerMarker + c) nan ≡ getD stats (m * statsPerMarker + c) nan
+      checked true = getD-matrix statsPerMarker sids c m hc hm false new nan ∙ kept-stat (found f order iids sids val useStats stats m) c (getD stats (m * statsPerMarker + c) nan) r
       checked false = refl

@@ -18,7 +18,7 @@ use Rattle.answer.proofs.AnswerLaws.{check-done, count-done, old-if-not}
 use Rattle.answer.proofs.MatrixLaws.{length-matrix, getD-matrix, matrix-ext}
 use Rattle.answer.proofs.Tests.{by-test}
 use Rattle.statistics.specs.declared.MarkerStats.{MarkerStats}
-use Rattle.statistics.specs.declared.MarkerStats.the-variants.{Found, NoIndividuals, IllegalSnpMean}
+use Rattle.statistics.specs.declared.MarkerStats.the-variants.{Lent, Found, NoIndividuals, IllegalSnpMean}
 use Rattle.statistics.specs.Statistics.{statsPerMarker, statsAt, foundFor, markerStats}
 use Rattle.statistics.specs.Calls.{IsCall, isZero, isOne, isTwo, isMissing, FewEnough, SumsAgree}
 use Rattle.statistics.proofs.CountLaws.{foundFor-ext}
@@ -48,10 +48,9 @@ module _ (f : Format) (iids sids : ℕ) (order order′ : Bool) (val val′ : Li
   new-stats-same : newStats f order iids sids val useStats stats ≡ newStats f order′ iids sids val′ useStats stats
   unfolding newStats
   new-stats-same =
-      ap (cond useStats stats)
-      (matrix-ext false statsPerMarker sids (λ c m. keptOrNew (found f order iids sids val useStats stats m) c (getD stats (m * statsPerMarker + c) nan))
+      matrix-ext false statsPerMarker sids (λ c m. keptOrNew (found f order iids sids val useStats stats m) c (getD stats (m * statsPerMarker + c) nan))
       (λ c m. keptOrNew (found f order′ iids sids val′ useStats stats m) c (getD stats (m * statsPerMarker + c) nan))
-      (λ c m a b. ap (λ (x : MarkerStats). keptOrNew x c (getD stats (m * statsPerMarker + c) nan)) (same m b)))
+      (λ c m a b. ap (λ (x : MarkerStats). keptOrNew x c (getD stats (m * statsPerMarker + c) nan)) (same m b))
 
   module _ (l : length val ≡ length val′) where
     answer-same : standardiseAnswer f order iids sids val useStats stats ≡ standardiseAnswer f order′ iids sids val′ useStats stats
@@ -182,7 +181,8 @@ only-marker g (suc (suc n)) m o h = absurd (omega arith)
 -- a marker that is refused keeps its value, whether or not values may change
 only-cell : (f : Format) (m : ℕ) (b apply : Bool) (x : MarkerStats) (v : Float) → laterValue f (b && (apply && isDone (markerAnswer m x))) x v ≡ laterValue f (b && (apply && true)) x v
 unfolding laterValue applied markerAnswer
-only-cell f m b apply (Found s) v = refl
+only-cell f m b apply (Lent s) v = refl
+only-cell f m b apply (Found s observed) v = refl
 only-cell f m b apply NoIndividuals v = either-same (b && (apply && false)) v ∙ sym (either-same (b && (apply && true)) v)
 only-cell f m b apply IllegalSnpMean v = either-same (b && (apply && false)) v ∙ sym (either-same (b && (apply && true)) v)
 

@@ -159,30 +159,30 @@ tile-found f iids sids val stats m a r e g = e ∙ ap (statsFrom f) g ∙ stats-
 module _ (f : Format) (iids sids : ℕ) (val : List Float) (base : ℕ) (answer₀ : Answer) (stats₀ : List Float) where
   pub record PassedFrom (j : ℕ) (answer : Answer) (stats : List Float) : Type 0 where
     pub long : length stats ≡ length stats₀
-    pub passed : (first : List Float) → StatsPassed sids false (found f true iids sids val false first) first base answer₀ stats₀
-        → StatsPassed sids false (found f true iids sids val false first) first (base + j) answer stats
+    pub passed : (first : List Float) → StatsPassed sids (found f true iids sids val false first) first base answer₀ stats₀
+        → StatsPassed sids (found f true iids sids val false first) first (base + j) answer stats
 
   pub passed-from-none : PassedFrom 0 answer₀ stats₀
   passed-from-none = record {
     long = refl;
-    passed = λ first p. subst (λ (x : ℕ). StatsPassed sids false (found f true iids sids val false first) first x answer₀ stats₀) (sym (add-zero base)) p;
+    passed = λ first p. subst (λ (x : ℕ). StatsPassed sids (found f true iids sids val false first) first x answer₀ stats₀) (sym (add-zero base)) p;
   }
 
   pub passed-tile : (j width : ℕ) (answer : Answer) (stats : List Float) → PassedFrom j answer stats → j ≤ width → width ≤ j
-      → (first : List Float) → StatsPassed sids false (found f true iids sids val false first) first base answer₀ stats₀
-      → StatsPassed sids false (found f true iids sids val false first) first (base + width) answer stats
+      → (first : List Float) → StatsPassed sids (found f true iids sids val false first) first base answer₀ stats₀
+      → StatsPassed sids (found f true iids sids val false first) first (base + width) answer stats
   passed-tile j width answer stats p h k first q =
-      let z : j ≡ width = omega arith in subst (λ (x : ℕ). StatsPassed sids false (found f true iids sids val false first) first (base + x) answer stats) z (p .passed first q)
+      let z : j ≡ width = omega arith in subst (λ (x : ℕ). StatsPassed sids (found f true iids sids val false first) first (base + x) answer stats) z (p .passed first q)
 
   pub passed-from-more : (j : ℕ) (answer : Answer) (stats : List Float) → PassedFrom j answer stats → base + j < sids → (a : Accumulator) (r : MarkerStats) → r ≡ statsFrom f a
       → a ≡ accumulated f (λ i. value true iids sids val i (base + j)) iids → (answer′ : Answer) (stats′ : List Float) → answer′ ≡ ifDone answer (markerAnswer (base + j) r) answer
       → length stats′ ≡ length stats
-      → stats′ ≡ storedStats false r (base + j) stats
+      → stats′ ≡ storedStats r (base + j) stats
       → PassedFrom (j + 1) answer′ stats′
   passed-from-more j answer stats p h a r e g answer′ stats′ u l w = record {
     long = l ∙ p .long;
-    passed = λ first q. subst (λ (x : ℕ). StatsPassed sids false (found f true iids sids val false first) first x answer′ stats′) (add-assoc base j 1)
-        (stats-passed-more sids false (found f true iids sids val false first) first (p .passed first q) h answer′ stats′ r (tile-found f iids sids val first (base + j) a r e g) u w);
+    passed = λ first q. subst (λ (x : ℕ). StatsPassed sids (found f true iids sids val false first) first x answer′ stats′) (add-assoc base j 1)
+        (stats-passed-more sids (found f true iids sids val false first) first (p .passed first q) h answer′ stats′ r (tile-found f iids sids val first (base + j) a r e g) u w);
   }
 
 -- accumulators of zeros

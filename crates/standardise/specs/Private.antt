@@ -31,11 +31,7 @@ abbrev pub FindsStats : Format → Bool → ℕ → ℕ → List Float → Bool 
 FindsStats f order iids sids val useStats stats said statsAfter =
     (said ≡ lowestRefused f order iids sids val useStats stats) × (statsAfter ≡ newStats f order iids sids val useStats stats)
 
--- the later number of a marker's statistics, and the later value of one of its values, by the two choices
-unfoldable pub laterStat : Bool → MarkerStats → ℕ → Float → Float
-unfolding keptOrNew
-laterStat useStats found c old = cond useStats old (keptOrNew found c old)
-
+-- the later value of one of a marker's values, by the choice to apply
 unfoldable pub laterValue : Format → Bool → MarkerStats → Float → Float
 unfolding applied
 laterValue f apply found v = cond apply (applied f found v) v
@@ -57,10 +53,10 @@ changed xs start n change = written xs (λ i. start + i) (λ i. change (from xs 
 abbrev pub StatsIn : List Float → ℕ → Type 0
 StatsIn stats m = m * statsPerMarker + statsPerMarker ≤ length stats
 
--- the buffer after what is found for marker m
-abbrev pub storedStats : Bool → MarkerStats → ℕ → List Float → List Float
-storedStats useStats found m stats =
-    written stats (λ c. m * statsPerMarker + c) (λ c. laterStat useStats found c (getD stats (m * statsPerMarker + c) nan)) statsPerMarker
+-- the buffer after marker m
+abbrev pub storedStats : MarkerStats → ℕ → List Float → List Float
+storedStats found m stats =
+    written stats (λ c. m * statsPerMarker + c) (λ c. keptOrNew found c (getD stats (m * statsPerMarker + c) nan)) statsPerMarker
 
 -- ---- accumulators
 -- four values more

@@ -185,7 +185,7 @@ fn all_stats(
                 squares: square_sum,
             });
             let m = base + j;
-            stats_buffer::put_found(stats, m, found, false);
+            stats_buffer::put_found(stats, m, found);
             lowest = answers::first_refusal(lowest, answers::marker_answer(m, found));
             j += 1;
         }

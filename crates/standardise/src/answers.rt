@@ -28,12 +28,13 @@ pub(crate) fn is_done(answer: StandardiseAnswer) -> bool
     }
 }
 
-// What is found for marker m, as an answer.
+// What there is for marker m, as an answer.
 pub(crate) fn marker_answer(m: usize, found: MarkerStats) -> StandardiseAnswer
     ensures { λ r. ⌜ standardiseSays r ≡ markerAnswer m found ⌝ }
 {
     match found {
-        MarkerStats::Found(_) => StandardiseAnswer::Done,
+        MarkerStats::Lent(_) => StandardiseAnswer::Done,
+        MarkerStats::Found(_, _) => StandardiseAnswer::Done,
         MarkerStats::NoIndividuals => StandardiseAnswer::NoIndividuals(m),
         MarkerStats::IllegalSnpMean => StandardiseAnswer::IllegalSnpMean(m),
     }

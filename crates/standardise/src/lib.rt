@@ -11,8 +11,8 @@ mod stats_buffer;
 pub use answers::StandardiseAnswer;
 pub use stats_buffer::STATS_PER_MARKER;
 
-// Makes the markers of a matrix zero-mean with unit deviation and puts +0 for missing values. The statistics buffer has the mean and the
-// deviation of each marker; with `use_stats` they are lent, else they are worked out.
+// Makes the markers of a matrix zero-mean with unit deviation and puts +0 for missing values. The statistics buffer has the mean, the
+// deviation and the observed count of each marker; with `use_stats` the first two are lent, else all three are found.
 pub fn impute_and_zero_mean_snps_f64(
     val: &mut [f64],
     iid_count: usize,

@@ -96,7 +96,7 @@ fn apply_column(val: &mut [f64], start: usize, iid_count: usize, s: Stats)
     }
 }
 
-// What is found for marker m: its lent statistics, or those of its values.
+// What there is for marker m: its lent statistics, or those of its values.
 fn marker_stats(
     val: &[f64],
     start: usize,
@@ -109,7 +109,7 @@ fn marker_stats(
     ensures { λ r. ⌜ r ≡ foundFor binary64 «use_stats» (statsAt (now (stats .entry)) m) «iid_count» (from (now (val .entry)) start) ⌝ }
 {
     if use_stats {
-        return MarkerStats::Found(stats_buffer::get_stats(stats, m));
+        return MarkerStats::Lent(stats_buffer::get_stats(stats, m));
     }
     column_stats(val, start, iid_count)
 }
@@ -129,7 +129,8 @@ fn apply_found(
         return;
     }
     match found {
-        MarkerStats::Found(s) => apply_column(val, start, iid_count, s),
+        MarkerStats::Lent(s) => apply_column(val, start, iid_count, s),
+        MarkerStats::Found(s, _) => apply_column(val, start, iid_count, s),
         MarkerStats::NoIndividuals => {}
         MarkerStats::IllegalSnpMean => {}
     }
@@ -148,10 +149,10 @@ fn process_sid(
     requires { ⌜ (start + «iid_count» ≤ length (now val)) × StatsIn (now stats) m ⌝ }
     ensures { λ r. ⌜ (r ≡ foundFor binary64 «use_stats» (statsAt (now (stats .entry)) m) «iid_count» (from (now (val .entry)) start))
         × (now (val .exit) ≡ changed (now (val .entry)) start «iid_count» (laterValue binary64 «apply_in_place» r))
-        × (now (stats .exit) ≡ storedStats «use_stats» r m (now (stats .entry))) ⌝ }
+        × (now (stats .exit) ≡ storedStats r m (now (stats .entry))) ⌝ }
 {
     let found = marker_stats(val, start, iid_count, m, use_stats, stats);
-    stats_buffer::put_found(stats, m, found, use_stats);
+    stats_buffer::put_found(stats, m, found);
     apply_found(val, start, iid_count, found, apply_in_place);
     found
 }

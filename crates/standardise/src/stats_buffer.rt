@@ -1,4 +1,4 @@
-// The statistics buffer: a marker's mean, then its deviation, marker after marker.
+// The statistics buffer: a marker's mean, its deviation and how many of its values were observed, marker after marker.
 ghost use mathlib.Core.Path.{_≡_};
 ghost use Prim.Native.Nat.{_+_, _*_};
 ghost use lib.ListN.{getD};
@@ -8,10 +8,10 @@ ghost use Rattle.standardise.specs.Private.{StatsIn, written, storedStat
 use statistics::MarkerStats;
 use statistics::Stats;
 
-// How many numbers a marker has in the statistics buffer: mean, then deviation.
-pub const STATS_PER_MARKER: usize = 2;
+// How many numbers a marker has in the statistics buffer: mean, deviation, observed count.
+pub const STATS_PER_MARKER: usize = 3;
 
-// The statistics that stand in the buffer for marker m.
+// The lent statistics that stand in the buffer for marker m; the observed count is not read.
 pub(crate) fn get_stats(stats: &[f64], m: usize) -> Stats
     requires { ⌜ StatsIn (now stats) m ⌝ }
     ensures { λ r. ⌜ r ≡ statsAt (now (stats .entry)) m ⌝ }
@@ -23,25 +23,24 @@ pub(crate) fn get_stats(stats: &[f64], m: usize) -> Stats
     }
 }
 
-fn put_stats(stats: &mut [f64], m: usize, s: Stats)
+fn put_stats(stats: &mut [f64], m: usize, s: Stats, observed: f64)
     requires { ⌜ StatsIn (now stats) m ⌝ }
-    ensures { λ _. ⌜ now (stats .exit) ≡ written (now (stats .entry)) (λ c. m * statsPerMarker + c) (λ c. getD (inPlaces s) c nan) statsPerMarker ⌝ }
+    ensures { λ _. ⌜ now (stats .exit) ≡ written (now (stats .entry)) (λ c. m * statsPerMarker + c) (λ c. getD (inPlaces s observed) c nan) statsPerMarker ⌝ }
 {
     let at = m * STATS_PER_MARKER;
     stats[at] = s.mean;
     stats[at + 1] = s.deviation;
+    stats[at + 2] = observed;
 }
 
-// Stores what is found for marker m, unless the statistics are lent; a refused marker keeps its old statistics.
-pub(crate) fn put_found(stats: &mut [f64], m: usize, found: MarkerStats, use_stats: bool)
+// Stores what is found for marker m; lent statistics stay, and a refused marker keeps its old ones.
+pub(crate) fn put_found(stats: &mut [f64], m: usize, found: MarkerStats)
     requires { ⌜ StatsIn (now stats) m ⌝ }
-    ensures { λ _. ⌜ now (stats .exit) ≡ storedStats «use_stats» found m (now (stats .entry)) ⌝ }
+    ensures { λ _. ⌜ now (stats .exit) ≡ storedStats found m (now (stats .entry)) ⌝ }
 {
-    if use_stats {
-        return;
-    }
     match found {
-        MarkerStats::Found(s) => put_stats(stats, m, s),
+        MarkerStats::Lent(_) => {}
+        MarkerStats::Found(s, observed) => put_stats(stats, m, s, observed),
         MarkerStats::NoIndividuals => {}
         MarkerStats::IllegalSnpMean => {}
     }

@@ -13,7 +13,7 @@ use borrow.Author.Tests.{le-ltb}
 use Rattle.statistics.specs.declared.Accumulator.{Accumulator}
 use Rattle.statistics.specs.declared.Stats.{Stats}
 use Rattle.statistics.specs.declared.MarkerStats.{MarkerStats}
-use Rattle.statistics.specs.declared.MarkerStats.the-variants.{Found, NoIndividuals, IllegalSnpMean}
+use Rattle.statistics.specs.declared.MarkerStats.the-variants.{Lent, Found, NoIndividuals, IllegalSnpMean}
 use Rattle.statistics.specs.Statistics.{plusZero, one, counted, accumulated, mean, statsOf, noValue, markerStats, foundFor}
 use Rattle.statistics.specs.Statistics.{statsFrom}
 
@@ -89,7 +89,17 @@ pub stats-from : (f : Format) (column : ℕ → Float) (n : ℕ) → statsFrom f
 unfolding statsFrom markerStats
 stats-from f column n =
     let a = accumulated f column n in
-    ap (λ (b : Bool). cond b NoIndividuals (cond (isNan (mean f a)) IllegalSnpMean (Found (statsOf f a)))) (few (noValue column n) (a .count) (counts f column n))
+    ap (λ (b : Bool). cond b NoIndividuals (cond (isNan (mean f a)) IllegalSnpMean (Found (statsOf f a) (a .count)))) (few (noValue column n) (a .count) (counts f column n))
+
+-- what is found is not lent
+pub found-not-lent : (f : Format) (n : ℕ) (column : ℕ → Float) (s : Stats) → markerStats f n column ≡ Lent s → ⊥
+unfolding markerStats
+found-not-lent f n column s = go (noValue column n) (isNan (mean f (accumulated f column n)))
+  where
+    go : (p q : Bool) → cond p NoIndividuals (cond q IllegalSnpMean (Found (statsOf f (accumulated f column n)) (accumulated f column n .count))) ≡ Lent s → ⊥
+    go true q e = let z : _≡_ {A = ℕ} 0 1 = cc in omega arith
+    go false true e = let z : _≡_ {A = ℕ} 0 1 = cc in omega arith
+    go false false e = let z : _≡_ {A = ℕ} 0 1 = cc in omega arith
 
 -- ---- only the values of the animals count
 module _ (f : Format) (c d : ℕ → Float) where

@@ -16,7 +16,7 @@ use lib.Ieee.Scale.{round-same}
 use borrow.Author.Tests.{ltb-true, lt-ltb}
 use Rattle.statistics.specs.declared.Accumulator.{Accumulator}
 use Rattle.statistics.specs.Statistics.{plusZero, one, counted, accumulated, markerStats, statsFrom}
-use Rattle.statistics.specs.Calls.{two, IsCall, isZero, isOne, isTwo, isMissing, whole, present, copyCount, total, FewEnough, Calls, SameSums, SumsAgree}
+use Rattle.statistics.specs.Calls.{two, IsCall, isZero, isOne, isTwo, isMissing, whole, present, copyCount, total, observed, FewEnough, Calls, SameSums, SumsAgree}
 use Rattle.statistics.proofs.CountLaws.{stats-from}
 
 -- ---- sums of whole numbers
@@ -75,22 +75,22 @@ count-more f a n v h e = by-test (isNan v)
     by-test true = let z : n ≡ n + 0 = omega arith in e ∙ ap (whole f) z
     by-test false = ap (λ (x : Float). add f x one) e ∙ whole-add f n 1 one h (refl, refl)
 
-present-total : (column : ℕ → Float) (n : ℕ) → total (λ i. present (column i)) n ≤ n
+observed-most : (column : ℕ → Float) (n : ℕ) → observed column n ≤ n
 unfolding total present
-present-total column zero = omega arith
-present-total column (suc n) = let a = present-total column n in let b : present (column n) ≤ 1 = at-most (isNan (column n)) in omega arith
+observed-most column zero = omega arith
+observed-most column (suc n) = let a = observed-most column n in let b : present (column n) ≤ 1 = at-most (isNan (column n)) in omega arith
   where
     at-most : (b : Bool) → cond b 0 1 ≤ 1
     at-most true = omega arith
     at-most false = omega arith
 
 module _ (f : Format) (column : ℕ → Float) where
-  pub observed-is : (n : ℕ) → n ≤ 2 ^ prec f → accumulated f column n .count ≡ whole f (total (λ i. present (column i)) n)
+  pub observed-is : (n : ℕ) → n ≤ 2 ^ prec f → accumulated f column n .count ≡ whole f (observed column n)
   unfolding accumulated total
   observed-is zero h = whole-zero f
   observed-is (suc n) h =
-      let a : total (λ i. present (column i)) n ≤ n = present-total column n in
-      count-more f (accumulated f column n) (total (λ i. present (column i)) n) (column n) (omega arith) (observed-is n (omega arith))
+      let a : observed column n ≤ n = observed-most column n in
+      count-more f (accumulated f column n) (observed column n) (column n) (omega arith) (observed-is n (omega arith))
 
 -- ---- one call more
 pub record Exactly (f : Format) (a : Accumulator) (s q : ℕ) : Type 0 where

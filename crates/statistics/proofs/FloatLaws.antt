@@ -46,18 +46,18 @@ module _ (f : Format) (a : Accumulator) where
         (g : ne (div f (a .sum) (a .count)) (div f (a .sum) (a .count)) ≡ false) (d : Float)
         (r : d ≡ root f (sub f (div f (a .squares) (a .count)) (mul f (div f (a .sum) (a .count)) (div f (a .sum) (a .count)))))
       where
-        found-is : statsFrom f a ≡ Found (record { mean = div f (a .sum) (a .count); deviation = cond (isNan d || le d plusZero) (inf false) d })
+        found-is : statsFrom f a ≡ Found (record { mean = div f (a .sum) (a .count); deviation = cond (isNan d || le d plusZero) (inf false) d }) (a .count)
         unfolding statsFrom mean statsOf deviation variance
         found-is = simp (e, is-nan (div f (a .sum) (a .count)) g, r)
 
-        pub deviation-nan : ne d d ≡ true → Found (record { mean = div f (a .sum) (a .count); deviation = inf false }) ≡ statsFrom f a
+        pub deviation-nan : ne d d ≡ true → Found (record { mean = div f (a .sum) (a .count); deviation = inf false }) (a .count) ≡ statsFrom f a
         deviation-nan h = sym (found-is ∙ simp (is-nan d h))
 
         module _ (h : ne d d ≡ false) where
-          pub deviation-low : le d plusZero ≡ true → Found (record { mean = div f (a .sum) (a .count); deviation = inf false }) ≡ statsFrom f a
+          pub deviation-low : le d plusZero ≡ true → Found (record { mean = div f (a .sum) (a .count); deviation = inf false }) (a .count) ≡ statsFrom f a
           deviation-low k = sym (found-is ∙ simp (is-nan d h, k))
 
-          pub deviation-found : le d plusZero ≡ false → Found (record { mean = div f (a .sum) (a .count); deviation = d }) ≡ statsFrom f a
+          pub deviation-found : le d plusZero ≡ false → Found (record { mean = div f (a .sum) (a .count); deviation = d }) (a .count) ≡ statsFrom f a
           deviation-found k = sym (found-is ∙ simp (is-nan d h, k))
 
 pub infinity-above : (x : Float) → eq x (inf false) ≡ true → true ≡ isInfinite x

@@ -36,6 +36,10 @@ unfoldable pub total : (ℕ → ℕ) → ℕ → ℕ
 total h zero = 0
 total h (suc n) = total h n + h n
 
+-- "observed count": how many of the first n values are no NaN
+abbrev pub observed : (ℕ → Float) → ℕ → ℕ
+observed column n = total (λ i. present (column i)) n
+
 -- n animals few enough for every sum to be exact: 10^9 at f64, 4,194,304 at f32
 abbrev pub FewEnough : Format → ℕ → Type 0
 FewEnough f n = 4 * n ≤ 2 ^ prec f

@@ -9,7 +9,7 @@ use Rattle.root.specs.Root.{root}
 use Rattle.statistics.specs.declared.Accumulator.{Accumulator}
 use Rattle.statistics.specs.declared.Stats.{Stats}
 use Rattle.statistics.specs.declared.MarkerStats.{MarkerStats}
-use Rattle.statistics.specs.declared.MarkerStats.the-variants.{Found, NoIndividuals, IllegalSnpMean}
+use Rattle.statistics.specs.declared.MarkerStats.the-variants.{Lent, Found, NoIndividuals, IllegalSnpMean}
 
 -- +0 and 1
 abbrev pub plusZero : Float
@@ -56,27 +56,28 @@ unfoldable pub noValue : (ℕ → Float) → ℕ → Bool
 noValue column zero = true
 noValue column (suc n) = noValue column n && isNan (column n)
 
--- what is found for a marker with n animals: 13 "has no non-NaN value", else 14 "has a NaN mean", else its pair of mean and deviation
+-- what is found for a marker with n animals: 13 "has no non-NaN value", else 14 "has a NaN mean", else its pair of mean and deviation, and
+-- the count as its "observed count as f64" (02)
 unfoldable pub markerStats : Format → ℕ → (ℕ → Float) → MarkerStats
 unfolding accumulated mean statsOf noValue
 markerStats f n column =
-    let a = accumulated f column n in cond (noValue column n) NoIndividuals (cond (isNan (mean f a)) IllegalSnpMean (Found (statsOf f a)))
+    let a = accumulated f column n in cond (noValue column n) NoIndividuals (cond (isNan (mean f a)) IllegalSnpMean (Found (statsOf f a) (a .count)))
 
--- "With lent statistics nothing is recomputed or refused for 13, 14.": what is found for a marker, whose lent statistics are s if some are lent
+-- "With lent statistics nothing is recomputed or refused for 13, 14.": what there is for a marker, whose lent statistics are s if some are lent
 unfoldable pub foundFor : Format → Bool → Stats → ℕ → (ℕ → Float) → MarkerStats
 unfolding markerStats
-foundFor f true s n column = Found s
+foundFor f true s n column = Lent s
 foundFor f false s n column = markerStats f n column
 
 -- how many places a marker has in the statistics buffer, and its numbers in the order of their places:
--- "its two statistics places, 2m and 2m + 1 for marker m"
+-- "three numbers: mean, deviation and observed count as f64, at places 3m, 3m + 1 and 3m + 2" (02)
 abbrev pub statsPerMarker : ℕ
-statsPerMarker = 2
+statsPerMarker = 3
 
-unfoldable pub inPlaces : Stats → List Float
-inPlaces s = s .mean ∷ s .deviation ∷ []
+unfoldable pub inPlaces : Stats → Float → List Float
+inPlaces s observed = s .mean ∷ s .deviation ∷ observed ∷ []
 
--- the statistics that stand in a buffer for marker m
+-- the lent statistics that stand in a buffer for marker m: "With lent statistics the third is neither read nor written." (02)
 unfoldable pub statsAt : List Float → ℕ → Stats
 statsAt stats m = record { mean = getD stats (m * statsPerMarker) nan; deviation = getD stats (m * statsPerMarker + 1) nan }
 
@@ -95,7 +96,7 @@ standardised f s v = cond (isNan v || isInfinite (s .deviation)) plusZero (mul f
 -- what an accumulator says of its marker: it has no non-NaN value if its count is below 1
 unfoldable pub statsFrom : Format → Accumulator → MarkerStats
 unfolding mean statsOf
-statsFrom f a = cond (lt (a .count) one) NoIndividuals (cond (isNan (mean f a)) IllegalSnpMean (Found (statsOf f a)))
+statsFrom f a = cond (lt (a .count) one) NoIndividuals (cond (isNan (mean f a)) IllegalSnpMean (Found (statsOf f a) (a .count)))
 
 -- a value standardised by the reciprocal of the deviation
 unfoldable pub scaledBy : Format → Float → Float → Bool → Float → Float

@@ -16,9 +16,10 @@ pub struct Stats {
     pub deviation: f64,
 }
 
-// What is found for a marker.
+// What there is for a marker: lent statistics, or those found, with how many values were observed.
 pub enum MarkerStats {
-    Found(Stats),
+    Lent(Stats),
+    Found(Stats, f64),
     NoIndividuals,
     IllegalSnpMean,
 }
@@ -51,18 +52,24 @@ pub fn find_stats(a: Accumulator) -> MarkerStats
     let variance = a.squares / a.count - mean * mean;
     let deviation = root::root_f64(variance);
     if deviation != deviation {
-        return MarkerStats::Found(Stats {
-            mean,
-            deviation: 1.0 / 0.0,
-        });
+        return MarkerStats::Found(
+            Stats {
+                mean,
+                deviation: 1.0 / 0.0,
+            },
+            a.count,
+        );
     }
     if deviation <= 0.0 {
-        return MarkerStats::Found(Stats {
-            mean,
-            deviation: 1.0 / 0.0,
-        });
+        return MarkerStats::Found(
+            Stats {
+                mean,
+                deviation: 1.0 / 0.0,
+            },
+            a.count,
+        );
     }
-    MarkerStats::Found(Stats { mean, deviation })
+    MarkerStats::Found(Stats { mean, deviation }, a.count)
 }
 
 pub fn is_infinite(x: f64) -> bool

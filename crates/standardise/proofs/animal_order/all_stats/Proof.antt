@@ -20,13 +20,13 @@ abbrev μ-loop2 : tie.MeasureT-loop2
 μ-loop2 val iid-count sid-count stats₀ lowest₀ base width counts sums squares j₀ stats lowest j = width - j
 
 abbrev Inv-loop : tie.InvT-loop
-Inv-loop val iid-count sid-count stats₀ lowest₀ base₀ stats lowest base = StatsPassed sid-count false (found binary64 true iid-count sid-count val false stats₀) stats₀ base (standardiseSays lowest) stats
+Inv-loop val iid-count sid-count stats₀ lowest₀ base₀ stats lowest base = StatsPassed sid-count (found binary64 true iid-count sid-count val false stats₀) stats₀ base (standardiseSays lowest) stats
 
 abbrev μ-loop : tie.MeasureT-loop
 μ-loop val iid-count sid-count stats₀ lowest₀ base₀ stats lowest base = sid-count - base
 
 loop-holds : tie.Need-loop-holds Inv-loop2 μ-loop2 Inv-loop μ-loop
-loop-holds c = let s = c .before .before in stats-passed-none (s .args .sid-count) false (found binary64 true (s .args .iid-count) (s .args .sid-count) (s .args .val .now) false (s .args .stats .now)) (s .args .stats .now) (s .pre .1)
+loop-holds c = let s = c .before .before in stats-passed-none (s .args .sid-count) (found binary64 true (s .args .iid-count) (s .args .sid-count) (s .args .val .now) false (s .args .stats .now)) (s .args .stats .now) (s .pre .1)
 
 sub-tile-width : tie.Need-sub-tile-width Inv-loop2 μ-loop2 Inv-loop μ-loop
 sub-tile-width c = omega arith
@@ -75,7 +75,7 @@ put-found-requires c κs =
     let w = c .before .before .before .before .before .before .before .before .before .before .loop in
     let w2 = c .before .before .before .loop2 in
     let l : length (w2 .stats) ≡ length (w .stats) = w2 .inv .1 .long in
-    let k : length (w .stats) ≡ 2 * c .before .before .before .before .before .before .before .before .before .before .before .before .before .args .sid-count = stats-length _ _ _ _ (w .inv) in
+    let k : length (w .stats) ≡ 3 * c .before .before .before .before .before .before .before .before .before .before .before .before .before .args .sid-count = stats-length _ _ _ (w .inv) in
     omega arith
 
 marker-answer-requires : tie.Need-marker-answer-requires Inv-loop2 μ-loop2 Inv-loop μ-loop
@@ -116,11 +116,11 @@ loop-again c =
     passed-tile binary64 (s .args .iid-count) (s .args .sid-count) (s .args .val .now) (w .base) _ _ (l .j) (c .before .before .before .before .before .before .tile-width .result) _ _ (l .inv .1) (l .inv .0) (c .loop2-test .left) (s .args .stats .now) (w .inv)
 
 same-length : tie.Need-same-length Inv-loop2 μ-loop2 Inv-loop μ-loop
-same-length c = stats-length _ _ _ _ (c .before .loop .inv) ∙ c .before .before .before .before .pre .1
+same-length c = stats-length _ _ _ (c .before .loop .inv) ∙ c .before .before .before .before .pre .1
 
 returns : tie.Need-returns Inv-loop2 μ-loop2 Inv-loop μ-loop
 unfolding lowestRefused newStats
-returns c = let s = c .before .before .before .before in stats-passed-all (s .args .sid-count) false (found binary64 true (s .args .iid-count) (s .args .sid-count) (s .args .val .now) false (s .args .stats .now)) (s .args .stats .now) (s .pre .1) (c .before .loop .inv) (c .loop-test .left)
+returns c = let s = c .before .before .before .before in stats-passed-all (s .args .sid-count) (found binary64 true (s .args .iid-count) (s .args .sid-count) (s .args .val .now) false (s .args .stats .now)) (s .args .stats .now) (s .pre .1) (c .before .loop .inv) (c .loop-test .left)
 
 pub all-stats-spec : {M : Type 1} → statement M
 all-stats-spec =

@@ -21,7 +21,7 @@ returns : tie.Need-returns
 returns c =
     let s = c .before .before .before .before .before .before .before .before .before .before .before .before in
     let e = c .before .before .before .before .before .before .before .stats-by-rows .ensures in
-    (e .0, rows-values binary64 (s .args .iid-count) (s .args .sid-count) (s .args .val .now) (s .args .stats .now) (s .args .apply-in-place) (s .args .use-stats) _ _ _ (e .0) (e .1) (c .before .before .apply-by-rows .ensures), e .1)
+    (e .0, rows-values binary64 (s .args .iid-count) (s .args .sid-count) (s .args .val .now) (s .args .stats .now) (s .pre .1) (s .args .apply-in-place) (s .args .use-stats) _ _ _ (e .0) (e .1) (c .before .before .apply-by-rows .ensures), e .1)
 
 pub process-all-iids-spec : {M : Type 1} → statement M
 process-all-iids-spec =

@@ -7,7 +7,7 @@ use Rattle.standardise.proofs.animal_order.stats_by_rows.Statement.{sta
 use Rattle.standardise.proofs.animal_order.stats_by_rows.Tie as tie
 
 returns : tie.Need-returns
-returns c = let s = c .before .before .before in (lent-answer binary64 true (s .args .iid-count) (s .args .sid-count) (s .args .val .now) (s .args .use-stats) (s .args .stats .now) (c .if1 .taken), lent-stats binary64 true (s .args .iid-count) (s .args .sid-count) (s .args .val .now) (s .args .use-stats) (s .args .stats .now) (c .if1 .taken))
+returns c = let s = c .before .before .before in (lent-answer binary64 true (s .args .iid-count) (s .args .sid-count) (s .args .val .now) (s .args .use-stats) (s .args .stats .now) (c .if1 .taken), lent-stats binary64 true (s .args .iid-count) (s .args .sid-count) (s .args .val .now) (s .args .use-stats) (s .args .stats .now) (s .pre .1) (c .if1 .taken))
 
 all-stats-requires : tie.Need-all-stats-requires
 all-stats-requires c κs = search needs

@@ -1,7 +1,7 @@
 -- `marker_stats`: lent, or worked out.
 use mathlib.Core.Path.{ap}
 use lib.Ieee.{binary64}
-use Rattle.statistics.specs.declared.MarkerStats.the-variants.{Found}
+use Rattle.statistics.specs.declared.MarkerStats.the-variants.{Lent}
 use Rattle.standardise.proofs.ChoiceLaws.{found-lent, found-worked-out}
 use borrow.Author.Needs.{needs}
 use Rattle.standardise.proofs.marker_order.marker_stats.Statement.{statement}
@@ -11,7 +11,7 @@ get-stats-requires : tie.Need-get-stats-requires
 get-stats-requires c κs = search needs
 
 returns : tie.Need-returns
-returns c = found-lent binary64 _ _ _ _ _ (c .before .if1 .taken) (ap Found (c .get-stats .ensures))
+returns c = found-lent binary64 _ _ _ _ _ (c .before .if1 .taken) (ap Lent (c .get-stats .ensures))
 
 column-stats-requires : tie.Need-column-stats-requires
 column-stats-requires c κs = search needs

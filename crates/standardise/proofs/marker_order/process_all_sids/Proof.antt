@@ -33,7 +33,7 @@ process-sid-requires : tie.Need-process-sid-requires Inv-loop μ-loop
 process-sid-requires c κs =
     let s = c .before .before .before .before .before .before in
     let p = c .before .before .before .loop .inv in
-    (column-inside binary64 (s .args .iid-count) (s .args .sid-count) (s .args .val .now) (s .args .use-stats) (s .args .stats .now) (s .args .apply-in-place) p (c .before .before .loop-test .taken), marker-inside _ _ _ _ (p .counted) (c .before .before .loop-test .taken))
+    (column-inside binary64 (s .args .iid-count) (s .args .sid-count) (s .args .val .now) (s .args .use-stats) (s .args .stats .now) (s .args .apply-in-place) p (c .before .before .loop-test .taken), marker-inside _ _ _ (p .counted) (c .before .before .loop-test .taken))
 
 marker-answer-requires : tie.Need-marker-answer-requires Inv-loop μ-loop
 marker-answer-requires c κs = search needs
@@ -57,7 +57,7 @@ same-length : tie.Need-same-length Inv-loop μ-loop
 same-length c = let s = c .before .before .before .before in values-length binary64 (s .args .iid-count) (s .args .sid-count) (s .args .val .now) (s .args .use-stats) (s .args .stats .now) (s .args .apply-in-place) (c .before .loop .inv) ∙ s .pre .0
 
 same-length-2 : tie.Need-same-length-2 Inv-loop μ-loop
-same-length-2 c = let s = c .before .before .before .before in stats-length _ _ _ _ (c .before .loop .inv .counted) ∙ s .pre .1
+same-length-2 c = let s = c .before .before .before .before in stats-length _ _ _ (c .before .loop .inv .counted) ∙ s .pre .1
 
 returns : tie.Need-returns Inv-loop μ-loop
 returns c = let s = c .before .before .before .before in passed-all binary64 (s .args .iid-count) (s .args .sid-count) (s .args .val .now) (s .args .use-stats) (s .args .stats .now) (s .args .apply-in-place) (s .pre .0) (s .pre .1) (c .before .loop .inv) (c .loop-test .left)

@@ -24,11 +24,20 @@ mul-stats-2 c = search needs
 slice-write-stats-2 : tie.Need-slice-write-stats-2
 slice-write-stats-2 c = simp length-set (omega arith)
 
+add-stats-2 : tie.Need-add-stats-2
+add-stats-2 c = search needs
+
+mul-stats-3 : tie.Need-mul-stats-3
+mul-stats-3 c = search needs
+
+slice-write-stats-3 : tie.Need-slice-write-stats-3
+slice-write-stats-3 c = simp length-set (omega arith)
+
 same-length : tie.Need-same-length
 same-length c = search needs
 
 returns : tie.Need-returns
-returns c = stored (c .args .stats .now) (c .args .m) (c .args .s)
+returns c = stored (c .args .stats .now) (c .args .m) (c .args .s) (c .args .observed)
 
 pub put-stats-spec : {M : Type 1} → statement M
 put-stats-spec =
@@ -40,5 +49,8 @@ put-stats-spec =
     add-stats
     mul-stats-2
     slice-write-stats-2
+    add-stats-2
+    mul-stats-3
+    slice-write-stats-3
     same-length
     returns)
