@@ -23,7 +23,7 @@ one-whole binary32 = refl
 one-whole binary64 = refl
 
 -- ---- a count of 1 or more stays so
-at-most : (a b : ℕ) (x : Bool) → T (ltb b a || (eqb b a && x)) → b ≤ a
+pub at-most : (a b : ℕ) (x : Bool) → T (ltb b a || (eqb b a && x)) → b ≤ a
 at-most a b x t = go (ltb b a) (eqb b a) x (ltb→lt b a) (eqb→eq b a) t
   where
     go : (p q y : Bool) → (T p → b < a) → (T q → b ≡ a) → T (p || (q && y)) → b ≤ a
@@ -31,7 +31,7 @@ at-most a b x t = go (ltb b a) (eqb b a) x (ltb→lt b a) (eqb→eq b a) t
     go false true y l e t = let h : b ≡ a = e tt in omega arith
     go false false y l e t = absurd t
 
-not-below : (e : ℤ) (m : ℕ) → T (eqb (1 * 1 * down e) (m * up e * 1) && (false || eqb (1 * 1 * down e) 0)) → ⊥
+pub not-below : (e : ℤ) (m : ℕ) → T (eqb (1 * 1 * down e) (m * up e * 1) && (false || eqb (1 * 1 * down e) 0)) → ⊥
 not-below e m t = go (eqb (1 * 1 * down e) (m * up e * 1)) (eqb (1 * 1 * down e) 0) (eqb→eq (1 * 1 * down e) 0) t
   where
     go : (p q : Bool) → (T q → 1 * 1 * down e ≡ 0) → T (p && (false || q)) → ⊥
@@ -58,7 +58,7 @@ not-few (fin true m e) t = absurd (not-below e m t)
 not-few (fin false m e) t = le-ltb (m * up e * 1) (1 * 1 * down e) (at-most (m * up e * 1) (1 * 1 * down e) (true || eqb (1 * 1 * down e) 0) t)
 
 -- a count, by whether no value was counted
-abbrev Counts : Bool → Float → Type 0
+abbrev pub Counts : Bool → Float → Type 0
 Counts true c = c ≡ plusZero
 Counts false c = T (le one c)
 
@@ -74,7 +74,7 @@ counts-more f false true a v h = h
 counts-more f true false a v h = subst (λ (c : Float). T (le one (add f c one))) (sym h) (first-one f)
 counts-more f false false a v h = more-than-one f (a .count) h
 
-counts : (f : Format) (column : ℕ → Float) (n : ℕ) → Counts (noValue column n) (accumulated f column n .count)
+pub counts : (f : Format) (column : ℕ → Float) (n : ℕ) → Counts (noValue column n) (accumulated f column n .count)
 unfolding noValue accumulated counted
 counts f column zero = refl
 counts f column (suc n) = counts-more f (noValue column n) (isNan (column n)) (accumulated f column n) (column n) (counts f column n)

@@ -28,7 +28,7 @@ cross x y p q a b e g =
     let v : y * p ≡ b * q * p = ap (λ (z : ℕ). z * p) g' in
     omega arith
 
-add-values : (f : Format) (x y : Float) (a b : ℕ) → HasValue x false a 1 → HasValue y false b 1 → add f x y ≡ round f false (a + b) 1
+pub add-values : (f : Format) (x y : Float) (a b : ℕ) → HasValue x false a 1 → HasValue y false b 1 → add f x y ≡ round f false (a + b) 1
 unfolding add
 add-values f (fin true m e) y a b v w = absurd (true≢false (v .0))
 add-values f (fin false m e) (fin true n d) a b v w = absurd (true≢false (w .0))
@@ -45,7 +45,7 @@ pub whole-add : (f : Format) (n k : ℕ) (v : Float) → n ≤ 2 ^ prec f → Ha
 unfolding whole ofInt
 whole-add f n k v h w = add-values f (whole f n) v n k (whole-value f n h) w
 
-whole-zero : (f : Format) → plusZero ≡ whole f 0
+pub whole-zero : (f : Format) → plusZero ≡ whole f 0
 unfolding whole ofInt round
 whole-zero binary32 = refl
 whole-zero binary64 = refl

@@ -2,3 +2,4 @@ pub mod FloatLaws
 pub mod CountLaws
 pub mod Exact
 pub mod Names
+pub mod SumLimit

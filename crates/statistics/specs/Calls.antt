@@ -1,4 +1,4 @@
--- Decoded calls, whole numbers as floats, and animals reordered: what the theorems of proofs/Exact speak of.
+-- Decoded calls, whole numbers as floats, the limit of their sums, and animals reordered: what the theorems of proofs/Exact and proofs/SumLimit speak of.
 use mathlib.Core.Path.{_≡_}
 use mathlib.Core.Bool.{false, cond}
 use Prim.Native.Nat.{ℕ, zero, suc, _+_, _*_, _^_, _<_, _≤_}
@@ -43,6 +43,10 @@ observed column n = total (λ i. present (column i)) n
 -- n animals few enough for every sum to be exact: 10^9 at f64, 4,194,304 at f32
 abbrev pub FewEnough : Format → ℕ → Type 0
 FewEnough f n = 4 * n ≤ 2 ^ prec f
+
+-- 2^54 at f64, 2^25 at f32: "their sum in f64 never passes 2^54, however many animals are read" (02)
+abbrev pub sumLimit : Format → Float
+sumLimit f = fin false 1 (pos (prec f + 1))
 
 -- each of the first n values is a call
 abbrev pub Calls : (ℕ → Float) → ℕ → Type 0
