@@ -30,7 +30,7 @@ use Rattle.bed_read.specs.Reading.{checkLists}
 use Rattle.bed_write.specs.Packing.{firstOf, orElse, ifBad, firstBadAnimal, checkAnimal, encodeAnswer}
 use Rattle.bed_write.specs.Writing.{firstBadCall, checkCall, checkBuffers, writeAnswer}
 use Rattle.statistics.specs.declared.MarkerStats.{MarkerStats}
-use Rattle.statistics.specs.declared.MarkerStats.the-variants.{Found, NoIndividuals, IllegalSnpMean}
+use Rattle.statistics.specs.declared.MarkerStats.the-variants.{Lent, Found, NoIndividuals, IllegalSnpMean}
 use Rattle.statistics.specs.Statistics.{statsPerMarker}
 use Rattle.standardise.specs.Standardised.{markerAnswer, markersAnswer, bufferChecks, found, lowestRefused, standardiseAnswer}
 use Rattle.read_standardised.specs.Joined.{joinedChecks, readNan, joinedAnswer}
@@ -192,7 +192,8 @@ cond-fits (refused n vs) new old f g = g
 
 marker-fits : (m : ℕ) (s : MarkerStats) → m < 2 ^ 63 → Fits (markerAnswer m s)
 unfolding markerAnswer Fits AllBelow
-marker-fits m (Found s) h = tt
+marker-fits m (Lent s) h = tt
+marker-fits m (Found s observed) h = tt
 marker-fits m NoIndividuals h = λ _. (h, tt)
 marker-fits m IllegalSnpMean h = λ _. (h, tt)
 

@@ -18,7 +18,7 @@ use Rattle.bed_read.specs.Reading.{checkLists, readAnswer}
 use Rattle.bed_file.proofs.FileLaws.{file-other}
 use Rattle.bed_read.proofs.ReadLaws.{read-accepted}
 use Rattle.statistics.specs.declared.MarkerStats.{MarkerStats}
-use Rattle.statistics.specs.declared.MarkerStats.the-variants.{Found, NoIndividuals, IllegalSnpMean}
+use Rattle.statistics.specs.declared.MarkerStats.the-variants.{Lent, Found, NoIndividuals, IllegalSnpMean}
 use Rattle.statistics.specs.Statistics.{statsPerMarker}
 use Rattle.standardise.specs.Standardised.{markerAnswer, markersAnswer, found, lowestRefused}
 use Rattle.read_standardised.specs.Joined.{joinedChecks, readNan, joinedAnswer}
@@ -120,7 +120,8 @@ if-high (refused n vs) b ha hb = ha
 
 marker-high : (m : ℕ) (x : MarkerStats) → High (markerAnswer m x)
 unfolding markerAnswer number
-marker-high m (Found s) n vs e = done-high n vs e
+marker-high m (Lent s) n vs e = done-high n vs e
+marker-high m (Found s observed) n vs e = done-high n vs e
 marker-high m NoIndividuals n vs e = let q : 13 ≡ n = ap number e in omega arith
 marker-high m IllegalSnpMean n vs e = let q : 14 ≡ n = ap number e in omega arith
 

@@ -43,7 +43,10 @@ markers false = pos 0 ∷ pos 2 ∷ []
 abbrev pub four : List Float
 four = nan ∷ nan ∷ nan ∷ nan ∷ []
 
-lengths : (a m : Bool) → RightLengths (animals a) (markers m) four four
+abbrev pub six : List Float
+six = nan ∷ nan ∷ nan ∷ nan ∷ nan ∷ nan ∷ []
+
+lengths : (a m : Bool) → RightLengths (animals a) (markers m) four six
 lengths true true = record { for-15 = refl; for-17 = refl }
 lengths true false = record { for-15 = refl; for-17 = refl }
 lengths false true = record { for-15 = refl; for-17 = refl }
@@ -69,29 +72,29 @@ module _ (mode1 m : Bool) where
   pub animal-told : readAnswer (herd mode1) 5 2 (animals false) (markers m) 4 ≡ refused 5 (pos 5 ∷ [])
   animal-told = bad-animal (herd mode1) 5 2 (accepted mode1) (animals false) (markers m) (pos 5) 4 (four-values false m) animal-5
 
-  pub joined-animal-told : (flag order : Bool) → joinedAnswer binary64 (herd mode1) 5 2 flag (animals false) (markers m) order four four ≡ refused 5 (pos 5 ∷ [])
+  pub joined-animal-told : (flag order : Bool) → joinedAnswer binary64 (herd mode1) 5 2 flag (animals false) (markers m) order four six ≡ refused 5 (pos 5 ∷ [])
   joined-animal-told flag order =
-      joined-bad-animal (herd mode1) 5 2 (accepted mode1) (animals false) (markers m) (pos 5) binary64 flag order four four (lengths false m) animal-5
+      joined-bad-animal (herd mode1) 5 2 (accepted mode1) (animals false) (markers m) (pos 5) binary64 flag order four six (lengths false m) animal-5
 
   pub animal-meant : CarriesFirstBad 5 (animals false) (pos 5 ∷ [])
   animal-meant = read-by-5 (herd mode1) 5 2 (animals false) (markers m) 4 (pos 5 ∷ []) animal-told
 
   pub joined-animal-meant : CarriesFirstBad 5 (animals false) (pos 5 ∷ [])
-  joined-animal-meant = joined-by-5 binary64 (herd mode1) 5 2 true (animals false) (markers m) true four four (pos 5 ∷ []) (joined-animal-told true true)
+  joined-animal-meant = joined-by-5 binary64 (herd mode1) 5 2 true (animals false) (markers m) true four six (pos 5 ∷ []) (joined-animal-told true true)
 
 module _ (mode1 : Bool) where
   pub marker-told : readAnswer (herd mode1) 5 2 (animals true) (markers false) 4 ≡ refused 6 (pos 2 ∷ [])
   marker-told = bad-marker (herd mode1) 5 2 (accepted mode1) (animals true) (markers false) (pos 2) 4 (four-values true false) animals-good marker-2
 
-  pub joined-marker-told : (flag order : Bool) → joinedAnswer binary64 (herd mode1) 5 2 flag (animals true) (markers false) order four four ≡ refused 6 (pos 2 ∷ [])
+  pub joined-marker-told : (flag order : Bool) → joinedAnswer binary64 (herd mode1) 5 2 flag (animals true) (markers false) order four six ≡ refused 6 (pos 2 ∷ [])
   joined-marker-told flag order =
-      joined-bad-marker (herd mode1) 5 2 (accepted mode1) (animals true) (markers false) (pos 2) binary64 flag order four four (lengths true false) animals-good marker-2
+      joined-bad-marker (herd mode1) 5 2 (accepted mode1) (animals true) (markers false) (pos 2) binary64 flag order four six (lengths true false) animals-good marker-2
 
   pub marker-meant : (GoodList 5 (animals true)) × (CarriesFirstBad 2 (markers false) (pos 2 ∷ []))
   marker-meant = read-by-6 (herd mode1) 5 2 (animals true) (markers false) 4 (pos 2 ∷ []) marker-told
 
   pub joined-marker-meant : (GoodList 5 (animals true)) × (CarriesFirstBad 2 (markers false) (pos 2 ∷ []))
-  joined-marker-meant = joined-by-6 binary64 (herd mode1) 5 2 true (animals true) (markers false) true four four (pos 2 ∷ []) (joined-marker-told true true)
+  joined-marker-meant = joined-by-6 binary64 (herd mode1) 5 2 true (animals true) (markers false) true four six (pos 2 ∷ []) (joined-marker-told true true)
 
   -- a list is looked at where the other is empty
   pub alone : (readAnswer (herd mode1) 5 2 (animals false) [] 0 ≡ refused 5 (pos 5 ∷ [])) × (readAnswer (herd mode1) 5 2 [] (markers false) 0 ≡ refused 6 (pos 2 ∷ []))
@@ -120,9 +123,9 @@ module _ (a m : Bool) where
 
 -- what a refused joined call answers and leaves, computed
 pub joined-keeps : (mode1 order : Bool)
-    → (answersOf binary64 (herd mode1) 5 2 true (animals true) (markers false) order four four joinedCall ≡ refused 6 (pos 2 ∷ []) ∷ [])
-    × (valuesLeft binary64 (herd mode1) 5 2 true (animals true) (markers false) order four four joinedCall ≡ four)
-    × (statsLeft binary64 (herd mode1) 5 2 true (animals true) (markers false) order four four joinedCall ≡ four)
+    → (answersOf binary64 (herd mode1) 5 2 true (animals true) (markers false) order four six joinedCall ≡ refused 6 (pos 2 ∷ []) ∷ [])
+    × (valuesLeft binary64 (herd mode1) 5 2 true (animals true) (markers false) order four six joinedCall ≡ four)
+    × (statsLeft binary64 (herd mode1) 5 2 true (animals true) (markers false) order four six joinedCall ≡ six)
 unfolding answersOf valuesLeft statsLeft joinedAnswer joinedValues joinedStats isMode1 items blocks blockWidth firstBad isGood ifDone
 joined-keeps true true = (refl, refl, refl)
 joined-keeps true false = (refl, refl, refl)

@@ -78,7 +78,7 @@ abbrev pub val : List Float
 val = nan ∷ nan ∷ nan ∷ nan ∷ nan ∷ nan ∷ nan ∷ nan ∷ nan ∷ nan ∷ []
 
 abbrev pub stats : List Float
-stats = nan ∷ nan ∷ nan ∷ nan ∷ []
+stats = nan ∷ nan ∷ nan ∷ nan ∷ nan ∷ nan ∷ []
 
 lengths : RightLengths moved markers val stats
 lengths = record { for-15 = refl; for-17 = refl }

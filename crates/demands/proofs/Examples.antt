@@ -29,7 +29,7 @@ use Rattle.standardise.specs.Standardised.{markerAnswer, markersAnswer, keptOrN
 
 -- ---- columns, in either order: a matrix of one marker
 abbrev pub oldStats : List Float
-oldStats = nan ∷ two ∷ []
+oldStats = nan ∷ two ∷ nan ∷ []
 
 abbrev pub minusOne : Float
 minusOne = fin true 1 (pos 0)
@@ -41,24 +41,24 @@ root-one = sym (root-only binary64 one one tt tt is-root)
     is-root : IsRoot binary64 one one
     is-root = record { positive-finite = tt; above-lower = lit< tt; below-upper = lit< tt }
 
--- a mean with the deviation that a root gives
-abbrev pub byRoot : Float → Float → MarkerStats
-byRoot m s = Found (record { mean = m; deviation = cond (isNan s || le s plusZero) (inf false) s })
+-- a mean with the deviation that a root gives, and an observed count
+abbrev pub byRoot : Float → Float → Float → MarkerStats
+byRoot m observed s = Found (record { mean = m; deviation = cond (isNan s || le s plusZero) (inf false) s }) observed
 
 -- "Column 0, 2, NaN: mean 1, deviation 1, values −1, 1, +0."
 abbrev pub zeroTwoNan : List Float
 zeroTwoNan = plusZero ∷ two ∷ nan ∷ []
 
-zero-two-found : (order : Bool) → found binary64 order 3 1 zeroTwoNan false oldStats 0 ≡ Found (record { mean = one; deviation = one })
+zero-two-found : (order : Bool) → found binary64 order 3 1 zeroTwoNan false oldStats 0 ≡ Found (record { mean = one; deviation = one }) two
 unfolding found foundFor markerStats noValue accumulated counted statsOf mean deviation variance value matrixPlace isNan add sub mul div neg le lt eq
-zero-two-found true = ap (byRoot one) root-one
-zero-two-found false = ap (byRoot one) root-one
+zero-two-found true = ap (byRoot one two) root-one
+zero-two-found false = ap (byRoot one two) root-one
 
 pub zero-two-answer : (order : Bool) → standardiseAnswer binary64 order 3 1 zeroTwoNan false oldStats ≡ done []
 unfolding standardiseAnswer lowestRefused markersAnswer markerAnswer
 zero-two-answer order = rw (zero-two-found order)
 
-pub zero-two-stats : (order : Bool) → laterStats binary64 order 3 1 zeroTwoNan false oldStats ≡ one ∷ one ∷ []
+pub zero-two-stats : (order : Bool) → laterStats binary64 order 3 1 zeroTwoNan false oldStats ≡ one ∷ one ∷ two ∷ []
 unfolding laterStats newStats keptOrNew matrix tabulate
 zero-two-stats order = rw (zero-two-found order)
 
@@ -71,7 +71,7 @@ zero-two-values false = rw (zero-two-found false)
 abbrev pub oneOne : List Float
 oneOne = one ∷ one ∷ []
 
-one-one-found : (order : Bool) → found binary64 order 2 1 oneOne false oldStats 0 ≡ Found (record { mean = one; deviation = inf false })
+one-one-found : (order : Bool) → found binary64 order 2 1 oneOne false oldStats 0 ≡ Found (record { mean = one; deviation = inf false }) two
 unfolding found foundFor markerStats noValue accumulated counted statsOf mean deviation variance root value matrixPlace isNan add sub mul div neg le lt eq
 one-one-found true = refl
 one-one-found false = refl
@@ -80,7 +80,7 @@ pub one-one-answer : (order : Bool) → standardiseAnswer binary64 order 2 1 one
 unfolding standardiseAnswer lowestRefused markersAnswer markerAnswer
 one-one-answer order = rw (one-one-found order)
 
-pub one-one-stats : (order : Bool) → laterStats binary64 order 2 1 oneOne false oldStats ≡ one ∷ inf false ∷ []
+pub one-one-stats : (order : Bool) → laterStats binary64 order 2 1 oneOne false oldStats ≡ one ∷ inf false ∷ two ∷ []
 unfolding laterStats newStats keptOrNew matrix tabulate
 one-one-stats order = rw (one-one-found order)
 
@@ -103,16 +103,16 @@ root-least = sym (root-only binary64 (fin false 1 (negsuc 1073)) small tt tt is-
     is-root : IsRoot binary64 (fin false 1 (negsuc 1073)) small
     is-root = record { positive-finite = tt; above-lower = lit< tt; below-upper = lit< tt }
 
-least-found : (order : Bool) → found binary64 order 2 1 leastVariance false oldStats 0 ≡ Found (record { mean = plusZero; deviation = small })
+least-found : (order : Bool) → found binary64 order 2 1 leastVariance false oldStats 0 ≡ Found (record { mean = plusZero; deviation = small }) two
 unfolding found foundFor markerStats noValue accumulated counted statsOf mean deviation variance value matrixPlace isNan add sub mul div neg le lt eq
-least-found true = ap (byRoot plusZero) root-least
-least-found false = ap (byRoot plusZero) root-least
+least-found true = ap (byRoot plusZero two) root-least
+least-found false = ap (byRoot plusZero two) root-least
 
 pub least-answer : (order : Bool) → standardiseAnswer binary64 order 2 1 leastVariance false oldStats ≡ done []
 unfolding standardiseAnswer lowestRefused markersAnswer markerAnswer
 least-answer order = rw (least-found order)
 
-pub least-stats : (order : Bool) → laterStats binary64 order 2 1 leastVariance false oldStats ≡ plusZero ∷ small ∷ []
+pub least-stats : (order : Bool) → laterStats binary64 order 2 1 leastVariance false oldStats ≡ plusZero ∷ small ∷ two ∷ []
 unfolding laterStats newStats keptOrNew matrix tabulate
 least-stats order = rw (least-found order)
 

@@ -10,6 +10,7 @@ pub mod BadLists
 pub mod LengthLaws
 pub mod Alike
 pub mod Demand3
+pub mod Observed
 pub mod ComputedLaws
 pub mod Demand3Examples
 pub mod BadListsExamples
@@ -20,3 +21,4 @@ pub mod PlinkFileExamples
 pub mod Orders
 pub mod Examples
 pub mod Sides
+pub mod ObservedExamples

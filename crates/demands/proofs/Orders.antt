@@ -4,7 +4,7 @@ use mathlib.Core.Path.{_≡_, refl}
 use mathlib.Core.Bool.{Bool, true, false}
 use mathlib.Core.List.{List, [], _∷_}
 use mathlib.Core.Option.{Option}
-use Prim.Native.Nat.{ℕ, _-_, _^_}
+use Prim.Native.Nat.{ℕ, _+_, _*_, _-_, _^_}
 use lib.IntN.{ℤ, pos, negsuc}
 use lib.Ieee.{Float, nan, Format, isNan}
 use Rattle.answer.specs.Answer.{refused, check, checkCount}
@@ -124,6 +124,9 @@ writer-16-before-7 = (refl, refl)
 abbrev pub twoNan : List Float
 twoNan = nan ∷ nan ∷ []
 
+abbrev pub threeNan : List Float
+threeNan = nan ∷ nan ∷ nan ∷ []
+
 module _ (f : Format) (order : Bool) where
   pub standardise-18-before-15 : (useStats : Bool) → (standardiseAnswer f order (2 ^ 63) 1 [] useStats [] ≡ refused 18 []) × (standardiseAnswer f order 2 1 [] useStats [] ≡ refused 15 [])
   unfolding standardiseAnswer
@@ -133,10 +136,17 @@ module _ (f : Format) (order : Bool) where
   unfolding standardiseAnswer
   standardise-15-before-17 useStats = (refl, refl)
 
-pub standardise-17-before-13 : (f : Format) (order : Bool) → (standardiseAnswer f order 2 1 twoNan false [] ≡ refused 17 []) × (standardiseAnswer f order 2 1 twoNan false twoNan ≡ refused 13 (pos 0 ∷ []))
+pub standardise-17-before-13 : (f : Format) (order : Bool) → (standardiseAnswer f order 2 1 twoNan false [] ≡ refused 17 []) × (standardiseAnswer f order 2 1 twoNan false threeNan ≡ refused 13 (pos 0 ∷ []))
 unfolding standardiseAnswer lowestRefused markersAnswer markerAnswer found foundFor markerStats noValue value matrixPlace isNan
 standardise-17-before-13 f true = (refl, refl)
 standardise-17-before-13 f false = (refl, refl)
+
+-- 17 "now reads 3 times markers": two numbers a marker are refused, and so is a length that 3 times the markers would only have modulo 2^64
+pub standardise-17-by-three : (f : Format) (order useStats : Bool)
+    → (standardiseAnswer f order 2 1 twoNan useStats twoNan ≡ refused 17 []) × (standardiseAnswer f order 0 6148914691236517206 [] useStats twoNan ≡ refused 17 [])
+    × (3 * 6148914691236517206 ≡ 2 ^ 64 + 2)
+unfolding standardiseAnswer
+standardise-17-by-three f order useStats = (refl, refl, refl)
 
 -- ---- the joined call: "18, 15, 17, the reading's from 1 on, then markers". Two animals at a marker with no call
 abbrev pub noCalls : List ℕ
@@ -154,13 +164,20 @@ module _ (f : Format) (flag order : Bool) where
   unfolding joinedAnswer
   joined-15-before-17 = (refl, refl)
 
-  pub joined-17-before-1 : (joinedAnswer f [] 2 1 flag both animal0 order twoNan [] ≡ refused 17 []) × (joinedAnswer f [] 2 1 flag both animal0 order twoNan twoNan ≡ refused 1 [])
+  pub joined-17-before-1 : (joinedAnswer f [] 2 1 flag both animal0 order twoNan [] ≡ refused 17 []) × (joinedAnswer f [] 2 1 flag both animal0 order twoNan threeNan ≡ refused 1 [])
   unfolding joinedAnswer
   joined-17-before-1 = (refl, refl)
 
+-- 17 goes by the marker list, and not by the file's markers: the first marker of two has three numbers
+pub joined-17-by-list : (f : Format) (flag order : Bool)
+    → (joinedAnswer f [] 2 2 flag both animal0 order twoNan (nan ∷ threeNan) ≡ refused 17 []) × (joinedAnswer f [] 2 2 flag both animal0 order twoNan twoNan ≡ refused 17 [])
+    × (joinedAnswer f [] 2 2 flag both animal0 order twoNan threeNan ≡ refused 1 [])
+unfolding joinedAnswer
+joined-17-by-list f flag order = (refl, refl, refl)
+
 pub joined-5-before-13 : (f : Format) (flag order : Bool)
-    → (joinedAnswer f noCalls 2 1 flag (pos 0 ∷ pos 9 ∷ []) animal0 order twoNan twoNan ≡ refused 5 (pos 9 ∷ []))
-    × (joinedAnswer f noCalls 2 1 flag both animal0 order twoNan twoNan ≡ refused 13 (pos 0 ∷ []))
+    → (joinedAnswer f noCalls 2 1 flag (pos 0 ∷ pos 9 ∷ []) animal0 order twoNan threeNan ≡ refused 5 (pos 9 ∷ []))
+    × (joinedAnswer f noCalls 2 1 flag both animal0 order twoNan threeNan ≡ refused 13 (pos 0 ∷ []))
 unfolding joinedAnswer isMode1 items blocks blockWidth firstBad isGood means valuesRead codesRead matrix matrixPlace tabulate readCode callCode codeIn block itemCode codeAt valueOf values
     lowestRefused markersAnswer markerAnswer found foundFor markerStats noValue value isNan
 joined-5-before-13 f true true = (refl, refl)

@@ -4,7 +4,7 @@ use mathlib.Core.Bool.{Bool, true, false}
 use mathlib.Core.List.{List, [], _∷_}
 use Prim.Native.Nat.{ℕ}
 use lib.IntN.{ℤ, pos, negsuc}
-use lib.Ieee.{Float, nan, inf, binary64, add, sub, mul, div, neg, le, lt, eq, isNan}
+use lib.Ieee.{Float, nan, inf, fin, binary64, add, sub, mul, div, neg, le, lt, eq, isNan}
 use Rattle.answer.specs.Answer.{Answer, done, refused, ifDone}
 use Rattle.blocks.specs.Block.{blockWidth}
 use Rattle.codes.specs.Code.{codeAt, itemCode}
@@ -45,7 +45,7 @@ abbrev pub val : List Float
 val = nan ∷ nan ∷ nan ∷ nan ∷ nan ∷ nan ∷ []
 
 abbrev pub stats : List Float
-stats = two ∷ two ∷ two ∷ two ∷ []
+stats = two ∷ two ∷ two ∷ two ∷ two ∷ two ∷ []
 
 -- what a side of demand 3 answers and leaves
 abbrev pub Leaves : List ℕ → List ℤ → Bool → Way → List Answer → List Float → List Float → Type 0
@@ -73,17 +73,21 @@ after true false = plusZero ∷ minusOne ∷ one ∷ plusZero ∷ plusZero ∷ p
 after false true = minusOne ∷ plusZero ∷ one ∷ plusZero ∷ plusZero ∷ plusZero ∷ []
 after false false = minusOne ∷ one ∷ plusZero ∷ plusZero ∷ plusZero ∷ plusZero ∷ []
 
+-- the third of each marker: two of three animals were observed, and all three
+abbrev pub three : Float
+three = fin false 3 (pos 0)
+
 abbrev pub afterStats : List Float
-afterStats = one ∷ one ∷ one ∷ inf false ∷ []
+afterStats = one ∷ one ∷ two ∷ one ∷ inf false ∷ three ∷ []
 
-marker-0 : (moved order : Bool) → found binary64 order 3 2 (read moved order) false stats 0 ≡ Found (record { mean = one; deviation = one })
+marker-0 : (moved order : Bool) → found binary64 order 3 2 (read moved order) false stats 0 ≡ Found (record { mean = one; deviation = one }) two
 unfolding found foundFor markerStats noValue accumulated counted statsOf mean deviation variance value matrixPlace isNan add sub mul div neg le lt eq
-marker-0 true true = ap (byRoot one) root-one
-marker-0 true false = ap (byRoot one) root-one
-marker-0 false true = ap (byRoot one) root-one
-marker-0 false false = ap (byRoot one) root-one
+marker-0 true true = ap (byRoot one two) root-one
+marker-0 true false = ap (byRoot one two) root-one
+marker-0 false true = ap (byRoot one two) root-one
+marker-0 false false = ap (byRoot one two) root-one
 
-marker-1 : (moved order : Bool) → found binary64 order 3 2 (read moved order) false stats 1 ≡ Found (record { mean = one; deviation = inf false })
+marker-1 : (moved order : Bool) → found binary64 order 3 2 (read moved order) false stats 1 ≡ Found (record { mean = one; deviation = inf false }) three
 unfolding root found foundFor markerStats noValue accumulated counted statsOf mean deviation variance value matrixPlace isNan add sub mul div neg le lt eq
 marker-1 true true = refl
 marker-1 true false = refl
@@ -143,14 +147,14 @@ after13 false true = plusZero ∷ nan ∷ two ∷ nan ∷ nan ∷ nan ∷ []
 after13 false false = minusOne ∷ one ∷ plusZero ∷ nan ∷ nan ∷ nan ∷ []
 
 abbrev pub afterStats13 : List Float
-afterStats13 = one ∷ one ∷ two ∷ two ∷ []
+afterStats13 = one ∷ one ∷ two ∷ two ∷ two ∷ two ∷ []
 
-marker-0-13 : (moved order : Bool) → found binary64 order 3 2 (read13 moved order) false stats 0 ≡ Found (record { mean = one; deviation = one })
+marker-0-13 : (moved order : Bool) → found binary64 order 3 2 (read13 moved order) false stats 0 ≡ Found (record { mean = one; deviation = one }) two
 unfolding found foundFor markerStats noValue accumulated counted statsOf mean deviation variance value matrixPlace isNan add sub mul div neg le lt eq
-marker-0-13 true true = ap (byRoot one) root-one
-marker-0-13 true false = ap (byRoot one) root-one
-marker-0-13 false true = ap (byRoot one) root-one
-marker-0-13 false false = ap (byRoot one) root-one
+marker-0-13 true true = ap (byRoot one two) root-one
+marker-0-13 true false = ap (byRoot one two) root-one
+marker-0-13 false true = ap (byRoot one two) root-one
+marker-0-13 false false = ap (byRoot one two) root-one
 
 marker-1-13 : (moved order : Bool) → found binary64 order 3 2 (read13 moved order) false stats 1 ≡ NoIndividuals
 unfolding found foundFor markerStats noValue value matrixPlace isNan

@@ -50,8 +50,8 @@ pub record NamesEachOnce (count : ℕ) (list : List ℤ) : Type 0 where
   pub good-list : GoodList count list
   pub meant-once : (a : ℕ) → a < count → MeantOnce count list a
 
--- "They start from lent buffers .. of the lengths that 15 and 17 want": 15 wants "the product of the two list lengths", 17 "2 times the
--- matrix's markers"
+-- "They start from lent buffers .. of the lengths that 15 and 17 want": 15 wants "the product of the two list lengths", 17 "3 times
+-- markers" (02)
 pub record RightLengths (iidList sidList : List ℤ) (val stats : List Float) : Type 0 where
   pub for-15 : length iidList * length sidList ≡ length val
   pub for-17 : statsPerMarker * length sidList ≡ length stats

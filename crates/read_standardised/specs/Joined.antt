@@ -15,7 +15,7 @@ use Rattle.statistics.specs.Statistics.{statsPerMarker}
 use Rattle.standardise.specs.Standardised.{lowestRefused, newStats, newValues}
 
 -- "It checks 18, 15, 17, the reading's from 1 on, then markers". 15: "value buffer is not the product of the two list lengths";
--- 17: "statistics buffer is not 2 times the matrix's markers", which are those of the marker list
+-- 17: "statistics buffer is not 2 times the matrix's markers", which "now reads 3 times markers" (02): those of the marker list
 unfoldable pub joinedChecks : List ℕ → ℕ → ℕ → List ℤ → List ℤ → ℕ → ℕ → Answer → Answer
 unfolding checkCount check checkFile checkLists
 joinedChecks file iids sids iidList sidList valLength statsLength markers =

@@ -224,13 +224,13 @@ mixed-right false = refl
 -- of 1, 1, NaN two values were observed, also where other markers are refused
 pub mixed-third : (order : Bool) → getD (laterStats binary64 order 3 3 (mixed order) false nine) 2 nan ≡ two
 unfolding whole ofInt total present value matrixPlace isNan
-mixed-third true = third-is-observed binary64 true 3 3 (mixed true) nine (mixed-right true) 0 (lit≤ tt) (mixed-found true) (lit≤ tt)
-mixed-third false = third-is-observed binary64 false 3 3 (mixed false) nine (mixed-right false) 0 (lit≤ tt) (mixed-found false) (lit≤ tt)
+mixed-third true = third-is-observed binary64 true 3 3 (mixed true) nine 0 (lit≤ tt) (mixed-found true) (mixed-right true) (lit≤ tt)
+mixed-third false = third-is-observed binary64 false 3 3 (mixed false) nine 0 (lit≤ tt) (mixed-found false) (mixed-right false) (lit≤ tt)
 
 pub mixed-first : (order : Bool) → getD (laterStats binary64 order 3 3 (mixed order) false nine) 0 nan ≡ one
 unfolding inPlaces statsOf accumulated counted mean value matrixPlace isNan add mul div
-mixed-first true = three-places binary64 true 3 3 (mixed true) nine (mixed-right true) 0 (lit≤ tt) (mixed-found true) 0 (lit≤ tt)
-mixed-first false = three-places binary64 false 3 3 (mixed false) nine (mixed-right false) 0 (lit≤ tt) (mixed-found false) 0 (lit≤ tt)
+mixed-first true = three-places binary64 true 3 3 (mixed true) nine 0 (lit≤ tt) (mixed-found true) (mixed-right true) 0 (lit≤ tt)
+mixed-first false = three-places binary64 false 3 3 (mixed false) nine 0 (lit≤ tt) (mixed-found false) (mixed-right false) 0 (lit≤ tt)
 
 -- lent statistics stay, and a NaN or any other third is not read
 pub nine-unwritten : (order : Bool) → laterStats binary64 order 3 3 (mixed order) true nine ≡ nine

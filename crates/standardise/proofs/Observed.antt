@@ -11,14 +11,16 @@ use lib.ListN.{length, getD}
 use lib.Ieee.{Float, nan, Format, prec, isNan}
 use Rattle.answer.specs.Answer.{Answer, done, check, checkCount, countLimit, isDone, ifDone}
 use Rattle.answer.specs.Matrix.{matrixPlace, matrix}
+use Rattle.answer.proofs.Tests.{by-test}
 use Rattle.answer.proofs.MatrixLaws.{getD-matrix, matrix-ext}
 use Rattle.statistics.specs.declared.Stats.{Stats}
 use Rattle.statistics.specs.declared.MarkerStats.{MarkerStats}
 use Rattle.statistics.specs.declared.MarkerStats.the-variants.{Lent, Found, NoIndividuals, IllegalSnpMean}
 use Rattle.statistics.specs.Statistics.{accumulated, mean, statsOf, noValue, markerStats, foundFor, statsPerMarker, inPlaces, statsAt, standardised}
-use Rattle.statistics.specs.Calls.{whole, observed}
+use Rattle.statistics.specs.Calls.{whole, observed, Calls}
 use Rattle.statistics.proofs.CountLaws.{found-not-lent}
-use Rattle.statistics.proofs.Exact.{observed-is}
+use Rattle.statistics.proofs.Exact.{observed-is, none-observed}
+use Rattle.statistics.proofs.SumLimit.{mean-of-calls}
 use Rattle.standardise.specs.Standardised.{bufferChecks, keptOrNew, applied, value, found, lowestRefused, standardiseAnswer, newStats, mayChange, newValues, laterStats, laterValues}
 use Rattle.standardise.specs.Refused.{NotRefused}
 use Rattle.standardise.proofs.CallLaws.{lent-stats, lent-answer}
@@ -36,27 +38,76 @@ three f n column (inr (s, o, e)) = go (noValue column n) (isNan (mean f (accumul
     go false true x e = absurd (let z : _≡_ {A = ℕ} 0 1 = cc in omega arith)
     go false false x e = refl
 
--- of a call whose checks of the buffers found nothing, also if other markers are refused
-module _ (f : Format) (order : Bool) (iids sids : ℕ) (val stats : List Float) (right : isDone (bufferChecks iids sids val stats (done [])) ≡ true)
-    (m : ℕ) (h : m < sids) (r : NotRefused (found f order iids sids val false stats m)) where
+-- a marker once the buffers are checked
+module _ (f : Format) (order : Bool) (iids sids : ℕ) (val stats : List Float) (m : ℕ) (h : m < sids) where
   abbrev column : ℕ → Float
   column i = value order iids sids val i m
 
-  -- "at places 3m, 3m + 1 and 3m + 2"
-  pub three-places : (c : ℕ) → c < statsPerMarker
-      → getD (laterStats f order iids sids val false stats) (m * statsPerMarker + c) nan
-      ≡ getD (inPlaces (statsOf f (accumulated f (λ i. value order iids sids val i m) iids)) (accumulated f (λ i. value order iids sids val i m) iids .count)) c nan
-  unfolding laterStats newStats found foundFor keptOrNew matrixPlace
-  three-places c k =
-      ap (λ (b : Bool). getD (cond b (newStats f order iids sids val false stats) stats) (m * statsPerMarker + c) nan) right
-      ∙ getD-matrix statsPerMarker sids c m k h false (λ c m. keptOrNew (found f order iids sids val false stats m) c (getD stats (m * statsPerMarker + c) nan)) nan
-      ∙ ap (λ (x : MarkerStats). keptOrNew x c (getD stats (m * statsPerMarker + c) nan)) (three f iids column r)
+  abbrev old : ℕ → Float
+  old c = getD stats (m * statsPerMarker + c) nan
 
-  -- "observed count as f64": the third is exactly how many of the marker's values are no NaN, up to 2^53 of them at f64
-  pub third-is-observed : iids ≤ 2 ^ prec f
-      → getD (laterStats f order iids sids val false stats) (m * statsPerMarker + 2) nan ≡ whole f (observed (λ i. value order iids sids val i m) iids)
-  unfolding inPlaces
-  third-is-observed e = three-places 2 (lit≤ tt) ∙ observed-is f column iids e
+  new-place : (x : MarkerStats) → found f order iids sids val false stats m ≡ x → (c : ℕ) → c < statsPerMarker
+      → getD (newStats f order iids sids val false stats) (m * statsPerMarker + c) nan ≡ keptOrNew x c (old c)
+  unfolding newStats matrixPlace
+  new-place x e c k =
+      getD-matrix statsPerMarker sids c m k h false (λ c m. keptOrNew (found f order iids sids val false stats m) c (getD stats (m * statsPerMarker + c) nan)) nan
+      ∙ ap (λ (y : MarkerStats). keptOrNew y c (old c)) e
+
+  module _ (r : NotRefused (found f order iids sids val false stats m)) where
+    -- "at places 3m, 3m + 1 and 3m + 2"
+    new-three : (c : ℕ) → c < statsPerMarker
+        → getD (newStats f order iids sids val false stats) (m * statsPerMarker + c) nan ≡ getD (inPlaces (statsOf f (accumulated f column iids)) (accumulated f column iids .count)) c nan
+    unfolding found foundFor keptOrNew
+    new-three c k = new-place (Found (statsOf f (accumulated f column iids)) (accumulated f column iids .count)) (three f iids column r) c k
+
+    pub new-third-is-observed : iids ≤ 2 ^ prec f
+        → getD (newStats f order iids sids val false stats) (m * statsPerMarker + 2) nan ≡ whole f (observed (λ i. value order iids sids val i m) iids)
+    unfolding inPlaces
+    new-third-is-observed e = new-three 2 (lit≤ tt) ∙ observed-is f column iids e
+
+    -- and after a call whose checks of the buffers found nothing, also if other markers are refused
+    module _ (right : isDone (bufferChecks iids sids val stats (done [])) ≡ true) where
+      passed : (c : ℕ) → getD (laterStats f order iids sids val false stats) (m * statsPerMarker + c) nan ≡ getD (newStats f order iids sids val false stats) (m * statsPerMarker + c) nan
+      unfolding laterStats
+      passed c = ap (λ (b : Bool). getD (cond b (newStats f order iids sids val false stats) stats) (m * statsPerMarker + c) nan) right
+
+      pub three-places : (c : ℕ) → c < statsPerMarker
+          → getD (laterStats f order iids sids val false stats) (m * statsPerMarker + c) nan
+          ≡ getD (inPlaces (statsOf f (accumulated f (λ i. value order iids sids val i m) iids)) (accumulated f (λ i. value order iids sids val i m) iids .count)) c nan
+      three-places c k = passed c ∙ new-three c k
+
+      -- "observed count as f64": the third is exactly how many of the marker's values are no NaN, up to 2^53 of them at f64
+      pub third-is-observed : iids ≤ 2 ^ prec f
+          → getD (laterStats f order iids sids val false stats) (m * statsPerMarker + 2) nan ≡ whole f (observed (λ i. value order iids sids val i m) iids)
+      third-is-observed e = passed 2 ∙ new-third-is-observed e
+
+  -- of decoded calls the third is that number, or the old one if no call was observed
+  pub third-of-calls : Calls (λ i. value order iids sids val i m) iids → iids ≤ 2 ^ prec f
+      → getD (newStats f order iids sids val false stats) (m * statsPerMarker + 2) nan
+      ≡ cond (eqb (observed (λ i. value order iids sids val i m) iids) 0) (getD stats (m * statsPerMarker + 2) nan) (whole f (observed (λ i. value order iids sids val i m) iids))
+  unfolding found foundFor markerStats keptOrNew
+  third-of-calls calls e = by-test (noValue column iids) none some
+    where
+      by : Bool → Float
+      by b = cond b (old 2) (whole f (observed column iids))
+
+      given : (b : Bool) → noValue column iids ≡ b → eqb (observed column iids) 0 ≡ b
+      given b t = none-observed column iids ∙ t
+
+      none : noValue column iids ≡ true → getD (newStats f order iids sids val false stats) (m * statsPerMarker + 2) nan ≡ by (eqb (observed column iids) 0)
+      none t =
+          new-place NoIndividuals (ap (λ (b : Bool). cond b NoIndividuals (cond (isNan (mean f (accumulated f column iids))) IllegalSnpMean (Found (statsOf f (accumulated f column iids)) (accumulated f column iids .count)))) t) 2 (lit≤ tt)
+          ∙ sym (ap by (given true t))
+
+      some : noValue column iids ≡ false → getD (newStats f order iids sids val false stats) (m * statsPerMarker + 2) nan ≡ by (eqb (observed column iids) 0)
+      some t =
+          new-third-is-observed (inr (
+            statsOf f (accumulated f column iids),
+            accumulated f column iids .count,
+            ap (λ (b : Bool). cond b NoIndividuals (cond (isNan (mean f (accumulated f column iids))) IllegalSnpMean (Found (statsOf f (accumulated f column iids)) (accumulated f column iids .count)))) t
+                ∙ ap (λ (b : Bool). cond b IllegalSnpMean (Found (statsOf f (accumulated f column iids)) (accumulated f column iids .count))) (mean-of-calls f column iids calls t),
+          )) e
+          ∙ sym (ap by (given false t))
 
 -- ---- 2. "With lent statistics the third is neither read nor written."
 right-checks : (p q r t : Bool) (new old : List Float) → (t ≡ true → new ≡ old)

@@ -1,21 +1,21 @@
 -- Of any values the count is an exact whole number; of decoded calls of few enough animals the sum and the sum of squares are too; so the statistics of
 -- animals reordered are equal.
 use mathlib.Core.Path.{_≡_, refl, sym, ap, subst, _∙_}
-use mathlib.Core.Bool.{Bool, true, false, cond, true≢false}
+use mathlib.Core.Bool.{Bool, true, false, _&&_, cond, true≢false}
 use Prim.Native.Nat.{ℕ, zero, suc, _+_, _*_, _^_, _<_, _≤_}
 use native.Mathlib.Nat.{mul-pos, eq-or-lt-of-le, le-of-suc-le-suc}
 use native.Mathlib.Omega.{arith}
 use mathlib.Core.Logic.{_⊎_, inl, inr}
-use lib.Dec.{lit≤, ltb}
+use lib.Dec.{lit≤, ltb, eqb}
 use lib.IntN.{pos}
 use lib.Ieee.{Float, fin, Format, binary32, binary64, prec, up, down, round, ofInt, add, mul, isNan}
 use lib.Ieee.Fits.{down-pos}
 use lib.Ieee.Exact.{HasValue}
 use lib.Ieee.Back.{round-whole}
 use lib.Ieee.Scale.{round-same}
-use borrow.Author.Tests.{ltb-true, lt-ltb}
+use borrow.Author.Tests.{ltb-true, lt-ltb, ne-eqb}
 use Rattle.statistics.specs.declared.Accumulator.{Accumulator}
-use Rattle.statistics.specs.Statistics.{plusZero, one, counted, accumulated, markerStats, statsFrom}
+use Rattle.statistics.specs.Statistics.{plusZero, one, counted, accumulated, noValue, markerStats, statsFrom}
 use Rattle.statistics.specs.Calls.{two, IsCall, isZero, isOne, isTwo, isMissing, whole, present, copyCount, total, observed, FewEnough, Calls, SameSums, SumsAgree}
 use Rattle.statistics.proofs.CountLaws.{stats-from}
 
@@ -91,6 +91,18 @@ module _ (f : Format) (column : ℕ → Float) where
   observed-is (suc n) h =
       let a : observed column n ≤ n = observed-most column n in
       count-more f (accumulated f column n) (observed column n) (column n) (omega arith) (observed-is n (omega arith))
+
+-- none is observed exactly if there is "no non-NaN value"
+pub none-observed : (column : ℕ → Float) (n : ℕ) → eqb (observed column n) 0 ≡ noValue column n
+unfolding total present noValue
+none-observed column zero = refl
+none-observed column (suc n) = by-test (isNan (column n)) (noValue column n) (none-observed column n)
+  where
+    by-test : (b p : Bool) → eqb (observed column n) 0 ≡ p → eqb (observed column n + cond b 0 1) 0 ≡ (p && b)
+    by-test true true e = let z : observed column n + 0 ≡ observed column n = omega arith in ap (λ (k : ℕ). eqb k 0) z ∙ e
+    by-test true false e = let z : observed column n + 0 ≡ observed column n = omega arith in ap (λ (k : ℕ). eqb k 0) z ∙ e
+    by-test false true e = ne-eqb (observed column n + 1) 0 (λ z. omega arith)
+    by-test false false e = ne-eqb (observed column n + 1) 0 (λ z. omega arith)
 
 -- ---- one call more
 pub record Exactly (f : Format) (a : Accumulator) (s q : ℕ) : Type 0 where

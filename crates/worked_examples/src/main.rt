@@ -328,7 +328,7 @@ fn one_block() {
 
 // A column and its statistics, standardised.
 fn column(asked: &[u8], val: &mut [f64], iids: usize, animal_order: bool) {
-    let mut stats = [9.0, 9.0];
+    let mut stats = [9.0, 9.0, 9.0];
     let a = standardise::impute_and_zero_mean_snps_f64(
         val,
         iids,
@@ -340,7 +340,7 @@ fn column(asked: &[u8], val: &mut [f64], iids: usize, animal_order: bool) {
     );
     say(asked);
     say_standardised(a);
-    say(b", mean and deviation");
+    say(b", mean, deviation and observed count");
     say_floats(&stats);
     say(b", values");
     say_floats(val);

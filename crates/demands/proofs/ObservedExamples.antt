@@ -1,0 +1,62 @@
+-- The observed count of calls read: the file of Sides in both modes, whose marker 0 has the calls 0, 2 and missing, marker 1 three ones.
+use mathlib.Core.Path.{_≡_, refl, ap, _∙_}
+use mathlib.Core.Bool.{Bool, true, false}
+use mathlib.Core.List.{List, [], _∷_}
+use Prim.Native.Nat.{ℕ}
+use lib.Dec.{lit≤}
+use lib.IntN.{ℤ, pos, negsuc}
+use lib.ListN.{getD}
+use lib.Ieee.{nan, binary64, ofInt}
+use Rattle.blocks.specs.Block.{blockWidth}
+use Rattle.codes.specs.Code.{codeAt, itemCode}
+use Rattle.entries.specs.Entry.{firstBad, isGood, means}
+use Rattle.bed_file.specs.File.{acceptAnswer, isMode1, items, blocks}
+use Rattle.calls.specs.Calls.{block, codeIn, callCode}
+use Rattle.statistics.specs.Calls.{two, whole, total}
+use Rattle.read_standardised.specs.Joined.{joinedStats}
+use Rattle.demands.specs.Demand.{IsAccepted, GoodList, meant, RightLengths}
+use Rattle.demands.specs.Observed.{callsObserved}
+use Rattle.demands.proofs.Observed.{joined-observed}
+use Rattle.demands.proofs.Sides.{T, T13, val, stats, markers, three}
+
+-- animal 1, animal 1 again, animal 2: its call at marker 0 is missing
+abbrev pub repeated : List ℤ
+repeated = pos 1 ∷ negsuc 1 ∷ pos 2 ∷ []
+
+accepted : (mode1 : Bool) → IsAccepted (T mode1) 3 2
+unfolding acceptAnswer isMode1 items blocks blockWidth
+accepted true = refl
+accepted false = refl
+
+accepted-13 : (mode1 : Bool) → IsAccepted (T13 mode1) 3 2
+unfolding acceptAnswer isMode1 items blocks blockWidth
+accepted-13 true = refl
+accepted-13 false = refl
+
+animals-good : GoodList 3 repeated
+unfolding firstBad isGood
+animals-good = refl
+
+markers-good : GoodList 2 markers
+unfolding firstBad isGood
+markers-good = refl
+
+lengths : RightLengths repeated markers val stats
+lengths = record { for-15 = refl; for-17 = refl }
+
+-- an animal that is named again counts again
+pub repeated-third : (mode1 order : Bool) → getD (joinedStats binary64 (T mode1) 3 2 true repeated markers order val stats) 2 nan ≡ two
+unfolding callsObserved total meant means callCode codeIn block itemCode codeAt isMode1 items blocks blockWidth whole ofInt
+repeated-third true order = joined-observed binary64 (T true) 3 2 true repeated markers order val stats (accepted true) animals-good markers-good lengths (lit≤ tt) 0 (lit≤ tt)
+repeated-third false order = joined-observed binary64 (T false) 3 2 true repeated markers order val stats (accepted false) animals-good markers-good lengths (lit≤ tt) 0 (lit≤ tt)
+
+pub all-three : (mode1 order : Bool) → getD (joinedStats binary64 (T mode1) 3 2 true repeated markers order val stats) 5 nan ≡ three
+unfolding callsObserved total meant means callCode codeIn block itemCode codeAt isMode1 items blocks blockWidth whole ofInt
+all-three true order = joined-observed binary64 (T true) 3 2 true repeated markers order val stats (accepted true) animals-good markers-good lengths (lit≤ tt) 1 (lit≤ tt)
+all-three false order = joined-observed binary64 (T false) 3 2 true repeated markers order val stats (accepted false) animals-good markers-good lengths (lit≤ tt) 1 (lit≤ tt)
+
+-- and where none was observed the old number, here 2, stays
+pub none-kept : (mode1 order : Bool) → getD (joinedStats binary64 (T13 mode1) 3 2 true repeated markers order val stats) 5 nan ≡ two
+unfolding callsObserved total meant means callCode codeIn block itemCode codeAt isMode1 items blocks blockWidth
+none-kept true order = joined-observed binary64 (T13 true) 3 2 true repeated markers order val stats (accepted-13 true) animals-good markers-good lengths (lit≤ tt) 1 (lit≤ tt)
+none-kept false order = joined-observed binary64 (T13 false) 3 2 true repeated markers order val stats (accepted-13 false) animals-good markers-good lengths (lit≤ tt) 1 (lit≤ tt)
