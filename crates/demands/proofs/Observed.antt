@@ -1,6 +1,6 @@
 -- "Advisers weigh a mean by the number of calls behind it.": the third number of a marker that the joined call reads is how many of the calls read are
 -- not missing.
-use mathlib.Core.Path.{_≡_, refl, sym, ap, _∙_}
+use mathlib.Core.Path.{_≡_, refl, ap, _∙_}
 use mathlib.Core.Bool.{Bool, true, false, cond}
 use mathlib.Core.List.{List}
 use Prim.Native.Nat.{ℕ, zero, suc, _+_, _*_, _^_, _<_, _≤_}
@@ -13,7 +13,7 @@ use Rattle.codes.specs.Value.{float, values, valueOf}
 use Rattle.bed_read.specs.Reading.{readCode}
 use Rattle.bed_read.proofs.BufferLaws.{read-below}
 use Rattle.statistics.specs.Statistics.{statsPerMarker}
-use Rattle.statistics.specs.Calls.{whole, present, total, observed}
+use Rattle.statistics.specs.Calls.{whole, present, observed}
 use Rattle.statistics.proofs.Exact.{total-ext}
 use Rattle.standardise.specs.Standardised.{value}
 use Rattle.standardise.proofs.Observed.{third-of-calls}

@@ -1,8 +1,8 @@
 -- "three numbers: mean, deviation and observed count as f64": what a call leaves in a marker's places; lent statistics.
 use mathlib.Core.Path.{_≡_, refl, sym, ap, _∙_}
-use mathlib.Core.Bool.{Bool, true, false, _&&_, cond, true≢false}
+use mathlib.Core.Bool.{Bool, true, false, _&&_, cond}
 use mathlib.Core.List.{List, []}
-use mathlib.Core.Logic.{_⊎_, inl, inr}
+use mathlib.Core.Logic.{inl, inr}
 use Prim.Native.Nat.{ℕ, _+_, _*_, _^_, _<_, _≤_}
 use native.Mathlib.Omega.{arith}
 use borrow.Author.Tests.{eqb-true}
@@ -13,10 +13,11 @@ use Rattle.answer.specs.Answer.{Answer, done, check, checkCount, countLimit, is
 use Rattle.answer.specs.Matrix.{matrixPlace, matrix}
 use Rattle.answer.proofs.Tests.{by-test}
 use Rattle.answer.proofs.MatrixLaws.{getD-matrix, matrix-ext}
+use Rattle.statistics.specs.declared.Accumulator.{Accumulator}
 use Rattle.statistics.specs.declared.Stats.{Stats}
 use Rattle.statistics.specs.declared.MarkerStats.{MarkerStats}
 use Rattle.statistics.specs.declared.MarkerStats.the-variants.{Lent, Found, NoIndividuals, IllegalSnpMean}
-use Rattle.statistics.specs.Statistics.{accumulated, mean, statsOf, noValue, markerStats, foundFor, statsPerMarker, inPlaces, statsAt, standardised}
+use Rattle.statistics.specs.Statistics.{accumulated, mean, statsOf, noValue, markerStats, foundFor, statsPerMarker, inPlaces, statsAt}
 use Rattle.statistics.specs.Calls.{whole, observed, Calls}
 use Rattle.statistics.proofs.CountLaws.{found-not-lent}
 use Rattle.statistics.proofs.Exact.{observed-is, none-observed}
@@ -43,6 +44,13 @@ module _ (f : Format) (order : Bool) (iids sids : ℕ) (val stats : List Float) 
   abbrev column : ℕ → Float
   column i = value order iids sids val i m
 
+  abbrev a : Accumulator
+  a = accumulated f column iids
+
+  -- what is found, by its two tests
+  abbrev byTests : Bool → Bool → MarkerStats
+  byTests p q = cond p NoIndividuals (cond q IllegalSnpMean (Found (statsOf f a) (a .count)))
+
   abbrev old : ℕ → Float
   old c = getD stats (m * statsPerMarker + c) nan
 
@@ -56,9 +64,9 @@ module _ (f : Format) (order : Bool) (iids sids : ℕ) (val stats : List Float) 
   module _ (r : NotRefused (found f order iids sids val false stats m)) where
     -- "at places 3m, 3m + 1 and 3m + 2"
     new-three : (c : ℕ) → c < statsPerMarker
-        → getD (newStats f order iids sids val false stats) (m * statsPerMarker + c) nan ≡ getD (inPlaces (statsOf f (accumulated f column iids)) (accumulated f column iids .count)) c nan
+        → getD (newStats f order iids sids val false stats) (m * statsPerMarker + c) nan ≡ getD (inPlaces (statsOf f a) (a .count)) c nan
     unfolding found foundFor keptOrNew
-    new-three c k = new-place (Found (statsOf f (accumulated f column iids)) (accumulated f column iids .count)) (three f iids column r) c k
+    new-three c k = new-place (Found (statsOf f a) (a .count)) (three f iids column r) c k
 
     pub new-third-is-observed : iids ≤ 2 ^ prec f
         → getD (newStats f order iids sids val false stats) (m * statsPerMarker + 2) nan ≡ whole f (observed (λ i. value order iids sids val i m) iids)
@@ -95,18 +103,11 @@ module _ (f : Format) (order : Bool) (iids sids : ℕ) (val stats : List Float) 
       given b t = none-observed column iids ∙ t
 
       none : noValue column iids ≡ true → getD (newStats f order iids sids val false stats) (m * statsPerMarker + 2) nan ≡ by (eqb (observed column iids) 0)
-      none t =
-          new-place NoIndividuals (ap (λ (b : Bool). cond b NoIndividuals (cond (isNan (mean f (accumulated f column iids))) IllegalSnpMean (Found (statsOf f (accumulated f column iids)) (accumulated f column iids .count)))) t) 2 (lit≤ tt)
-          ∙ sym (ap by (given true t))
+      none t = new-place NoIndividuals (ap (λ (b : Bool). byTests b (isNan (mean f a))) t) 2 (lit≤ tt) ∙ sym (ap by (given true t))
 
       some : noValue column iids ≡ false → getD (newStats f order iids sids val false stats) (m * statsPerMarker + 2) nan ≡ by (eqb (observed column iids) 0)
       some t =
-          new-third-is-observed (inr (
-            statsOf f (accumulated f column iids),
-            accumulated f column iids .count,
-            ap (λ (b : Bool). cond b NoIndividuals (cond (isNan (mean f (accumulated f column iids))) IllegalSnpMean (Found (statsOf f (accumulated f column iids)) (accumulated f column iids .count)))) t
-                ∙ ap (λ (b : Bool). cond b IllegalSnpMean (Found (statsOf f (accumulated f column iids)) (accumulated f column iids .count))) (mean-of-calls f column iids calls t),
-          )) e
+          new-third-is-observed (inr (statsOf f a, a .count, ap (λ (b : Bool). byTests b (isNan (mean f a))) t ∙ ap (byTests false) (mean-of-calls f column iids calls t))) e
           ∙ sym (ap by (given false t))
 
 -- ---- 2. "With lent statistics the third is neither read nor written."

@@ -92,6 +92,12 @@ module _ (f : Format) (column : ℕ → Float) where
       let a : observed column n ≤ n = observed-most column n in
       count-more f (accumulated f column n) (observed column n) (column n) (omega arith) (observed-is n (omega arith))
 
+-- past them it stays 2^prec
+pub count-stays : (f : Format) → add f (fin false 1 (pos (prec f))) one ≡ fin false 1 (pos (prec f))
+unfolding add
+count-stays binary32 = refl
+count-stays binary64 = refl
+
 -- none is observed exactly if there is "no non-NaN value"
 pub none-observed : (column : ℕ → Float) (n : ℕ) → eqb (observed column n) 0 ≡ noValue column n
 unfolding total present noValue
