@@ -132,7 +132,7 @@ bed_answer bed_impute_and_zero_mean_snps_f64(double *val, size_t val_len, size_t
                                              bool apply_in_place, bool use_stats, double *stats, size_t stats_len);
 
 /* Reading with missing NaN, then statistics, then applying, in one call. Reads file, iid_index and sid_index; writes val and stats.
- * A call that the lists name twice is observed twice.
+ * An animal that is listed twice is observed twice.
  * Refusals: 18 (either count), 15 (val_len is not iid_len * sid_len), 17 (by sid_len), then as bed_read_f64 from 1 on, then the lowest
  * marker refused for 13 or 14: val then holds the values read, standardised as the call above says. */
 bed_answer bed_read_standardised_f64(const uint8_t *file, size_t file_len, size_t iid_count, size_t sid_count, bool is_a1_counted,
