@@ -321,8 +321,9 @@ fn sized(name: &str, r: &mut Rng, most: u64) -> Case {
                     _ => (r.below(1 << 20) as f64 / 1024.0 - 300.0).to_bits(),
                 })
                 .collect();
-            // Where three times the markers wraps to a length, that length.
-            let k = room(1, sids.wrapping_mul(3));
+            // Three a marker, also where that wraps to a length.
+            let k = sids.wrapping_mul(3);
+            let k = if k < 3 * LONG { k as usize } else { 20 };
             let k = if r.once_in(12) { r.length(k) } else { k };
             vec![B(val), N(iids), N(sids), N(r.flag()), N(r.flag()), N(r.flag()), B(r.old(Kind::F64, k))]
         }
