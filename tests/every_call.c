@@ -521,7 +521,7 @@ static void records(void) {
             same_floats(stats, rows[i].stats, 6, "a statistic");
         }
 
-    /* lent, whatever the third is, and from where nothing can be written */
+    /* lent: the third may be anything, and nothing is written, so that these can be constants */
     static const double fixed[3][6] = {{1, 2, 3, 0.5, -4, 0}, {1, 2, NAN, 0.5, -4, -INFINITY}, {1, 2, INFINITY, 0.5, -4, 1e300}};
     for (int choice = 0; choice < 12; choice++) {
         bool order = choice & 1, apply = choice >> 1 & 1;
