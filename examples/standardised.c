@@ -93,8 +93,10 @@ int main(int argc, char **argv) {
                                   stats, BED_STATS_PER_MARKER * markers);
     if (a.number) return refuse(a);
 
-    for (size_t m = 0; m < markers; m++)
-        printf("marker %zu: mean %.6f, deviation %.6f\n", m, stats[BED_STATS_PER_MARKER * m], stats[BED_STATS_PER_MARKER * m + 1]);
+    for (size_t m = 0; m < markers; m++) {
+        const double *record = stats + BED_STATS_PER_MARKER * m;
+        printf("marker %zu: mean %.6f, deviation %.6f, %.0f observed\n", m, record[0], record[1], record[2]);
+    }
     for (size_t i = 0; i < animals; i++) {
         printf("animal %zu:", i);
         for (size_t m = 0; m < markers; m++) printf(" %9.6f", val[i * markers + m]);

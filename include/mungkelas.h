@@ -29,9 +29,9 @@
 #include <stdint.h>
 
 /* The version; it stands here alone. MAJOR rises with every change that breaks a caller (CHANGELOG.md). */
-#define MUNGKELAS_VERSION_MAJOR 1
+#define MUNGKELAS_VERSION_MAJOR 2
 #define MUNGKELAS_VERSION_MINOR 0
-#define MUNGKELAS_VERSION_PATCH 1
+#define MUNGKELAS_VERSION_PATCH 0
 #define MUNGKELAS_TEXT_(a, b, c) #a "." #b "." #c
 #define MUNGKELAS_TEXT(a, b, c) MUNGKELAS_TEXT_(a, b, c)
 #define MUNGKELAS_VERSION MUNGKELAS_TEXT(MUNGKELAS_VERSION_MAJOR, MUNGKELAS_VERSION_MINOR, MUNGKELAS_VERSION_PATCH)
@@ -71,8 +71,9 @@ enum {
     BED_CANNOT_CONVERT_BETA_TO_FROM_F64 = 20 /* bad product piece */
 };
 
-/* A statistics record is a marker's mean, then its deviation: marker m's stand at 2 * m and 2 * m + 1. */
-#define BED_STATS_PER_MARKER 2
+/* A statistics record is a marker's mean, its deviation, and how many of its values were observed, that is, are not NaN: marker m's
+ * stand at 3 * m, 3 * m + 1 and 3 * m + 2. */
+#define BED_STATS_PER_MARKER 3
 
 /* ---- headers, widths, spans ---- */
 
@@ -121,7 +122,8 @@ bed_answer bed_write_f64(const double *val, size_t val_len, size_t iid_count, si
 /* ---- standardising ---- */
 
 /* Reads and may write val and stats. Without use_stats each marker's mean and deviation are found from its values that are not NaN
- * and written to stats; with it stats is read, and nothing is found or refused for 13 or 14. With apply_in_place each value
+ * and written to stats, then how many these are, exact up to 2^53. With use_stats each record's mean and deviation are read, its
+ * third number is not, stats is not written, and nothing is found or refused for 13 or 14. With apply_in_place each value
  * becomes (value - mean) * (1 / deviation), or +0 where it is NaN or the deviation is infinite; without it no value changes.
  * Refusals: 18 (either count), 15 (val_len is not iid_count * sid_count), 17, then the lowest marker refused for 13 or 14. At 13 and
  * 14 the markers that are not refused have new statistics and, in marker order with apply_in_place, values standardised; in animal
@@ -130,6 +132,7 @@ bed_answer bed_impute_and_zero_mean_snps_f64(double *val, size_t val_len, size_t
                                              bool apply_in_place, bool use_stats, double *stats, size_t stats_len);
 
 /* Reading with missing NaN, then statistics, then applying, in one call. Reads file, iid_index and sid_index; writes val and stats.
+ * An animal that is listed twice is observed twice.
  * Refusals: 18 (either count), 15 (val_len is not iid_len * sid_len), 17 (by sid_len), then as bed_read_f64 from 1 on, then the lowest
  * marker refused for 13 or 14: val then holds the values read, standardised as the call above says. */
 bed_answer bed_read_standardised_f64(const uint8_t *file, size_t file_len, size_t iid_count, size_t sid_count, bool is_a1_counted,

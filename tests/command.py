@@ -8,7 +8,6 @@ import ast, errno, fcntl, math, os, pty, random, re, resource, shutil, signal, s
 program, faults = os.path.abspath(sys.argv[1]), os.path.abspath(sys.argv[2])
 root = os.path.dirname(os.path.dirname(os.path.abspath(__file__)))
 header = open(os.path.join(root, "include/mungkelas.h")).read()
-PER_MARKER = int(re.search(r"#define BED_STATS_PER_MARKER (\d+)", header)[1])
 VERSION = ".".join(re.search(rf"#define MUNGKELAS_VERSION_{part} (\d+)", header)[1] for part in ("MAJOR", "MINOR", "PATCH"))
 try:
     import numpy
@@ -139,7 +138,7 @@ def unpacked(codes, allele, missing, animals, markers):
 
 
 def standardised(table):
-    """Document 01's sentences: the values and the statistics."""
+    """Document 01's sentences, and 02's third number: the values and the statistics."""
     columns = [list(c) for c in zip(*table)]
     stats = []
     for c in columns:
@@ -150,7 +149,7 @@ def standardised(table):
         mean = total / n
         variance = squares / n - mean * mean
         deviation = math.sqrt(variance) if variance > 0 else math.inf
-        stats.append([mean, deviation, n][:PER_MARKER])
+        stats.append([mean, deviation, float(len(seen))])
         for i, v in enumerate(c):
             c[i] = 0.0 if math.isnan(v) or math.isinf(deviation) else (v - mean) * (1 / deviation)
     return [list(r) for r in zip(*columns)], stats
@@ -254,13 +253,13 @@ def test_standardise():
                     what = f"standardise mode {mode} {' '.join(more)}"
                     values, stats = standardised(unpacked(codes, allele, math.nan, animals, markers))
                     out = done(what, "standardise", "herd", "-o", "out.npy", *more)
-                    words = f"out.stats.npy: the statistics, {len(markers)} markers by {PER_MARKER}, f64, order C\n"
+                    words = f"out.stats.npy: the statistics, {len(markers)} markers by 3, f64, order C\n"
                     same(out, shape_words("out.npy", len(animals), len(markers), "f64", order) + words, what + ": the words")
                     about, table = load("out.npy")
                     same(about, {"descr": "<f8", "fortran_order": order == "F", "shape": (len(animals), len(markers))}, what)
                     same(as_bits(table), as_bits(values), what + ": the values")
                     about, table = load("out.stats.npy")
-                    same(about, {"descr": "<f8", "fortran_order": False, "shape": (len(markers), PER_MARKER)}, what)
+                    same(about, {"descr": "<f8", "fortran_order": False, "shape": (len(markers), 3)}, what)
                     same(as_bits(table), as_bits(stats), what + ": the statistics")
                     for threads in 1, 2, 3:
                         done(what, "standardise", "herd", "-o", f"out{threads}", "--threads", threads, "--dtype", "f64", "--quiet", *more)
@@ -547,7 +546,7 @@ def test_faults():
         outputs = 2 if subcommand == "standardise" else 1
         names = [out, "out.stats.npy"]
         size = {"read": 128 + 2000, "standardise": 128 + 16000, "canonical": 3 + 13 * 40}[subcommand]
-        sizes = [size, 128 + 40 * 8 * PER_MARKER]
+        sizes = [size, 128 + 40 * 8 * 3]
         for before in None, "as it was":
             def after(what):
                 here = {f: get(f).decode() for f in left()}
@@ -686,9 +685,9 @@ def test_example():
     same(run("check", "examples/small")[1] in re.sub(r"^    ", "", text, flags=re.M), True, "README: check")
     shown = [line.split() for line in open("examples/small.out")]
     values = [[f"{x:.6f}" for x in row] for row in load("small.npy")[1]]
-    stats = [[f"{x:.6f}" for x in row[:2]] for row in load("small.stats.npy")[1]]
+    stats = [[f"{mean:.6f},", f"{deviation:.6f},", f"{observed:.0f}"] for mean, deviation, observed in load("small.stats.npy")[1]]
     same(values, [[f"{float(x):.6f}" for x in line[2:]] for line in shown if line[0] == "animal"], "examples/small: the values")
-    same(stats, [[line[3].rstrip(","), line[5]] for line in shown if line[0] == "marker"], "examples/small: the statistics")
+    same(stats, [[line[3], line[5], line[6]] for line in shown if line[0] == "marker"], "examples/small: the statistics")
 
 
 for test in [value for key, value in sorted(globals().items()) if key.startswith("test_")]:

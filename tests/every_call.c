@@ -138,7 +138,14 @@ static void read_values(const struct reading *r, double missing, double *val) {
         }
 }
 
-/* Standardises, and answers 0, 13 or 14 with the lowest refused marker. */
+/* How many values of a marker are not NaN. */
+static size_t observed(const double *val, size_t iids, size_t sids, bool order, size_t m) {
+    size_t n = 0;
+    for (size_t i = 0; i < iids; i++) n += !isnan(val[place(order, iids, sids, i, m)]);
+    return n;
+}
+
+/* Standardises, and answers 0, 13 or 14 with the lowest refused marker. A record is mean, deviation and observed count (document 02). */
 static bed_answer standardise(double *val, size_t iids, size_t sids, bool order, bool apply, bool lent, double *stats) {
     bed_answer a = answer(0, 0, 0);
     bool refused[ROOM] = {false};
@@ -151,12 +158,14 @@ static bed_answer standardise(double *val, size_t iids, size_t sids, bool order,
         double mean = sum / count, variance = squares / count - mean * mean;
         refused[m] = count == 0 || isnan(mean);
         if (refused[m] && a.number == 0) a = answer(count == 0 ? 13 : 14, (int64_t)m, 0);
-        if (!refused[m]) stats[2 * m] = mean, stats[2 * m + 1] = isnan(sqrt(variance)) || sqrt(variance) <= 0 ? INFINITY : sqrt(variance);
+        if (refused[m]) continue;
+        stats[3 * m] = mean, stats[3 * m + 1] = isnan(sqrt(variance)) || sqrt(variance) <= 0 ? INFINITY : sqrt(variance);
+        stats[3 * m + 2] = (double)observed(val, iids, sids, order, m);
     }
     for (size_t m = 0; m < sids && apply && !(order && a.number); m++)
         for (size_t i = 0; i < iids && !refused[m]; i++) {
             double *v = &val[place(order, iids, sids, i, m)];
-            *v = isnan(*v) || isinf(stats[2 * m + 1]) ? 0 : (*v - stats[2 * m]) * (1 / stats[2 * m + 1]);
+            *v = isnan(*v) || isinf(stats[3 * m + 1]) ? 0 : (*v - stats[3 * m]) * (1 / stats[3 * m + 1]);
         }
     return a;
 }
@@ -185,6 +194,12 @@ static void draw_reading(struct reading *r) {
     if (draw(30) == 0) r->len -= 1 + draw(3) % r->len;
     r->iid_len = draw_list(r->iids, r->iid_index), r->sid_len = draw_list(r->sids, r->sid_index);
     r->val_len = r->iid_len * r->sid_len + (draw(40) == 0);
+}
+
+/* Mostly three a marker; two a marker too. */
+static size_t draw_stats_len(size_t sids) {
+    size_t n = draw(20);
+    return n == 0 ? 3 * sids + 1 : n == 1 && sids ? 3 * sids - 1 : n == 2 ? 2 * sids : BED_STATS_PER_MARKER * sids;
 }
 
 static double draw_value(void) {
@@ -273,9 +288,12 @@ static void spans(void) {
     end();
 }
 
-/* File F of document 01 and the file of mode 0 with the same calls, 5 animals and 2 markers: the same lists are refused alike. */
+/* By its mode: file F of document 01 and the file of mode 0 with the same calls, 5 animals and 2 markers. */
+static const uint8_t f_files[2][8] = {{0x6C, 0x1B, 0, 0x0C, 0x0D, 0x0A, 3, 8}, {0x6C, 0x1B, 1, 0xE4, 0, 0x2F, 2}};
+static const size_t f_len[2] = {8, 7};
+
+/* The same lists are refused alike. */
 static void lists_of_either_mode(void) {
-    static const uint8_t files[2][8] = {{0x6C, 0x1B, 0, 0x0C, 0x0D, 0x0A, 3, 8}, {0x6C, 0x1B, 1, 0xE4, 0, 0x2F, 2}};
     static const struct {
         size_t iid_len, sid_len;
         int64_t iid_index[3], sid_index[3];
@@ -297,16 +315,15 @@ static void lists_of_either_mode(void) {
     begin("lists of either mode");
     for (size_t i = 0; i < sizeof rows / sizeof *rows; i++)
         for (int choice = 0; choice < 8; choice++) {
-            double val[9], want[9], stats[6], want_stats[6];
+            double val[9], want[9], stats[9], want_stats[9];
             int8_t small[9];
             int mode = choice & 1;
             bed_answer a = answer(rows[i].number, rows[i].entry, 0);
-            memcpy(r.file, files[mode], 8), r.len = mode ? 7 : 8;
+            memcpy(r.file, f_files[mode], 8), r.len = f_len[mode];
             memcpy(r.iid_index, rows[i].iid_index, sizeof rows[i].iid_index), memcpy(r.sid_index, rows[i].sid_index, sizeof rows[i].sid_index);
             r.iid_len = rows[i].iid_len, r.sid_len = rows[i].sid_len, r.val_len = r.iid_len * r.sid_len;
             r.flag = choice >> 1 & 1, r.order = choice >> 2;
-            for (size_t k = 0; k < 9; k++) val[k] = want[k] = small[k] = 9;
-            for (size_t k = 0; k < 6; k++) stats[k] = want_stats[k] = 7;
+            for (size_t k = 0; k < 9; k++) val[k] = want[k] = small[k] = 9, stats[k] = want_stats[k] = 7;
             if (a.number == 0) read_values(&r, -127, want);
             same(bed_read_i8(r.file, r.len, 5, 2, r.flag, r.iid_index, r.iid_len, r.sid_index, r.sid_len, -127, r.order, small, r.val_len), a);
             for (size_t k = 0; k < 9; k++)
@@ -318,9 +335,9 @@ static void lists_of_either_mode(void) {
                 read_values(&r, NAN, want);
                 a = standardise(want, r.iid_len, r.sid_len, r.order, true, false, want_stats);
             }
-            same(bed_read_standardised_f64(r.file, r.len, 5, 2, r.flag, r.iid_index, r.iid_len, r.sid_index, r.sid_len, r.order, val, r.val_len, stats, 2 * r.sid_len), a);
+            same(bed_read_standardised_f64(r.file, r.len, 5, 2, r.flag, r.iid_index, r.iid_len, r.sid_index, r.sid_len, r.order, val, r.val_len, stats, 3 * r.sid_len), a);
             same_floats(val, want, 9, "a value");
-            same_floats(stats, want_stats, 6, "a statistic");
+            same_floats(stats, want_stats, 9, "a statistic");
         }
     end();
 }
@@ -360,10 +377,10 @@ static void reading_calls(void) {
     for (int i = 0; i < 20000; i++) {
         double stats[64], want_stats[64];
         draw_reading(&r);
-        size_t stats_len = BED_STATS_PER_MARKER * r.sid_len + (draw(40) == 0);
+        size_t stats_len = draw_stats_len(r.sid_len);
         for (size_t k = 0; k < ROOM; k++) val[k] = want[k] = 9;
         for (size_t k = 0; k < 64; k++) stats[k] = want_stats[k] = 7;
-        bed_answer a = read_checks(&r, r.val_len, stats_len == 2 * r.sid_len);
+        bed_answer a = read_checks(&r, r.val_len, stats_len == 3 * r.sid_len);
         if (a.number == 0) {
             read_values(&r, NAN, want);
             a = standardise(want, r.iid_len, r.sid_len, r.order, true, false, want_stats);
@@ -459,34 +476,116 @@ static void packing(bool narrow) {
     end();
 }
 
+/* Document 02's records: mean, deviation, and how many values were observed. */
+static void records(void) {
+    begin("statistics of three numbers");
+
+    /* marker by marker: two observed; none, 13; three of one value; infinities of both signs, 14; one. A refused marker's record is as it was. */
+    static const double columns[5][3] = {{0, 2, NAN}, {NAN, NAN, NAN}, {1, 1, 1}, {INFINITY, -INFINITY, 0}, {NAN, NAN, 2}};
+    for (int choice = 0; choice < 4; choice++) {
+        bool order = choice & 1, apply = choice >> 1;
+        double val[15], want[15], stats[15], unused[15];
+        for (size_t k = 0; k < 15; k++) val[place(order, 3, 5, k % 3, k / 3)] = columns[k / 3][k % 3], stats[k] = 10 + (double)k;
+        memcpy(want, val, sizeof val);
+        standardise(want, 3, 5, order, apply, false, unused);
+        same(bed_impute_and_zero_mean_snps_f64(val, 15, 3, 5, order, apply, false, stats, 15), answer(13, 1, 0));
+        same_floats(val, want, 15, "a value");
+        same_floats(stats, (double[]){1, 1, 2, 13, 14, 15, 1, INFINITY, 3, 19, 20, 21, 2, INFINITY, 1}, 15, "a statistic");
+    }
+
+    /* F, of either mode and with pads set */
+    const double deviations[2] = {sqrt(0.6875), sqrt(1.2 - 0.8 * 0.8)};
+    const struct {
+        size_t iid_len;
+        int64_t iid_index[6];
+        uint64_t number;
+        double stats[6];
+    } rows[] = {
+        /* the animals in any order */
+        {5, {0, 1, 2, 3, 4}, 0, {1.25, deviations[0], 4, 0.8, deviations[1], 5}},
+        {5, {4, 3, 2, 1, 0}, 0, {1.25, deviations[0], 4, 0.8, deviations[1], 5}},
+        {5, {-3, 0, -1, 1, 3}, 0, {1.25, deviations[0], 4, 0.8, deviations[1], 5}},
+        /* an animal that is listed again is observed again; animal 1 has no call at marker 0 */
+        {6, {0, 1, 0, -5, 1, 0}, 0, {2, INFINITY, 4, 0, INFINITY, 6}},
+        {2, {1, -4}, 13, {7, 7, 7, 0, INFINITY, 2}},
+    };
+    for (size_t i = 0; i < sizeof rows / sizeof *rows; i++)
+        for (int choice = 0; choice < 6; choice++) {
+            int mode = choice % 3 > 0;
+            double val[12], stats[6] = {7, 7, 7, 7, 7, 7};
+            uint8_t file[8];
+            memcpy(file, f_files[mode], 8);
+            if (choice % 3 == 2) file[6] |= 0xF0;
+            same(bed_read_standardised_f64(file, f_len[mode], 5, 2, true, rows[i].iid_index, rows[i].iid_len, (int64_t[]){0, -1}, 2, choice / 3, val,
+                                           2 * rows[i].iid_len, stats, 6), answer(rows[i].number, 0, 0));
+            same_floats(stats, rows[i].stats, 6, "a statistic");
+        }
+
+    /* lent: the third may be anything, and nothing is written, so that these can be constants */
+    static const double fixed[3][6] = {{1, 2, 3, 0.5, -4, 0}, {1, 2, NAN, 0.5, -4, -INFINITY}, {1, 2, INFINITY, 0.5, -4, 1e300}};
+    for (int choice = 0; choice < 12; choice++) {
+        bool order = choice & 1, apply = choice >> 1 & 1;
+        double val[6] = {0, 2, NAN, 1, 1e300, -0.0}, want[6] = {0, 2, NAN, 1, 1e300, -0.0}, pairs[6] = {1, 2, 9, 0.5, -4, 9};
+        standardise(want, 3, 2, order, apply, true, pairs);
+        same(bed_impute_and_zero_mean_snps_f64(val, 6, 3, 2, order, apply, true, (double *)fixed[choice >> 2], 6), answer(0, 0, 0));
+        same_floats(val, want, 6, "a value");
+    }
+
+    /* 17 with no animals, by the count of markers and by the marker list: every length about 3 times as many, 2 times among them */
+    double stats[16], kept[16];
+    for (size_t k = 0; k < 16; k++) stats[k] = kept[k] = 20 + (double)k;
+    for (size_t sids = 0; sids < 5; sids++)
+        for (size_t len = 0; len <= 16; len++)
+            for (int choice = 0; choice < 8; choice++) {
+                bool order = choice & 1, lent = choice >> 2;
+                uint64_t number = len != 3 * sids ? 17 : sids && !lent ? 13 : 0;
+                same(bed_impute_and_zero_mean_snps_f64(NULL, 0, 0, sids, order, choice >> 1 & 1, lent, stats, len), answer(number, 0, 0));
+                if (choice < 2)
+                    same(bed_read_standardised_f64(f_files[1], f_len[1], 5, 2, true, NULL, 0, (int64_t[]){0, 1, 0, 1}, sids, order, NULL, 0, stats, len),
+                         answer(number, 0, 0));
+            }
+    /* 3 times the markers passes 2^64, and what is left is the length, or another */
+    for (int choice = 0; choice < 8; choice++)
+        for (size_t k = 1; k < 6; k++) {
+            bool order = choice & 1, apply = choice >> 1 & 1, lent = choice >> 2;
+            same(bed_impute_and_zero_mean_snps_f64(NULL, 0, 0, SIZE_MAX / 3 + k, order, apply, lent, stats, 3 * k - 1), answer(17, 0, 0));
+            same(bed_impute_and_zero_mean_snps_f64(NULL, 0, 0, TOO_LARGE - k, order, apply, lent, stats, 3 * k - 1), answer(17, 0, 0));
+        }
+    same_floats(stats, kept, 16, "a statistic");
+    end();
+}
+
 static void standardising(void) {
     begin("bed_impute_and_zero_mean_snps_f64");
     for (int i = 0; i < 20000; i++) {
         double val[ROOM], want[ROOM], stats[64], want_stats[64];
         size_t iids = draw_count(), sids = draw_count(), few = iids < 100 && sids < 100;
-        size_t val_len = (few ? iids * sids : 0) + (draw(40) == 0), stats_len = (sids < 100 ? 2 * sids : 0) + (draw(40) == 0);
+        size_t val_len = (few ? iids * sids : 0) + (draw(40) == 0), stats_len = draw_stats_len(sids < 100 ? sids : 0);
         bool order = draw(2), apply = draw(2), lent = draw(2);
         for (size_t k = 0; k < ROOM; k++) val[k] = want[k] = draw_value();
         for (size_t k = 0; k < 64; k++) stats[k] = want_stats[k] = draw_value();
         bed_answer a = answer(0, 0, 0);
         if (iids >= TOO_LARGE || sids >= TOO_LARGE) a = answer(18, 0, 0);
         else if ((unsigned __int128)iids * sids != val_len) a = answer(15, 0, 0);
-        else if ((unsigned __int128)2 * sids != stats_len) a = answer(17, 0, 0);
+        else if ((unsigned __int128)3 * sids != stats_len) a = answer(17, 0, 0);
         else a = standardise(want, iids, sids, order, apply, lent, want_stats);
         same(bed_impute_and_zero_mean_snps_f64(val, val_len, iids, sids, order, apply, lent, stats, stats_len), a);
         same_floats(val, want, ROOM, "a value");
         same_floats(stats, want_stats, 64, "a statistic");
     }
     /* "Column 0, 2, NaN: mean 1, deviation 1, values -1, 1, +0. Column 1, 1: deviation infinite, values +0." "All-NaN column: 13." */
-    double column[3] = {0, 2, NAN}, ones[2] = {1, 1}, none[2] = {NAN, NAN}, s[2] = {9, 9};
-    same(bed_impute_and_zero_mean_snps_f64(column, 3, 3, 1, false, true, false, s, 2), answer(0, 0, 0));
+    double column[3] = {0, 2, NAN}, ones[2] = {1, 1}, none[2] = {NAN, NAN}, s[3] = {9, 9, 9};
+    same(bed_impute_and_zero_mean_snps_f64(column, 3, 3, 1, false, true, false, s, 3), answer(0, 0, 0));
     same_floats(column, (double[]){-1, 1, 0}, 3, "a value");
-    same_floats(s, (double[]){1, 1}, 2, "a statistic");
-    same(bed_impute_and_zero_mean_snps_f64(ones, 2, 2, 1, true, true, false, s, 2), answer(0, 0, 0));
+    same_floats(s, (double[]){1, 1, 2}, 3, "a statistic");
+    same(bed_impute_and_zero_mean_snps_f64(ones, 2, 2, 1, true, true, false, s, 3), answer(0, 0, 0));
     same_floats(ones, (double[]){0, 0}, 2, "a value");
-    same_floats(s, (double[]){1, INFINITY}, 2, "a statistic");
-    same(bed_impute_and_zero_mean_snps_f64(none, 2, 2, 1, false, true, false, s, 2), answer(13, 0, 0));
+    same_floats(s, (double[]){1, INFINITY, 2}, 3, "a statistic");
+    same(bed_impute_and_zero_mean_snps_f64(none, 2, 2, 1, false, true, false, s, 3), answer(13, 0, 0));
+    same_floats(s, (double[]){1, INFINITY, 2}, 3, "a statistic");
     end();
+
+    records();
 
     begin("bed_root_f64");
     for (int i = 0; i < 200000; i++) {

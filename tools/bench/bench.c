@@ -173,7 +173,7 @@ READ(int8_t, c_read_i8)
 WRITE(double, c_write_f64)
 WRITE(int8_t, c_write_i8)
 
-static bool mean_and_deviation(double count, double sum, double squares, double *stats) {
+static bool find_stats(double count, double sum, double squares, double *stats) {
     if (count < 1)
         return false;
     double mean = sum / count, variance = squares / count - mean * mean;
@@ -182,7 +182,7 @@ static bool mean_and_deviation(double count, double sum, double squares, double 
     double deviation = sqrt(variance);
     if (deviation != deviation || deviation <= 0)
         deviation = INFINITY;
-    stats[0] = mean, stats[1] = deviation;
+    stats[0] = mean, stats[1] = deviation, stats[2] = count;
     return true;
 }
 
@@ -197,7 +197,7 @@ static ALONE bool c_standardise_marker(double *col, size_t n, double *stats) {
             count += 1;
         }
     }
-    if (!mean_and_deviation(count, sum, squares, stats))
+    if (!find_stats(count, sum, squares, stats))
         return false;
     double mean = stats[0], factor = 1 / stats[1];
     bool same = isinf(stats[1]);
@@ -222,17 +222,17 @@ static ALONE void c_count_row(const double *restrict row, size_t n, double *rest
 
 static ALONE void c_apply_row(double *restrict row, size_t n, const double *restrict stats, const double *restrict factor) {
     for (size_t m = 0; m < n; m++)
-        if (row[m] != row[m] || isinf(stats[2 * m + 1]))
+        if (row[m] != row[m] || isinf(stats[3 * m + 1]))
             row[m] = 0;
         else
-            row[m] = (row[m] - stats[2 * m]) * factor[m];
+            row[m] = (row[m] - stats[3 * m]) * factor[m];
 }
 
 static ALONE bool c_standardise(double *val, size_t iids, size_t sids, bool animal_order, double *stats) {
     bool good = true;
     if (!animal_order) {
         for (size_t m = 0; m < sids; m++)
-            good &= c_standardise_marker(val + m * iids, iids, stats + 2 * m);
+            good &= c_standardise_marker(val + m * iids, iids, stats + 3 * m);
         return good;
     }
     double *count = calloc(sids, sizeof *count), *sum = calloc(sids, sizeof *sum), *squares = calloc(sids, sizeof *squares);
@@ -240,10 +240,10 @@ static ALONE bool c_standardise(double *val, size_t iids, size_t sids, bool anim
     for (size_t i = 0; i < iids; i++)
         c_count_row(val + i * sids, sids, count, sum, squares);
     for (size_t m = 0; m < sids; m++)
-        good &= mean_and_deviation(count[m], sum[m], squares[m], stats + 2 * m);
+        good &= find_stats(count[m], sum[m], squares[m], stats + 3 * m);
     if (good) {
         for (size_t m = 0; m < sids; m++)
-            factor[m] = 1 / stats[2 * m + 1];
+            factor[m] = 1 / stats[3 * m + 1];
         for (size_t i = 0; i < iids; i++)
             c_apply_row(val + i * sids, sids, stats, factor);
     }
@@ -350,7 +350,7 @@ static void inputs(void) {
         iid_from_end[a] = iid_shuffled[a] - (a % 2 ? (int64_t)iids : 0);
     for (size_t m = 0; m < sids; m++)
         sid_order[m] = (int64_t)m;
-    val = room(calls * 8), start_m = room(calls * 8), start_a = room(calls * 8), stats = room(sids * 16);
+    val = room(calls * 8), start_m = room(calls * 8), start_a = room(calls * 8), stats = room(sids * 24);
     val8 = room(calls), start8_m = room(calls), start8_a = room(calls);
     c_read_f64(file1, iids, sids, true, iid_order, iids, sid_order, sids, NAN, false, start_m);
     c_read_f64(file1, iids, sids, true, iid_order, iids, sid_order, sids, NAN, true, start_a);
@@ -443,12 +443,12 @@ static bool our_write_i8(shape s) {
 }
 static bool c_row_write_i8(shape s) { return c_write_i8(s.animal_order ? start8_a : start8_m, iids, sids, s.animal_order, true, -127, packed); }
 static bool our_standardise(shape s) {
-    return done(bed_impute_and_zero_mean_snps_f64(val, calls, iids, sids, s.animal_order, true, false, stats, 2 * sids));
+    return done(bed_impute_and_zero_mean_snps_f64(val, calls, iids, sids, s.animal_order, true, false, stats, 3 * sids));
 }
 static bool c_row_standardise(shape s) { return c_standardise(val, iids, sids, s.animal_order, stats); }
 static bool our_joined(shape s) {
     return done(bed_read_standardised_f64(file_of(s), file_len(s), iids, sids, true, list_of(s), iids, sid_order, sids, s.animal_order, val, calls,
-                                          stats, 2 * sids));
+                                          stats, 3 * sids));
 }
 static bool c_row_joined(shape s) { return c_row_read_f64(s) && c_standardise(val, iids, sids, s.animal_order, stats); }
 static bool our_ata(shape s) {
@@ -522,7 +522,7 @@ static void row(shape s, int kind, bool in_place, bool (*ours)(shape), bool (*th
     double best[3] = {1e9, 1e9, 1e9};
     size_t n = leaves(kind, s), first = 0;
     bool same = true;
-    double *kept_stats = malloc(sids * 16);
+    double *kept_stats = malloc(sids * 24);
     unsigned char *kept = malloc(n);
     for (size_t r = 0; r < reps; r++)
         for (int side = 0; side < 3; side++) {
@@ -531,7 +531,7 @@ static void row(shape s, int kind, bool in_place, bool (*ours)(shape), bool (*th
             else if (r == 0)
                 memset(output(kind), 0x55, n);
             if (r == 0)
-                memset(stats, 0x55, sids * 16);
+                memset(stats, 0x55, sids * 24);
             double t = now();
             bool good = true;
             if (side == 0)
@@ -548,14 +548,14 @@ static void row(shape s, int kind, bool in_place, bool (*ours)(shape), bool (*th
             same &= good;
             if (r == first && side == 0) {
                 memcpy(kept, output(kind), n);
-                memcpy(kept_stats, stats, sids * 16);
+                memcpy(kept_stats, stats, sids * 24);
             }
             if (r == first && side == 1) {
                 if (kind == PACKED || kind == VAL8)
                     same &= memcmp(kept, output(kind), n) == 0;
                 else
                     same &= alike((double *)kept, output(kind), n / 8);
-                same &= kind != VAL_STATS || alike(kept_stats, stats, 2 * sids);
+                same &= kind != VAL_STATS || alike(kept_stats, stats, 3 * sids);
             }
         }
     double per = 1e9 / (double)calls;

@@ -13,8 +13,8 @@ from array import array
 
 from ._version import __version__
 
-# The numbers of a statistics record: BED_STATS_PER_MARKER of the header.
-STATS_PER_MARKER = 2
+# The numbers of a statistics record, BED_STATS_PER_MARKER of the header: mean, deviation, how many values were observed.
+STATS_PER_MARKER = 3
 
 # What a refusal says, by its number.
 WORDS = {

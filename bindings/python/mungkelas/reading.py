@@ -211,7 +211,8 @@ class open_bed:
         return val
 
     def read_standardised(self, index=None, order=None, *, out=None, num_threads=None, progress=None):
-        """The same calls standardised, as float64, and the statistics, a row for each marker read: mean, deviation.
+        """The same calls standardised, as float64, and the statistics, a row for each marker read: mean, deviation, and how
+        many of the calls are not missing.
 
         A value is (value - mean) * (1 / deviation), and 0 where the call is missing or the marker's calls are all one
         value. A marker without calls is refused (13); out then holds what bed_read_standardised_f64 leaves. In order 'C'

@@ -82,7 +82,7 @@ def standardised(calls):
         deviation = np.sqrt(variance)
         deviation[~(deviation > 0)] = np.inf
         values = np.where(np.isnan(values) | np.isinf(deviation), 0, (values - mean) * (1 / deviation))
-    return values, np.array([mean, deviation, count])[:core.STATS_PER_MARKER].T.copy()
+    return values, np.array([mean, deviation, np.count_nonzero(calls != MISSING, axis=0)]).T.copy()
 
 
 # ---- parts

@@ -158,16 +158,11 @@ def test_packing():
     refused(4, 0, 0, core.write_i8, array("b"), 2**63 - 1, 8, False, True, 0, out)
 
 
-def record(mean, deviation, count):
-    return [mean, deviation, count][:core.STATS_PER_MARKER]
-
-
 def test_standardising():
-    size = core.STATS_PER_MARKER
-    val, stats = array("d", [0, 2, NAN, 1, 1, NAN]), array("d", [9] * 2 * size)
+    val, stats = array("d", [0, 2, NAN, 1, 1, NAN]), array("d", [9] * 6)
     core.impute_and_zero_mean_snps_f64(val, 3, 2, False, True, False, stats)
     same(val.tolist(), [-1, 1, 0, 0, 0, 0], "two standardised columns")
-    same(stats.tolist(), record(1, 1, 2) + record(1, math.inf, 2), "their statistics")
+    same(stats.tolist(), [1, 1, 2, 1, math.inf, 2], "their statistics")
     val = array("d", [0, 1, 2, 1, NAN, NAN])
     core.impute_and_zero_mean_snps_f64(val, 3, 2, True, False, False, stats)
     same(floats(val), [0, 1, 2, 1, "NaN", "NaN"], "values that are not to be changed")
@@ -175,13 +170,13 @@ def test_standardising():
     same(val.tolist(), [-1, 0, 1, 0, 0, 0], "values by lent statistics")
     standardise, infinite = core.impute_and_zero_mean_snps_f64, array("d", [math.inf, -math.inf])
     refused(13, 1, 0, standardise, array("d", [0, 2, NAN, NAN]), 2, 2, False, True, False, stats)
-    refused(14, 0, 0, standardise, infinite, 2, 1, False, True, False, stats[:size])
+    refused(14, 0, 0, standardise, infinite, 2, 1, False, True, False, stats[:3])
     refused(15, 0, 0, standardise, val, 3, 3, False, True, False, stats)
     refused(17, 0, 0, standardise, val, 3, 2, False, True, False, stats[1:])
     for order in (False, True):
-        val, one = array("d", [9, 9]), array("d", [9] * size)
+        val, one = array("d", [9, 9]), array("d", [9] * 3)
         core.read_standardised_f64(F, 5, 2, True, [0, 3], [0], order, val, one)
-        same((val.tolist(), one.tolist()), ([1, -1], record(1, 1, 2)), "read and standardised")
+        same((val.tolist(), one.tolist()), ([1, -1], [1, 1, 2]), "read and standardised")
         refused(13, 0, 0, core.read_standardised_f64, F, 5, 2, True, [1, 1], [0], order, val, one)
         refused(17, 0, 0, core.read_standardised_f64, F, 5, 2, True, [0, 3], [0], order, val, array("d"))
         for file in (F, F_MODE_0):
@@ -190,6 +185,52 @@ def test_standardising():
             refused(6, 3, 0, core.read_standardised_f64, file, 5, 2, True, [0, 3], [3], order, val, one)
     same([core.root_f64(v) for v in (2, 9, 0, math.inf)], [math.sqrt(2), 3, 0, math.inf], "roots")
     same(floats([core.root_f64(-1.0), core.root_f64(NAN)]), ["NaN"] * 2, "roots of what has none")
+
+
+def record(column):
+    """Mean, deviation and how many values are not NaN, in plain Python; None if the marker is refused."""
+    seen = [v for v in column if v == v]
+    if not seen or math.isnan(sum(seen)):
+        return None
+    mean = sum(seen) / len(seen)
+    variance = sum(v * v for v in seen) / len(seen) - mean * mean
+    return [mean, math.sqrt(variance) if variance > 0 else math.inf, len(seen)]
+
+
+def test_records():
+    standardise, joined = core.impute_and_zero_mean_snps_f64, core.read_standardised_f64
+    values = [0, 1, 2, NAN, NAN, math.inf, -math.inf]
+    for _ in range(300):
+        iids, sids, order, apply = draw.randrange(6), draw.randrange(5), draw.randrange(2), draw.randrange(2)
+        columns = [draw.choices(values[:draw.choice([5, 7])], k=iids) for _ in range(sids)]
+        val = array("d", [v for line in (zip(*columns) if order else columns) for v in line])
+        records = [record(column) for column in columns]
+        stats = array("d", range(100, 100 + 3 * sids))
+        want = [kept if one is None else one[k % 3] for k, kept in enumerate(stats) for one in [records[k // 3]]]
+        if None in records:
+            lowest = records.index(None)
+            number = 14 if any(v == v for v in columns[lowest]) else 13
+            refused(number, lowest, 0, standardise, val, iids, sids, order, apply, False, stats)
+        else:
+            standardise(val, iids, sids, order, apply, False, stats)
+        same(stats.tolist(), want, "drawn statistics")
+    for order in (False, True):
+        for third in (3, 0, NAN, math.inf, -1e300):
+            val, stats = array("d", [0, 2, NAN]), array("d", [1, 2, third])
+            lent = stats.tobytes()
+            standardise(val, 3, 1, order, True, True, stats)
+            same((val.tolist(), stats.tobytes()), ([-0.5, 0.5, 0], lent), "lent statistics, whatever the third is")
+        for length in (0, 3, 4, 5, 7, 9):  # for two markers
+            stats = array("d", [9] * length)
+            for use_stats in (False, True):
+                refused(17, 0, 0, standardise, array("d", [0, 2]), 1, 2, order, True, use_stats, stats)
+            refused(17, 0, 0, joined, F, 5, 2, True, [0], [0, 1], order, array("d", [0, 2]), stats)
+        refused(17, 0, 0, joined, F, 5, 2, True, [0], [0], order, array("d", [0]), array("d", [9] * 6))
+        for markers, length in ((2**64 // 3 + 1, 2), (2**64 // 3 + 2, 5), (2**63 - 1, 0)):
+            refused(17, 0, 0, standardise, array("d"), 0, markers, order, True, False, array("d", [9] * length))
+        stats = array("d", [9] * 6)
+        joined(F, 5, 2, True, [0, 1, 0, -5], [0, 1], order, array("d", [9] * 8), stats)
+        same(stats.tolist(), [2, math.inf, 3, 0, math.inf, 4], "an animal that is listed again is observed again")
 
 
 def test_lists():
@@ -356,6 +397,7 @@ test_headers_widths_spans()
 test_reading()
 test_packing()
 test_standardising()
+test_records()
 test_lists()
 test_products()
 test_drawn()

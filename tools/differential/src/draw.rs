@@ -277,7 +277,7 @@ fn sized(name: &str, r: &mut Rng, most: u64) -> Case {
             let mut args = vec![B(file), N(iids), N(sids), N(r.flag()), B(iid_index), B(sid_index.clone())];
             let n = r.length(right);
             if name == "read_standardised_f64" {
-                let k = r.length(2 * sid_index.len());
+                let k = r.length(3 * sid_index.len());
                 args.extend([N(r.flag()), B(r.old(Kind::F64, n)), B(r.old(Kind::F64, k))]);
             } else {
                 let missing = if kind == Kind::I8 { r.pick(I8_MISSING) } else { f64_missing(r) };
@@ -321,7 +321,9 @@ fn sized(name: &str, r: &mut Rng, most: u64) -> Case {
                     _ => (r.below(1 << 20) as f64 / 1024.0 - 300.0).to_bits(),
                 })
                 .collect();
-            let k = room(2, sids);
+            // Three a marker, also where that wraps to a length.
+            let k = sids.wrapping_mul(3);
+            let k = if k < 3 * LONG { k as usize } else { 20 };
             let k = if r.once_in(12) { r.length(k) } else { k };
             vec![B(val), N(iids), N(sids), N(r.flag()), N(r.flag()), N(r.flag()), B(r.old(Kind::F64, k))]
         }

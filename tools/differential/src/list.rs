@@ -117,7 +117,7 @@ pub fn by_hand() -> Vec<Case> {
                 add("read_f64", with(vec![N(NAN), N(order), old(places)]));
             }
             if choice == 0 || choice == 3 {
-                add("read_standardised_f64", with(vec![N(order), old(places), old(2 * sid_index.len())]));
+                add("read_standardised_f64", with(vec![N(order), old(places), old(3 * sid_index.len())]));
             }
         }
     };
@@ -184,9 +184,18 @@ pub fn by_hand() -> Vec<Case> {
     }
 
     // The joined call's buffers: 18 and 17, 15 and 17, 17 and 1.
-    for (file, iids, places, stats) in [(&F[..], TOP + 1, 4, 3), (&F[..], 5, 3, 3), (&F[..], 5, 5, 6), (&F[..2], 5, 4, 2)] {
+    for (file, iids, places, stats) in [(&F[..], TOP + 1, 4, 4), (&F[..], 5, 3, 4), (&F[..], 5, 5, 9), (&F[..2], 5, 4, 3)] {
         for order in 0..2 {
             add("read_standardised_f64", vec![B(file.to_vec()), N(iids), N(2), N(1), B(all(2)), B(all(2)), N(order), old(places), old(stats)]);
+        }
+    }
+    // 17 alone: two numbers for each of two markers, one less and one more than three; the file's two markers, but one in the list. Then an animal that is
+    // listed again, which is observed again, and one that has no call at marker 0.
+    let (one, again) = (vec![0], vec![0, 1, 0, neg(5), 1]);
+    for (iids, sids, stats) in [(&one, 2, 4), (&one, 2, 5), (&one, 2, 7), (&one, 1, 6), (&again, 2, 6), (&vec![1, 1], 2, 6)] {
+        for order in 0..2 {
+            let places = old(iids.len() * sids as usize);
+            add("read_standardised_f64", vec![B(F.to_vec()), N(5), N(2), N(1), B(iids.clone()), B(all(sids)), N(order), places, old(stats)]);
         }
     }
 
@@ -262,7 +271,7 @@ pub fn by_hand() -> Vec<Case> {
             let out = 3 + (iids.div_ceil(4) * sids) as usize;
             add("write_i8", vec![B(values.clone()), N(iids), N(sids), N(order), N(order), N(0x81), old8(out)]);
             add("write_f64", vec![B(floats.clone()), N(iids), N(sids), N(order), N(1 - order), N(NAN), old8(out)]);
-            add("impute_and_zero_mean_snps_f64", vec![B(floats.clone()), N(iids), N(sids), N(order), N(1), N(0), old(2 * sids as usize)]);
+            add("impute_and_zero_mean_snps_f64", vec![B(floats.clone()), N(iids), N(sids), N(order), N(1), N(0), old(3 * sids as usize)]);
         }
         add("encode1_i8", vec![B(values.clone()), old8(values.len().div_ceil(4)), N(1), N(0x81)]);
         add("encode1_f64", vec![B(floats.clone()), old8(values.len().div_ceil(4)), N(0), N(NAN)]);
@@ -276,15 +285,18 @@ pub fn by_hand() -> Vec<Case> {
                 vec![B(bits(val)), N(iids), N(sids), N(choice & 1), N(choice >> 1 & 1), N(choice >> 2), B(bits(stats))],
             );
         };
-        impute(&[0.0, 2.0, f64::NAN], 3, 1, &[1.5, 0.25]);
-        impute(&[1.0, 1.0], 2, 1, &[0.5, f64::NEG_INFINITY]);
-        impute(&[f64::NAN, f64::NAN], 2, 1, &[0.5, 0.75]);
-        impute(&[0.0, 2.0, f64::NAN, 1.0, f64::NAN, f64::NAN, 2.0, 0.1, f64::NAN], 3, 3, &[1.0, 2.0, 3.0, 4.0, 5.0, 0.0]);
-        impute(&[f64::INFINITY, 0.0, f64::NEG_INFINITY, 1.0], 2, 2, &[0.5, 0.75, -0.0, -1.0]);
-        impute(&[0.1, 0.2, 0.3, 0.7, 1e300, -1e300], 3, 2, &[f64::NAN, 0.75, f64::INFINITY, 1e-300]);
-        impute(&[1.0, 2.0], 1, 2, &[0.5, 0.75]);
-        impute(&[f64::NAN, f64::NAN], 1, 2, &[0.5, 0.75, 0.5, 0.75]);
-        impute(&[1.0], 1, 2, &[0.5, 0.75, 0.5, 0.75]);
+        impute(&[0.0, 2.0, f64::NAN], 3, 1, &[1.5, 0.25, f64::NAN]);
+        impute(&[1.0, 1.0], 2, 1, &[0.5, f64::NEG_INFINITY, f64::INFINITY]);
+        impute(&[f64::NAN, f64::NAN], 2, 1, &[0.5, 0.75, 0.875]);
+        impute(&[0.0, 2.0, f64::NAN, 1.0, f64::NAN, f64::NAN, 2.0, 0.1, f64::NAN], 3, 3, &[1.0, 2.0, 9.0, 3.0, 4.0, -9.0, 5.0, 0.0, 0.0]);
+        impute(&[f64::INFINITY, 0.0, f64::NEG_INFINITY, 1.0], 2, 2, &[0.5, 0.75, f64::NEG_INFINITY, -0.0, -1.0, -0.0]);
+        impute(&[0.1, 0.2, 0.3, 0.7, 1e300, -1e300], 3, 2, &[f64::NAN, 0.75, 1e300, f64::INFINITY, 1e-300, f64::NAN]);
+        impute(&[f64::NAN, f64::NAN], 1, 2, &[0.5, 0.75, 0.875, 0.5, 0.75, 0.875]);
+        impute(&[1.0], 1, 2, &[0.5, 0.75, 0.875, 0.5, 0.75, 0.875]);
+        // 17: one record for two markers, two numbers for each, one number less and one more.
+        for n in [3, 4, 5, 7] {
+            impute(&[1.0, 2.0], 1, 2, &[0.5, 0.75, 0.875, 0.5, 0.75, 0.875, 0.5][..n]);
+        }
         // 14 of one marker among others, then 13 and 14 together, the one or the other at the lower marker: markers of two animals.
         let columns = |columns: &[[f64; 2]]| -> Vec<f64> {
             let by_marker = columns.concat();
@@ -296,22 +308,27 @@ pub fn by_hand() -> Vec<Case> {
             }
         };
         let (good, none, wild) = ([0.0, 2.0], [f64::NAN; 2], [f64::NEG_INFINITY, f64::INFINITY]);
-        let stats = [0.5, 0.75, 1.5, 1.75, 2.5, 2.75, 3.5, 3.75];
-        impute(&columns(&[wild, good]), 2, 2, &stats[..4]);
-        impute(&columns(&[good, wild, [1.0, f64::NAN]]), 2, 3, &stats[..6]);
+        let stats = [0.5, 0.75, 0.875, 1.5, 1.75, 1.875, 2.5, 2.75, 2.875, 3.5, 3.75, 3.875];
+        impute(&columns(&[wild, good]), 2, 2, &stats[..6]);
+        impute(&columns(&[good, wild, [1.0, f64::NAN]]), 2, 3, &stats[..9]);
         impute(&columns(&[good, none, wild, [2.0, 1.0]]), 2, 4, &stats);
         impute(&columns(&[wild, [2.0, 1.0], none, good]), 2, 4, &stats);
         // 15 and 17.
         impute(&[1.0], 1, 2, &[0.5]);
-        impute(&[1.0, 2.0, 1.0], 1, 2, &stats[..6]);
+        impute(&[1.0, 2.0, 1.0], 1, 2, &stats[..9]);
+    }
+    // 17 where three times the markers wraps to the length.
+    for use_stats in 0..2 {
+        add("impute_and_zero_mean_snps_f64", vec![B(vec![]), N(0), N(u64::MAX / 3 + 1), N(0), N(1), N(use_stats), old(2)]);
+        add("impute_and_zero_mean_snps_f64", vec![B(vec![]), N(0), N(u64::MAX / 3 + 2), N(1), N(1), N(use_stats), old(5)]);
     }
     // 18 and 15, 18 and 17.
-    add("impute_and_zero_mean_snps_f64", vec![old(3), N(TOP + 1), N(2), N(0), N(1), N(0), old(4)]);
-    add("impute_and_zero_mean_snps_f64", vec![old(3), N(2), N(TOP + 1), N(1), N(1), N(0), old(4)]);
+    add("impute_and_zero_mean_snps_f64", vec![old(3), N(TOP + 1), N(2), N(0), N(1), N(0), old(6)]);
+    add("impute_and_zero_mean_snps_f64", vec![old(3), N(2), N(TOP + 1), N(1), N(1), N(0), old(6)]);
     add("impute_and_zero_mean_snps_f64", vec![B(vec![]), N(TOP), N(0), N(0), N(1), N(0), B(vec![])]);
     add("impute_and_zero_mean_snps_f64", vec![B(vec![]), N(0), N(TOP), N(1), N(1), N(0), B(vec![])]);
     add("impute_and_zero_mean_snps_f64", vec![B(vec![]), N(TOP + 1), N(0), N(1), N(1), N(0), B(vec![])]);
-    add("impute_and_zero_mean_snps_f64", vec![B(vec![]), N(0), N(2), N(0), N(1), N(0), old(4)]);
+    add("impute_and_zero_mean_snps_f64", vec![B(vec![]), N(0), N(2), N(0), N(1), N(0), old(6)]);
 
     // Lists.
     for (count, n) in [(0, 0), (1, 0), (3, 3), (3, 5), (TOP, 3), (TOP + 1, 3)] {
@@ -498,7 +515,8 @@ fn wrong(case: &Case, right: &Outcome) -> Vec<Outcome> {
 }
 
 /// Lines that must be reported as differing: of each call's shortest case by hand whose answer is done and in which no written buffer has fewer
-/// than two places, the answers that are wrong in one thing; then wrong refusals of bad lists; then lines that break the form.
+/// than two places, the answers that are wrong in one thing; then wrong refusals of bad lists; then wrong thirds of records; then lines that break the
+/// form.
 fn controls(folder: &Folder) -> Vec<String> {
     let mut lines = vec![];
     for (name, _) in CALLS {
@@ -517,6 +535,15 @@ fn controls(folder: &Folder) -> Vec<String> {
             let case = by_hand().into_iter().find(is_it).expect("a case by hand");
             lines.push(format!("2 {}|{}", case.line(), case.unwritten(number, entry, 0).line()));
         }
+    }
+    // Thirds of records: for the count the animals, the mean; for a lent one the count; for those of two refused markers, of 13 and of 14, their counts.
+    let (one, four) = (bits(&[0.0, 2.0, f64::NAN]), bits(&[0.0, 2.0, f64::NAN, f64::NAN, f64::NEG_INFINITY, f64::INFINITY, 2.0, 1.0]));
+    for (val, use_stats, place, third) in [(&one, 0, 2, 3.0f64), (&one, 0, 2, 1.0), (&one, 1, 2, 2.0), (&four, 0, 5, 0.0), (&four, 0, 8, 2.0)] {
+        let is_it = |case: &Case| case.name().starts_with("impute") && case.bits(0) == val && case.num(5) == use_stats;
+        let case = by_hand().into_iter().find(is_it).expect("a case by hand");
+        let mut wrong = want(&case, folder).outcome.expect("an answer");
+        wrong.written[1][place] = third.to_bits();
+        lines.push(format!("2 {}|{}", case.line(), wrong.line()));
     }
     // Call 2 of 4 and 1 is answered 0 1 0: a word too few or too many, a section too few or too many, no such call, a space too many, no digit, a
     // capital letter, more than 64 bits. A file of 65 bytes 9 is answered 2 0 0.
@@ -548,7 +575,8 @@ pub fn print(seed: u64, folder: &Folder) {
     );
     println!("# had, and run on one thread. What indexing, views, strides and iteration order give is the stand-ins'. tools/differential says how.");
     println!("# Made by: differential list seed={seed}. A line is a case, in hexadecimal words: whose answer it is (0 the original's; 1 document 01's or 02's, at a");
-    println!("# difference that docs/DIFFERENCES.md names), the call, its parameters, the answer. tools/differential/README.md has the form.");
+    println!("# difference that docs/DIFFERENCES.md names), the call, its parameters, the answer. The third number of a statistics record, which the original");
+    println!("# has not, is document 02's. tools/differential/README.md has the form.");
     for case in cases(seed, folder) {
         let want = want(&case, folder);
         if let Some(outcome) = want.outcome {

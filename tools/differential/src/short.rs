@@ -83,7 +83,7 @@ pub fn each(name: &str, f: &mut dyn FnMut(Case)) {
                 match name {
                     "read_i8" => args.extend([N(0x81), N(order), old()]),
                     "read_f64" => args.extend([N(f64::NAN.to_bits()), N(order), old()]),
-                    _ => args.extend([N(order), old(), B(vec![9; 2 * sid_index.len()])]),
+                    _ => args.extend([N(order), old(), B(vec![9; 3 * sid_index.len()])]),
                 }
                 f(Case::new(name, args));
             };
@@ -177,7 +177,7 @@ pub fn each(name: &str, f: &mut dyn FnMut(Case)) {
                     for sids in 0..=4 {
                         if iids * sids == val.len() as u64 {
                             for choice in 0..8 {
-                                let stats: Vec<u64> = (0..2 * sids).map(|i| (i as f64 + 0.5).to_bits()).collect();
+                                let stats: Vec<u64> = (0..3 * sids).map(|i| (i as f64 + 0.5).to_bits()).collect();
                                 let args = vec![B(val.to_vec()), N(iids), N(sids), N(choice & 1), N(choice >> 1 & 1), N(choice >> 2), B(stats)];
                                 f(Case::new(name, args));
                             }

@@ -112,7 +112,7 @@ pub fn want(c: &Case, folder: &Folder) -> Want {
         "write_f64" => write(c, folder, c.f64s(0), f64::from_bits(c.num(5))),
         "canonical" => canonical(c, folder),
         "impute_and_zero_mean_snps_f64" => {
-            let (mut val, mut stats) = (c.f64s(0), c.f64s(6));
+            let (mut val, stats) = (c.f64s(0), c.f64s(6));
             let shape = (n(1), n(2));
             if c.num(1) > TOP || c.num(2) > TOP {
                 return document(Did::NotRun, c.unwritten(18, 0, 0), "18 added");
@@ -120,17 +120,13 @@ pub fn want(c: &Case, folder: &Folder) -> Want {
             if product(shape) != val.len() as u128 {
                 return document(Did::NotRun, c.unwritten(15, 0, 0), "15, outside the domain");
             }
-            let ask = |val: &mut [f64], stats: &mut [f64]| {
-                let records = stats.len() / 2;
-                guarded(|| ask_impute(val, shape, c.flag(3), c.flag(4), c.flag(5), stats, records))
-            };
-            if stats.len() as u128 != 2 * shape.1 as u128 {
-                let even = stats.len() / 2 * 2;
-                let did = if shape.1 as u64 > MOST { Did::NotRun } else { did(ask(&mut val, &mut stats[..even])) };
+            if stats.len() as u128 != 3 * shape.1 as u128 {
+                // The original is lent the records that are whole.
+                let mut ask = || guarded(|| ask_impute(&mut val, shape, c.flag(3), c.flag(4), c.flag(5), &mut pairs(&stats), stats.len() / 3));
+                let did = if shape.1 as u64 > MOST { Did::NotRun } else { did(ask()) };
                 return document(did, c.unwritten(17, 0, 0), "17 added");
             }
-            let said = ask(&mut val, &mut stats).map(|s| with_marker(s, &c.f64s(0), shape, c.flag(3)));
-            original(said, vec![f64_bits(&val), f64_bits(&stats)])
+            standardise(val, shape, c.flag(3), c.flag(4), c.flag(5), stats)
         }
         "read_standardised_f64" => joined(c, folder),
         "file_ata_piece" => piece(c, folder, true),
@@ -360,26 +356,41 @@ fn canonical(c: &Case, folder: &Folder) -> Want {
     original(Some(DONE), vec![u8_bits(&files[0])])
 }
 
-/// The lowest marker that the original refuses when it is standardised alone: what 13 and 14 carry is added.
-fn with_marker(s: Said, val: &[f64], shape: (usize, usize), animal_order: bool) -> Said {
-    if s.number != 13 && s.number != 14 {
-        return s;
+/// The original's part of each whole record: its mean and its deviation.
+fn pairs(stats: &[f64]) -> Vec<f64> {
+    stats.chunks_exact(3).flat_map(|record| [record[0], record[1]]).collect()
+}
+
+/// Standardising, after 18, 15 and 17. The original has no third number of a record: that is document 02's, the count of the marker's values that are
+/// not NaN, and what was there if the marker is refused or the statistics are lent. What 13 and 14 carry is added, the lowest refused marker; the
+/// refused ones are those that the original refuses when each is standardised alone.
+fn standardise(mut val: Vec<f64>, shape: (usize, usize), animal_order: bool, apply_in_place: bool, use_stats: bool, mut stats: Vec<f64>) -> Want {
+    let at = |i: usize, j: usize| if animal_order { i * shape.1 + j } else { j * shape.0 + i };
+    let columns: Vec<Vec<f64>> = (0..shape.1).map(|j| (0..shape.0).map(|i| val[at(i, j)]).collect()).collect();
+    let mut pairs = pairs(&stats);
+    let mut said = guarded(|| ask_impute(&mut val, shape, animal_order, apply_in_place, use_stats, &mut pairs, shape.1));
+    let mut refused = vec![false; shape.1];
+    if let Some(s) = said.as_mut().filter(|s| s.number == 13 || s.number == 14) {
+        let alone = |column: &Vec<f64>| ask_impute(&mut column.clone(), (shape.0, 1), false, false, false, &mut [0.0, 0.0], 1).number;
+        let numbers: Vec<u64> = columns.iter().map(alone).collect();
+        refused = numbers.iter().map(|&n| n != 0).collect();
+        let lowest = refused.iter().position(|&r| r).expect("a refused marker");
+        assert_eq!(numbers[lowest], s.number, "the first refused marker gives the error");
+        s.first = lowest as i64;
     }
-    for j in 0..shape.1 {
-        let mut column: Vec<f64> = (0..shape.0).map(|i| val[if animal_order { i * shape.1 + j } else { j * shape.0 + i }]).collect();
-        let alone = ask_impute(&mut column, (shape.0, 1), false, false, false, &mut [0.0, 0.0], 1);
-        if alone.number != 0 {
-            assert_eq!(alone.number, s.number, "the first refused marker gives the error");
-            return Said { first: j as i64, ..s };
+    for (j, record) in stats.chunks_exact_mut(3).enumerate() {
+        record[..2].copy_from_slice(&pairs[2 * j..2 * j + 2]);
+        if !use_stats && !refused[j] {
+            record[2] = columns[j].iter().filter(|v| !v.is_nan()).count() as f64;
         }
     }
-    panic!("no marker is refused")
+    original(said, vec![f64_bits(&val), f64_bits(&stats)])
 }
 
 fn joined(c: &Case, folder: &Folder) -> Want {
     let file = c.u8s(0);
     let (iids, sids) = (c.i64s(4), c.i64s(5));
-    let (mut val, mut stats) = (c.f64s(7), c.f64s(8));
+    let (mut val, stats) = (c.f64s(7), c.f64s(8));
     let shape = (iids.len(), sids.len());
     if c.num(1) > TOP || c.num(2) > TOP {
         return document(Did::NotRun, c.unwritten(18, 0, 0), "18 added");
@@ -387,7 +398,7 @@ fn joined(c: &Case, folder: &Folder) -> Want {
     if product(shape) != val.len() as u128 {
         return document(Did::NotRun, c.unwritten(15, 0, 0), "15, outside the domain");
     }
-    if stats.len() != 2 * shape.1 {
+    if stats.len() != 3 * shape.1 {
         return document(Did::NotRun, c.unwritten(17, 0, 0), "17 added");
     }
     let r = Reading {
@@ -404,9 +415,7 @@ fn joined(c: &Case, folder: &Folder) -> Want {
     if said != Some(DONE) {
         return read_want(c, &r, file.get(2), said, before_6, vec![f64_bits(&val), f64_bits(&stats)]);
     }
-    let values = val.clone();
-    let said = guarded(|| ask_impute(&mut val, shape, r.animal_order, true, false, &mut stats, shape.1));
-    original(said.map(|s| with_marker(s, &values, shape, r.animal_order)), vec![f64_bits(&val), f64_bits(&stats)])
+    standardise(val, shape, r.animal_order, true, false, stats)
 }
 
 fn list(c: &Case, asked: &Asked, above: bool) -> Want {
