@@ -794,6 +794,8 @@ def test_example():
     text = open(os.path.join(root, "README.md")).read()
     same(run("standardise", "examples/small", "-o", "small.npy")[1] in re.sub(r"^    ", "", text, flags=re.M), True, "README: standardise")
     same(run("check", "examples/small")[1] in re.sub(r"^    ", "", text, flags=re.M), True, "README: check")
+    same(run("freq", "examples/small", "-o", "small.freq")[1] in re.sub(r"^    ", "", text, flags=re.M), True, "README: freq")
+    same(get("small.freq").decode() in re.sub(r"^    ", "", text, flags=re.M), True, "README: the table")
     shown = [line.split() for line in open("examples/small.out")]
     values = [[f"{x:.6f}" for x in row] for row in load("small.npy")[1]]
     stats = [[f"{mean:.6f},", f"{deviation:.6f},", f"{observed:.0f}"] for mean, deviation, observed in load("small.stats.npy")[1]]
