@@ -38,7 +38,7 @@ static void add_field(struct table *t, struct bytes field, const char *absent) {
     add(t, "\t", 1);
 }
 
-/* No counts: each number as long as it can be. */
+/* The counts and the frequency; without counts, each as long as it can be. */
 static void add_numbers(struct table *t, const uint64_t *counts, size_t animals) {
     uint64_t most[BED_COUNTS_PER_MARKER] = {animals, animals, animals, animals};
     const uint64_t *n = counts ? counts : most;
@@ -72,7 +72,7 @@ void freq(const struct herd *h) {
     spare_own_files(h, o->out);
     size_t room = lay_out(h, NULL, NULL, 0);
     uint8_t *out = make_output(o->out, room);
-    struct counting counting = {h, room_for(h->sid_len, BED_COUNTS_PER_MARKER * sizeof *counting.counts)};
+    struct counting counting = {h, room_for(h->sid_len, BED_COUNTS_PER_MARKER * sizeof(uint64_t))};
     size_t a_part = lines_a_part(h->sid_len, h->iid_len / 4 + 1, !h->mode_1, o->threads);
     bed_answer a = run_parts(&(struct run){"counting", o->quiet, h->sid_len, a_part, o->threads, count_part, &counting});
     if (a.number) refuse(h, a);

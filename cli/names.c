@@ -123,9 +123,9 @@ struct bytes next_marker(struct bytes *bim) {
 }
 
 void next_fields(struct bytes *bim, struct bytes fields[BIM_FIELDS]) {
-    struct bytes line = none;
-    next_line(bim, &line);
-    for (size_t i = 0; i < BIM_FIELDS; i++) fields[i] = next_word(&line);
+    struct bytes line;
+    bool found = next_line(bim, &line);
+    for (size_t i = 0; i < BIM_FIELDS; i++) fields[i] = found ? next_word(&line) : none;
 }
 
 /* Every word of the list is a name. */
