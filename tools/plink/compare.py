@@ -61,11 +61,13 @@ def make_bed(program, version, prefix, *more):
 
 
 def theirs_counted(program, version, *more):
-    """PLINK's counts, as the first eight columns of `freq`; None if it counted nothing. PLINK 2 counts pads that are set, so it has the canonical file."""
+    """PLINK's counts, as the first eight columns of `freq`; None if it is refused. PLINK 2 counts set pads, so it has the canonical file."""
     if version == "plink1":
-        command, end, places = ["--bfile", "drawn", "--freqx", "--nonfounders", "--keep-allele-order", "--allow-no-sex"], ".frqx", (0, 1, 2, 3, 4, 5, 6, 9)
+        command = ["--bfile", "drawn", "--freqx", "--nonfounders", "--keep-allele-order", "--allow-no-sex"]
+        end, places = ".frqx", (0, 1, 2, 3, 4, 5, 6, 9)
     else:
-        command, end, places = ["--bfile", "ours", "--geno-counts", "--threads", "1"], ".gcount", (0, 1, 3, 2, 6, 5, 4, 9)
+        command = ["--bfile", "ours", "--geno-counts", "--threads", "1"]
+        end, places = ".gcount", (0, 1, 3, 2, 6, 5, 4, 9)
     status, said = run(program, "--out", "theirs", *command, *more)
     return None if status else [[words[i] for i in places] for words in rows("theirs" + end)]
 
@@ -142,6 +144,8 @@ def compare():
             for version, program in programs:
                 theirs = theirs_counted(program, version, *more) if program else None
                 if theirs is None:
+                    if program and mode and not more:
+                        differ("file {}: {} counted nothing".format(n, version))
                     continue
                 compared[version][2] += len(theirs)
                 if status or [words[:8] for words in rows("ours.freq")] != theirs:
