@@ -79,5 +79,6 @@ void freq(const struct herd *h) {
     cut_output(lay_out(h, counting.counts, out, room));
     free(counting.counts);
     keep_outputs();
-    if (!o->quiet) printf("%s: counts of %zu %s at %zu %s\n", o->out, COUNTED(h->iid_len, "animal", "animals"), COUNTED(h->sid_len, "marker", "markers"));
+    if (!o->quiet)
+        printf("%s: counts of %zu %s at %zu %s\n", o->out, COUNTED(h->iid_len, "animal", "animals"), COUNTED(h->sid_len, "marker", "markers"));
 }

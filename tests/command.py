@@ -305,8 +305,8 @@ def test_freq():
                     same(get("out2") == get("out"), True, f"{what}: {threads} threads as one")
     same(left(), ["out", "out2"], "freq: the files left")
     # frequencies of every length
-    for two, one, none, word in ((0, 0, 1, "0"), (1, 0, 0, "1"), (0, 1, 0, "0.5"), (1, 0, 2, "0.333333"), (0, 1, 1001, "0.000499002"), (0, 1, 4050, "0.000123426"),
-                                 (0, 1, 5999, "8.33333e-05"), (5999, 1, 0, "0.999917"), (0, 0, 0, "NA")):
+    for two, one, none, word in ((0, 0, 1, "0"), (1, 0, 0, "1"), (0, 1, 0, "0.5"), (1, 0, 2, "0.333333"), (0, 1, 1001, "0.000499002"),
+                                 (0, 1, 4050, "0.000123426"), (0, 1, 5999, "8.33333e-05"), (5999, 1, 0, "0.999917"), (0, 0, 0, "NA")):
         write("herd", [[code] for code, n in ((0, two), (2, one), (3, none), (1, 1)) for _ in range(n)], 1)
         done(f"freq: {word}", "freq", "herd", "-o", "out", "--quiet")
         same(get("out").decode(), f"{HEAD}1\tm0\tA\tC\t{two}\t{one}\t{none}\t1\t{word}\n", f"freq: {word}")
@@ -353,7 +353,8 @@ def test_freq_parts():
     for mode, animals, markers in (1, 40000, 1200), (0, 1200, 40000):
         put("herd.bed", b"\x6c\x1b" + bytes([mode]) + drawn.randbytes(12000000))
         for threads in 1, 2, 3:
-            done(f"freq at once: mode {mode}", "freq", "herd", "-o", f"out{threads}", "--animals", animals, "--markers", markers, "--threads", threads, "--quiet")
+            done(f"freq at once: mode {mode}", "freq", "herd", "-o", f"out{threads}", "--animals", animals, "--markers", markers,
+                 "--threads", threads, "--quiet")
         for threads in 2, 3:
             same(get(f"out{threads}") == get("out1"), True, f"freq at once: mode {mode}: {threads} threads as one")
 
@@ -544,7 +545,7 @@ def test_canonical():
 
 def test_usage():
     write("herd", draw(5, 3), 1)
-    read = ["read", "herd", "-o", "out.npy"]
+    read, freq = ["read", "herd", "-o", "out.npy"], ["freq", "herd", "-o", "out"]
     for words, message in (
             ([], "no subcommand is given"),
             (["--quiet"], "no subcommand is given"),
@@ -572,10 +573,10 @@ def test_usage():
             (read + ["--animals", "5", "--keep", "x"], "--keep takes names from the .fam file, which is not read with --animals"),
             (read + ["--markers", "3", "--extract", "x"], "--extract takes names from the .bim file, which is not read with --markers"),
             (read + ["--markers", "3", "--exclude", "x"], "--exclude takes names from the .bim file, which is not read with --markers"),
-            (["freq", "herd", "-o", "out", "--animals", "5", "--keep", "x"], "--keep takes names from the .fam file, which is not read with --animals"),
-            (["freq", "herd", "-o", "out", "--dtype", "f64"], "freq takes no --dtype"),
-            (["freq", "herd", "-o", "out", "--order=F"], "freq takes no --order"),
-            (["freq", "herd", "-o", "out", "--a2"], "freq takes no --a2"),
+            (freq + ["--animals", "5", "--keep", "x"], "--keep takes names from the .fam file, which is not read with --animals"),
+            (freq + ["--dtype", "f64"], "freq takes no --dtype"),
+            (freq + ["--order=F"], "freq takes no --order"),
+            (freq + ["--a2"], "freq takes no --a2"),
             (["standardise", "herd", "-o", "out.npy", "--dtype", "i8"], "standardise: the values are f64")):
         same(run(*words), (2, "", f"mungkelas: {message}; mungkelas --help says more\n"), f"usage: {' '.join(words)}")
     for option in ["-o", "x"], ["--dtype", "i8"], ["--order", "C"], ["--a2"], ["--keep", "x"], ["--extract", "x"], ["--exclude", "x"]:

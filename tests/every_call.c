@@ -209,8 +209,9 @@ static void draw_reading(struct reading *r) {
 
 /* Mostly four a marker; other products too. */
 static size_t draw_counts_len(size_t iids, size_t sids) {
+    const size_t others[] = {4 * sids + 1, sids ? 4 * sids - 1 : 0, 3 * sids, 4 * iids, iids * sids};
     size_t n = draw(24);
-    return n == 0 ? 4 * sids + 1 : n == 1 && sids ? 4 * sids - 1 : n == 2 ? 3 * sids : n == 3 ? 4 * iids : n == 4 ? iids * sids : BED_COUNTS_PER_MARKER * sids;
+    return n < 5 ? others[n] : BED_COUNTS_PER_MARKER * sids;
 }
 
 /* Mostly three a marker; two a marker too. */
@@ -450,7 +451,8 @@ static size_t list_by(enum way way, size_t count, int64_t *list) {
     size_t n = way == EACH_TWICE ? 2 * count : count && (way == NO_FIRST || way == NO_LAST) ? count - 1 : count;
     for (size_t k = 0; k < n; k++) {
         int64_t i = (int64_t)k, c = (int64_t)count;
-        list[k] = way == FROM_THE_END ? i - c : way == BACKWARD ? c - 1 - i : way == NO_FIRST ? i + 1 : way == EACH_TWICE ? i / 2 : way == LAST_ALONE ? -1 : i;
+        const int64_t entries[WAYS] = {i, i - c, c - 1 - i, i + 1, i, i, i / 2, -1};
+        list[k] = entries[way];
     }
     if (way == SECOND_FIRST && count > 1) list[0] = 1, list[1] = 0;
     return n;
@@ -511,11 +513,13 @@ static void counting(void) {
         same_counts(file, 3, 5, 0, iid_index, 5, sid_index, 1, 4, answer(6, 0, 0));
     }
 
-    /* every length about 4 times the markers; and where 4 times as many as nobody can lend passes 2^64, so that 15 comes before the list is read */
+    /* every length about 4 times the markers */
     list_by(LAST_ALONE, 5, iid_index), list_by(LAST_ALONE, 4, sid_index);
     for (size_t sids = 0; sids < 5; sids++)
         for (size_t len = 0; len <= 20; len++)
             same_counts(f_files[1], f_len[1], 5, 2, iid_index, 5, sid_index, sids, len, answer(len == 4 * sids ? 0 : 15, 0, 0));
+
+    /* 4 times as many passes 2^64. Nobody can lend such a list, so no promise is made of it; 15 is found before it is looked at. */
     for (size_t k = 0; k < 4; k++) {
         same_counts(f_files[1], f_len[1], 5, 2, iid_index, 5, sid_index, SIZE_MAX / 4 + 1 + k, 4 * k, answer(15, 0, 0));
         same_counts(f_files[1], f_len[1], 5, 2, NULL, 0, sid_index, SIZE_MAX / 2 + 1 + k, 4 * k, answer(15, 0, 0));

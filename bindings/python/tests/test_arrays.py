@@ -207,7 +207,8 @@ def test_large():
                         alike(got, want, "a larger file, standardised")
             for threads in (1, 2, 3):
                 alike(bed.count_calls(num_threads=threads), counted(calls), "a larger file, counted")
-                alike(bed.count_calls(lists, num_threads=threads), counted(calls[np.ix_(*lists)]), "a larger file, listed and counted")
+                got = bed.count_calls(lists, num_threads=threads)
+                alike(got, counted(calls[np.ix_(*lists)]), "a larger file, listed and counted")
 
 
 def test_lent():
