@@ -350,8 +350,8 @@ def test_freq_parts():
                 what = f"freq in parts: mode {mode} {' '.join(more)} {threads} threads"
                 done(what, "freq", "herd", "-o", "out", "--threads", threads, "--quiet", *more)
                 same(get("out").decode() == counted(codes, range(animals), listed), True, what)
-    for mode, animals, markers in (1, 40000, 1200), (0, 1200, 40000):
-        put("herd.bed", b"\x6c\x1b" + bytes([mode]) + drawn.randbytes(12000000))
+    for mode, animals, markers in (1, 10000, 1200), (0, 1200, 10000):
+        put("herd.bed", b"\x6c\x1b" + bytes([mode]) + drawn.randbytes(3000000))
         for threads in 1, 2, 3:
             done(f"freq at once: mode {mode}", "freq", "herd", "-o", f"out{threads}", "--animals", animals, "--markers", markers,
                  "--threads", threads, "--quiet")
