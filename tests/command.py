@@ -334,9 +334,11 @@ def test_freq_names():
     put("herd.bim", bim)
     done("freq: names", "freq", "herd", "-o", "out", "--quiet")
     same(get("out").decode(), counted(codes, range(9), range(6), lines.__getitem__), "freq: names")
-    put("extract", "b e")
-    done("freq: names of some", "freq", "herd", "-o", "out", "--extract", "extract", "--quiet")
+    put("some", "b e")
+    done("freq: names of some", "freq", "herd", "-o", "out", "--extract", "some", "--quiet")
     same(get("out").decode(), counted(codes, range(9), (3, 5), lines.__getitem__), "freq: names of some")
+    done("freq: names of others", "freq", "herd", "-o", "out", "--exclude", "some", "--quiet")
+    same(get("out").decode(), counted(codes, range(9), (0, 1, 2, 4), lines.__getitem__), "freq: names of others")
 
 
 def test_freq_parts():
