@@ -232,7 +232,8 @@ def test_threads():
     """How many threads are begun beside the first: as many as are asked for, and no more than there are parts. A signal shows whether one is."""
     for mode, order, animals, markers, threads, begun in (
             (1, "F", 20, 600, 1, 0), (1, "F", 20, 600, 2, 1), (1, "F", 20, 600, 3, 2), (0, "C", 600, 20, 3, 2), (1, "F", 20, 2, 3, 1),
-            (1, "C", 512, 20, 3, 0), (1, "C", 600, 20, 3, 1), (1, "C", 1100, 20, 2, 1), (1, "C", 1100, 20, 3, 2), (0, "F", 20, 1100, 3, 2)):
+            (1, "C", 512, 20, 3, 0), (1, "C", 600, 20, 3, 1), (1, "C", 1100, 20, 2, 1), (1, "C", 1100, 20, 3, 2), (0, "F", 20, 600, 3, 1),
+            (0, "F", 20, 1100, 3, 2)):
         write("herd", draw(animals, markers, 0.1), mode)
         for words in [["read", "--order", order]] + [["freq"]] * (order == "F"):
             words += ["herd", "-o", "out", "--threads", threads, "--quiet"]
