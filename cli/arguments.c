@@ -12,6 +12,7 @@ static const char help[] =
     "usage: mungkelas check PREFIX [--animals N] [--markers N] [--quiet]\n"
     "       mungkelas read PREFIX -o OUT.npy [--dtype i8|f64] [options]\n"
     "       mungkelas standardise PREFIX -o OUT.npy [options]\n"
+    "       mungkelas freq PREFIX -o OUT [options]\n"
     "       mungkelas canonical PREFIX -o OUT [--animals N] [--markers N] [--quiet]\n"
     "       mungkelas --help | --version\n"
     "\n"
@@ -19,9 +20,10 @@ static const char help[] =
     "  check          says whether the .bed file is accepted, and whether its pads are set\n"
     "  read           writes the calls as a NumPy array, animals by markers\n"
     "  standardise    writes the standardised values, and the statistics beside them, as OUT.stats.npy\n"
+    "  freq           writes a table of text: the counts of each marker's calls, and the first allele's frequency\n"
     "  canonical      writes OUT.bed, the file of mode 1 with the same calls and zero pads\n"
     "\n"
-    "options of read and standardise:\n"
+    "options of read and standardise, and from --animals on of freq:\n"
     "  --dtype i8|f64   the type of the values (read: i8; standardise: f64 alone)\n"
     "  --order F|C      F: a marker's values stand beside each other (as it is without this); C: an animal's\n"
     "  --a2             count the second allele, not the first\n"
@@ -39,22 +41,24 @@ enum option { OUT, DTYPE, ORDER, A2, ANIMALS, MARKERS, KEEP, EXTRACT, EXCLUDE, T
 
 #define IN(subcommand) (1u << (subcommand))
 #define MATRIX (IN(READ) | IN(STANDARDISE))
-#define ALL (MATRIX | IN(CHECK) | IN(CANONICAL))
+#define LISTED (MATRIX | IN(FREQ))
+#define ALL (LISTED | IN(CHECK) | IN(CANONICAL))
 
 static const struct {
     const char *name;
     bool has_value;
     unsigned of; /* the subcommands that take it */
 } table[OPTIONS] = {
-    [OUT] = {"-o", true, MATRIX | IN(CANONICAL)}, [DTYPE] = {"--dtype", true, MATRIX},
+    [OUT] = {"-o", true, LISTED | IN(CANONICAL)}, [DTYPE] = {"--dtype", true, MATRIX},
     [ORDER] = {"--order", true, MATRIX},          [A2] = {"--a2", false, MATRIX},
     [ANIMALS] = {"--animals", true, ALL},         [MARKERS] = {"--markers", true, ALL},
-    [KEEP] = {"--keep", true, MATRIX},            [EXTRACT] = {"--extract", true, MATRIX},
-    [EXCLUDE] = {"--exclude", true, MATRIX},      [THREADS] = {"--threads", true, ALL},
+    [KEEP] = {"--keep", true, LISTED},            [EXTRACT] = {"--extract", true, LISTED},
+    [EXCLUDE] = {"--exclude", true, LISTED},      [THREADS] = {"--threads", true, ALL},
     [QUIET] = {"--quiet", false, ALL},
 };
 
-static const char *const subcommands[] = {[CHECK] = "check", [READ] = "read", [STANDARDISE] = "standardise", [CANONICAL] = "canonical"};
+static const char *const subcommands[] = {
+    [CHECK] = "check", [READ] = "read", [STANDARDISE] = "standardise", [FREQ] = "freq", [CANONICAL] = "canonical"};
 
 static noreturn void misused(const char *format, ...) {
     va_list rest;

@@ -11,7 +11,7 @@
 
 /* ---- arguments.c ---- */
 
-enum subcommand { CHECK, READ, STANDARDISE, CANONICAL };
+enum subcommand { CHECK, READ, STANDARDISE, FREQ, CANONICAL };
 
 struct options {
     enum subcommand subcommand;
@@ -53,6 +53,8 @@ void *room_for(size_t count, size_t size);
 void catch_signals(void);
 /* Makes path.part of len bytes, reserved on the disk, and maps it. Every way out of the program but keep_outputs removes it. */
 uint8_t *make_output(const char *path, size_t len);
+/* Leaves the first len bytes of the output made last, for one whose length is not known before. */
+void cut_output(size_t len);
 /* Puts every output under its own name, the first one made last. */
 void keep_outputs(void);
 
@@ -65,6 +67,9 @@ size_t mark_animals(struct bytes fam, struct bytes list, uint8_t *marks, uint8_t
 size_t mark_markers(struct bytes bim, struct bytes list, uint8_t *marks, uint8_t mark, size_t *names);
 /* The name in the next line of a .bim, which is taken off; of length 0 if there is none. */
 struct bytes next_marker(struct bytes *bim);
+/* The fields of the next line of a .bim, which is taken off; one that is absent has length 0. */
+#define BIM_FIELDS 6
+void next_fields(struct bytes *bim, struct bytes fields[BIM_FIELDS]);
 
 /* ---- herd.c: a prefix, and what is read of it ---- */
 
@@ -77,7 +82,7 @@ struct herd {
     size_t iid_len, sid_len;
 };
 
-/* Ends the program if the core refuses the file or a list. Lists are made for read and standardise alone. */
+/* Ends the program if the core refuses the file or a list. Lists are made for read, standardise and freq alone. */
 struct herd open_herd(const struct options *options);
 void close_herd(struct herd *herd);
 /* Ends the program if the path is one of the files that are read. */
@@ -120,6 +125,7 @@ bed_answer run_parts(const struct run *run);
 void check(const struct herd *herd);
 void read_matrix(const struct herd *herd);
 void standardise(const struct herd *herd);
+void freq(const struct herd *herd);
 void canonical(const struct herd *herd);
 
 #endif

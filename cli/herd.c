@@ -55,7 +55,7 @@ struct herd open_herd(const struct options *o) {
     }
     accept(&h, NULL, 0, NULL, 0);
     h.mode_1 = bed_open_and_check(h.bed.bytes.at, h.bed.bytes.len).first == 1;
-    if (o->subcommand == READ || o->subcommand == STANDARDISE) {
+    if (o->subcommand == READ || o->subcommand == STANDARDISE || o->subcommand == FREQ) {
         make_lists(&h);
         accept(&h, h.iids, h.iid_len, NULL, 0);
         accept(&h, NULL, 0, h.sids, h.sid_len);

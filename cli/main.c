@@ -13,6 +13,7 @@ int main(int argc, char **argv) {
     case CHECK: check(&herd); break;
     case READ: read_matrix(&herd); break;
     case STANDARDISE: standardise(&herd); break;
+    case FREQ: freq(&herd); break;
     case CANONICAL: canonical(&herd); break;
     }
     close_herd(&herd);

@@ -122,6 +122,12 @@ struct bytes next_marker(struct bytes *bim) {
     return next_word(&line);
 }
 
+void next_fields(struct bytes *bim, struct bytes fields[BIM_FIELDS]) {
+    struct bytes line;
+    bool found = next_line(bim, &line);
+    for (size_t i = 0; i < BIM_FIELDS; i++) fields[i] = found ? next_word(&line) : none;
+}
+
 /* Every word of the list is a name. */
 size_t mark_markers(struct bytes bim, struct bytes text, uint8_t *marks, uint8_t mark, size_t *names) {
     struct list list = {0};

@@ -93,6 +93,11 @@ uint8_t *make_output(const char *path, size_t len) {
     return o->at = at;
 }
 
+void cut_output(size_t len) {
+    struct output *o = &outputs[made - 1];
+    if (ftruncate(o->fd, (off_t)len)) fail("%s: %s", o->part, strerror(errno));
+}
+
 void keep_outputs(void) {
     int count = made;
     for (int i = 0; i < count; i++)

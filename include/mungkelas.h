@@ -63,7 +63,7 @@ enum {
     BED_START_GREATER_THAN_END = 12,      /* range start above end */
     BED_NO_INDIVIDUALS = 13,              /* lowest refused marker has no value but NaN; first: its place in the matrix */
     BED_ILLEGAL_SNP_MEAN = 14,            /* lowest refused marker has a NaN mean; first: its place in the matrix */
-    BED_INDEX_MISMATCH = 15,              /* value buffer of another length than the two counts (or list lengths) ask */
+    BED_INDEX_MISMATCH = 15,              /* value or counts buffer of another length than the counts or list lengths ask */
     BED_ENCODING_LENGTH = 16,             /* packed buffer of the wrong length */
     BED_STATS_MISMATCH = 17,              /* statistics buffer is not BED_STATS_PER_MARKER times the matrix's markers */
     BED_COUNT_TOO_LARGE = 18,             /* a count, a piece's height, width or start, or a range bound passes 2^63 - 1 */
@@ -74,6 +74,10 @@ enum {
 /* A statistics record is a marker's mean, its deviation, and how many of its values were observed, that is, are not NaN: marker m's
  * stand at 3 * m, 3 * m + 1 and 3 * m + 2. */
 #define BED_STATS_PER_MARKER 3
+
+/* The counts of a marker are how many of its calls have no, one and two copies of the first allele, and how many are missing: marker m's
+ * stand at 4 * m to 4 * m + 3. */
+#define BED_COUNTS_PER_MARKER 4
 
 /* ---- headers, widths, spans ---- */
 
@@ -99,6 +103,14 @@ bed_answer bed_read_i8(const uint8_t *file, size_t file_len, size_t iid_count, s
 bed_answer bed_read_f64(const uint8_t *file, size_t file_len, size_t iid_count, size_t sid_count, bool is_a1_counted,
                         const int64_t *iid_index, size_t iid_len, const int64_t *sid_index, size_t sid_len,
                         double missing_value, bool animal_order, double *val, size_t val_len);
+
+/* Reads file, iid_index and sid_index; writes counts: for each listed marker the counts of the listed animals' calls. An animal that is
+ * listed twice counts twice; a marker that is listed twice has its counts at both places.
+ * Refusals: 18 (either count), 15 (counts_len is not 4 * sid_len), 1 (under 3 bytes), 2 (first two bytes), 3, 4, 2 (length), 5, 6, the last
+ * two as above. */
+bed_answer bed_count_calls(const uint8_t *file, size_t file_len, size_t iid_count, size_t sid_count,
+                           const int64_t *iid_index, size_t iid_len, const int64_t *sid_index, size_t sid_len,
+                           uint64_t *counts, size_t counts_len);
 
 /* Reads file; writes out: the file of mode 1 with the same calls and zero pads, 3 + width * sid_count bytes, where width is that of
  * iid_count (bed_try_div_4). Refusals: 18 (either count), 1, 2 (first two bytes), 3, 4, 2 (length), 4 (for the length to be written), 16. */

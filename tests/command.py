@@ -155,6 +155,25 @@ def standardised(table):
     return [list(r) for r in zip(*columns)], stats
 
 
+HEAD = "CHR\tSNP\tA1\tA2\tHOM_A1\tHET\tHOM_A2\tMISSING\tA1_FREQ\n"
+
+
+def counted(codes, animals, markers, names=lambda m: f"1\tm{m}\tA\tC"):
+    """The table that freq writes; names are the first four words of a marker's line."""
+    table = HEAD
+    for m in markers:
+        calls = [codes[a][m] for a in animals]
+        two, missing, one, none = map(calls.count, range(4))
+        seen = two + one + none
+        table += f"{names(m)}\t{two}\t{one}\t{none}\t{missing}\t{'%.6g' % ((2 * two + one) / (2 * seen)) if seen else 'NA'}\n"
+    return table
+
+
+def longest(animals, markers, names=lambda m: f"1\tm{m}\tA\tC"):
+    """The bytes that are reserved for that table: every count as long as the greatest one, a frequency of 11."""
+    return len(HEAD) + sum(len(names(m)) + 4 * len(f"\t{animals}") + 1 + 11 + 1 for m in markers)
+
+
 def name(n, one, many):
     return f"{n} {one if n == 1 else many}"
 
@@ -213,13 +232,15 @@ def test_threads():
     """How many threads are begun beside the first: as many as are asked for, and no more than there are parts. A signal shows whether one is."""
     for mode, order, animals, markers, threads, begun in (
             (1, "F", 20, 600, 1, 0), (1, "F", 20, 600, 2, 1), (1, "F", 20, 600, 3, 2), (0, "C", 600, 20, 3, 2), (1, "F", 20, 2, 3, 1),
-            (1, "C", 512, 20, 3, 0), (1, "C", 600, 20, 3, 1), (1, "C", 1100, 20, 2, 1), (1, "C", 1100, 20, 3, 2), (0, "F", 20, 1100, 3, 2)):
+            (1, "C", 512, 20, 3, 0), (1, "C", 600, 20, 3, 1), (1, "C", 1100, 20, 2, 1), (1, "C", 1100, 20, 3, 2), (0, "F", 20, 600, 3, 1),
+            (0, "F", 20, 1100, 3, 2)):
         write("herd", draw(animals, markers, 0.1), mode)
-        words = ["read", "herd", "-o", "out.npy", "--order", order, "--threads", threads, "--quiet"]
-        what = f"threads: mode {mode} {order} {animals} {markers} {threads}"
-        if begun:
-            same(run(*words, fault=f"pthread_create {begun} signal {signal.SIGTERM}")[0], -signal.SIGTERM, what + ": begun")
-        same(run(*words, fault=f"pthread_create {begun + 1} signal {signal.SIGTERM}")[0], 0, what + ": no more")
+        for words in [["read", "--order", order]] + [["freq"]] * (order == "F"):
+            words += ["herd", "-o", "out", "--threads", threads, "--quiet"]
+            what = f"threads: {words[0]}, mode {mode} {order} {animals} {markers} {threads}"
+            if begun:
+                same(run(*words, fault=f"pthread_create {begun} signal {signal.SIGTERM}")[0], -signal.SIGTERM, what + ": begun")
+            same(run(*words, fault=f"pthread_create {begun + 1} signal {signal.SIGTERM}")[0], 0, what + ": no more")
 
 
 def test_at_once():
@@ -266,6 +287,79 @@ def test_standardise():
                         same((get(f"out{threads}") == get("out.npy"), get(f"out{threads}.stats.npy") == get("out.stats.npy")), (True, True),
                              f"{what}: {threads} threads")
     same(left(), ["out.npy", "out.stats.npy"] + [f for t in (1, 2, 3) for f in (f"out{t}", f"out{t}.stats.npy")], "standardise: the files left")
+
+
+def test_freq():
+    for animals, markers in (0, 0), (0, 3), (3, 0), (1, 1), (4, 4), (5, 2), (7, 9), (33, 18), (1203, 40):
+        codes = draw(animals, markers)
+        for row in codes if markers > 3 else []:
+            row[1], row[2] = 1, 3  # a marker without calls, and one that does not vary
+        for mode in 0, 1:
+            for pad in 0, 1, 2, 3:
+                write("herd", codes, mode, markers, pad)
+                what = f"freq {animals} {markers} mode {mode} pads {pad}"
+                out = done(what, "freq", "herd", "-o", "out", "--threads", "1")
+                same(out, f"out: counts of {name(animals, 'animal', 'animals')} at {name(markers, 'marker', 'markers')}\n", what + ": the words")
+                same(get("out").decode(), counted(codes, range(animals), range(markers)), what)
+                for threads in 2, 3:
+                    same(done(what, "freq", "herd", "-o", "out2", "--threads", threads, "--quiet"), "", what + " --quiet")
+                    same(get("out2") == get("out"), True, f"{what}: {threads} threads as one")
+    same(left(), ["out", "out2"], "freq: the files left")
+    # frequencies of every length
+    for two, one, none, word in ((0, 0, 1, "0"), (1, 0, 0, "1"), (0, 1, 0, "0.5"), (1, 0, 2, "0.333333"), (0, 1, 1001, "0.000499002"),
+                                 (0, 1, 4050, "0.000123426"), (0, 1, 5999, "8.33333e-05"), (5999, 1, 0, "0.999917"), (0, 0, 0, "NA")):
+        write("herd", [[code] for code, n in ((0, two), (2, one), (3, none), (1, 1)) for _ in range(n)], 1)
+        done(f"freq: {word}", "freq", "herd", "-o", "out", "--quiet")
+        same(get("out").decode(), f"{HEAD}1\tm0\tA\tC\t{two}\t{one}\t{none}\t1\t{word}\n", f"freq: {word}")
+
+
+def test_freq_names():
+    codes = draw(9, 6)
+    for mode in 0, 1:
+        write("herd", codes, mode)
+        put("keep", "F1 A8\nA2\nA2\nF0 A3\nnobody\n")
+        put("extract", "m5 m1 m4 nothing")
+        put("exclude", "m4\n")
+        message = "mungkelas: keep: 1 of 4 names are in no line of herd.fam\nmungkelas: extract: 1 of 4 names are in no line of herd.bim\n"
+        words = ["freq", "herd", "-o", "out", "--keep", "keep", "--extract", "extract", "--exclude=exclude"]
+        same(run(*words), (0, "out: counts of 3 animals at 2 markers\n", message), f"freq: lists, mode {mode}")
+        same(get("out").decode(), counted(codes, (2, 3, 8), (1, 5)), f"freq: lists, mode {mode}")
+        put("keep", "")
+        done("freq: nobody", "freq", "herd", "-o", "out", "--keep", "keep", "--quiet")
+        same(get("out").decode(), counted(codes, (), range(6)), f"freq: nobody, mode {mode}")
+        done("freq: counts given", "freq", "herd", "-o", "out", "--animals", "9", "--markers", "6", "--quiet")
+        same(get("out").decode(), counted(codes, range(9), range(6), lambda m: f".\t{m}\t.\t."), f"freq: counts given, mode {mode}")
+    # fields as they stand, however they are parted; what is absent is a dot, and a name that is absent the marker's number
+    bim = "X  rs1 0.5 12 AT,G <DEL> more\r\n \t\n26\t\u00efd\t0\t1\t0\t*\n\n1 a 0 3 C\n1 b 0 3\n7\n chr9\te\t0 5 a\tt"
+    lines = ["X\trs1\tAT,G\t<DEL>", "26\t\u00efd\t0\t*", "1\ta\tC\t.", "1\tb\t.\t.", "7\t4\t.\t.", "chr9\te\ta\tt"]
+    put("herd.bim", bim)
+    done("freq: names", "freq", "herd", "-o", "out", "--quiet")
+    same(get("out").decode(), counted(codes, range(9), range(6), lines.__getitem__), "freq: names")
+    put("some", "b e")
+    done("freq: names of some", "freq", "herd", "-o", "out", "--extract", "some", "--quiet")
+    same(get("out").decode(), counted(codes, range(9), (3, 5), lines.__getitem__), "freq: names of some")
+    done("freq: names of others", "freq", "herd", "-o", "out", "--exclude", "some", "--quiet")
+    same(get("out").decode(), counted(codes, range(9), (0, 1, 2, 4), lines.__getitem__), "freq: names of others")
+
+
+def test_freq_parts():
+    """Enough markers for several parts, also across the grain, and threads that run at the same time."""
+    for mode, animals, markers in (1, 70, 1301), (0, 70, 1301):
+        codes = draw(animals, markers, 0.1)
+        write("herd", codes, mode)
+        put("exclude", "".join(f"m{m}\n" for m in range(0, markers, 5)))
+        for more, listed in ([], range(markers)), (["--exclude", "exclude"], [m for m in range(markers) if m % 5]):
+            for threads in 1, 2, 3:
+                what = f"freq in parts: mode {mode} {' '.join(more)} {threads} threads"
+                done(what, "freq", "herd", "-o", "out", "--threads", threads, "--quiet", *more)
+                same(get("out").decode() == counted(codes, range(animals), listed), True, what)
+    for mode, animals, markers in (1, 10000, 1200), (0, 1200, 10000):
+        put("herd.bed", b"\x6c\x1b" + bytes([mode]) + drawn.randbytes(3000000))
+        for threads in 1, 2, 3:
+            done(f"freq at once: mode {mode}", "freq", "herd", "-o", f"out{threads}", "--animals", animals, "--markers", markers,
+                 "--threads", threads, "--quiet")
+        for threads in 2, 3:
+            same(get(f"out{threads}") == get("out1"), True, f"freq at once: mode {mode}: {threads} threads as one")
 
 
 def test_no_calls():
@@ -392,12 +486,12 @@ def test_refusals():
             (good, ["--markers", 2**64 - 1], 18,
              f"herd.bed: 5 animals (herd.fam) and {2**64 - 1} markers (--markers): a count is at most 2^63 - 1")):
         put("herd.bed", bed)
-        put("out.npy", "as it was")
-        put("out.bed", "as it was")
+        for out in "out.bed", "out.freq", "out.npy":
+            put(out, "as it was")
         for words in (["check", "herd"], ["read", "herd", "-o", "out.npy"], ["standardise", "herd", "-o", "out.npy"],
-                      ["canonical", "herd", "-o", "out"]):
+                      ["freq", "herd", "-o", "out.freq"], ["canonical", "herd", "-o", "out"]):
             same(run(*words, *more), (1, "", f"mungkelas: refused, {number}: {message}\n"), f"{words[0]}: {message}")
-        same((left(), get("out.npy"), get("out.bed")), (["out.bed", "out.npy"], b"as it was", b"as it was"), message)
+        same({out: get(out) for out in left()}, dict.fromkeys(("out.bed", "out.freq", "out.npy"), b"as it was"), message)
 
 
 def test_check():
@@ -454,7 +548,7 @@ def test_canonical():
 
 def test_usage():
     write("herd", draw(5, 3), 1)
-    read = ["read", "herd", "-o", "out.npy"]
+    read, freq = ["read", "herd", "-o", "out.npy"], ["freq", "herd", "-o", "out"]
     for words, message in (
             ([], "no subcommand is given"),
             (["--quiet"], "no subcommand is given"),
@@ -464,6 +558,7 @@ def test_usage():
             (["read", "herd"], "read: no -o OUT is given"),
             (["standardise", "herd"], "standardise: no -o OUT is given"),
             (["read", "herd", "-o", ""], "read: no -o OUT is given"),
+            (["freq", "herd"], "freq: no -o OUT is given"),
             (["canonical", "herd"], "canonical: no -o OUT is given"),
             (read + ["--colour"], "--colour is no option"),
             (read + ["--quiet=1"], "--quiet=1 is no option"),
@@ -481,6 +576,10 @@ def test_usage():
             (read + ["--animals", "5", "--keep", "x"], "--keep takes names from the .fam file, which is not read with --animals"),
             (read + ["--markers", "3", "--extract", "x"], "--extract takes names from the .bim file, which is not read with --markers"),
             (read + ["--markers", "3", "--exclude", "x"], "--exclude takes names from the .bim file, which is not read with --markers"),
+            (freq + ["--animals", "5", "--keep", "x"], "--keep takes names from the .fam file, which is not read with --animals"),
+            (freq + ["--dtype", "f64"], "freq takes no --dtype"),
+            (freq + ["--order=F"], "freq takes no --order"),
+            (freq + ["--a2"], "freq takes no --a2"),
             (["standardise", "herd", "-o", "out.npy", "--dtype", "i8"], "standardise: the values are f64")):
         same(run(*words), (2, "", f"mungkelas: {message}; mungkelas --help says more\n"), f"usage: {' '.join(words)}")
     for option in ["-o", "x"], ["--dtype", "i8"], ["--order", "C"], ["--a2"], ["--keep", "x"], ["--extract", "x"], ["--exclude", "x"]:
@@ -535,17 +634,22 @@ def test_places():
     os.symlink("herd.bed", "out.part")
     same(run(*words, "out"), (2, "", "mungkelas: out.part: Too many levels of symbolic links\n"), "a link as .part")
     same(get("herd.bed"), pack(codes, 1), "a link as .part")
+    for own in "herd.bed", "herd.fam", "herd.bim":
+        same(run("freq", "herd", "-o", own), (2, "", f"mungkelas: {own}: this is read, and is not written over\n"), f"freq -o {own}")
+    put("out.freq", "x" * 1000)
+    done("freq: a longer file that is there", "freq", "herd", "-o", "out.freq", "--quiet")
+    same(get("out.freq").decode(), counted(codes, range(5), range(3)), "freq: a longer file that is there")
 
 
 def test_faults():
     """What the system refuses, and interruptions: nothing is left, and what was there is as it was."""
     codes = draw(50, 40, 0.1)
     write("herd", codes, 1)
-    for subcommand, out in ("read", "out.npy"), ("standardise", "out.npy"), ("canonical", "out.bed"):
+    for subcommand, out in ("read", "out.npy"), ("standardise", "out.npy"), ("freq", "out.freq"), ("canonical", "out.bed"):
         words = [subcommand, "herd", "-o", out]
         outputs = 2 if subcommand == "standardise" else 1
         names = [out, "out.stats.npy"]
-        size = {"read": 128 + 2000, "standardise": 128 + 16000, "canonical": 3 + 13 * 40}[subcommand]
+        size = {"read": 128 + 2000, "standardise": 128 + 16000, "freq": longest(50, range(40)), "canonical": 3 + 13 * 40}[subcommand]
         sizes = [size, 128 + 40 * 8 * 3]
         for before in None, "as it was":
             def after(what):
@@ -587,6 +691,14 @@ def test_faults():
             same(run(*words, fault="posix_fallocate 1 cut herd.bed"), (2, "", message), f"{subcommand}: a file that is cut short")
             after("a file that is cut short")
             os.rename("herd.saved", "herd.bed")
+            if subcommand == "freq":  # its table is cut to its length at the end, and the .bim is gone through again for it
+                same(run(*words, fault=f"ftruncate 2 error {errno.EIO}"), (2, "", f"mungkelas: {out}.part: Input/output error\n"), "freq: ftruncate")
+                after("ftruncate")
+                for change, message in ("cut", message), ("fill", "mungkelas: the .bim file was changed by someone else\n"):
+                    shutil.copy("herd.bim", "herd.saved")
+                    same(run(*words, fault=f"posix_fallocate 1 {change} herd.bim"), (2, "", message), f"freq: {change} herd.bim")
+                    after(change + " herd.bim")
+                    os.rename("herd.saved", "herd.bim")
         # The values get their name last: where that fails the statistics have none either.
         clear()
         f = names[0]
@@ -608,27 +720,30 @@ def test_small_disk():
     """A file system of 64 KiB, where one may be mounted."""
     os.mkdir("disk")
     write("herd", draw(400, 300, 0.1), 1)
-    words = ["read", os.path.abspath("herd"), "-o", "disk/out.npy"]
+    herd = os.path.abspath("herd")
     script = 'mount -t tmpfs -o size=64k tmpfs disk 2>/dev/null || exit 99; "$@"; status=$?; ls -A disk; df --output=used disk | tail -n 1; exit $status'
-    for inside in ["unshare", "-m"], ["unshare", "-rm"]:
-        got = subprocess.run([*inside, "sh", "-c", script, "sh", program, *words], capture_output=True)
-        if got.returncode == 2:
+    for words, size in (["read"], 120128), (["freq", "--animals", "40", "--markers", "3000"], longest(40, range(3000), lambda m: f".\t{m}\t.\t.")):
+        for inside in ["unshare", "-m"], ["unshare", "-rm"]:
+            got = subprocess.run([*inside, "sh", "-c", script, "sh", program, *words, herd, "-o", "disk/out"], capture_output=True)
+            if got.returncode == 2:
+                break
+        if got.returncode == 99 or b"unshare" in got.stderr:
+            print("no file system may be mounted here: a limit on the size of files and a failing call stand for the full disk")
             break
-    if got.returncode == 99 or b"unshare" in got.stderr:
-        print("no file system may be mounted here: a limit on the size of files and a failing call stand for the full disk")
-    else:
-        same((got.returncode, got.stdout.split(), got.stderr),
-             (2, [b"0"], b"mungkelas: disk/out.npy.part: 120128 bytes cannot be reserved: No space left on device\n"), "a file system of 64 KiB")
+        message = f"mungkelas: disk/out.part: {size} bytes cannot be reserved: No space left on device\n"
+        same((got.returncode, got.stdout.split(), got.stderr.decode()), (2, [b"0"], message), f"{words[0]}: a file system of 64 KiB")
     os.rmdir("disk")
 
 
 def test_interrupted():
     """A run that is interrupted in the middle of its work, by a signal from outside."""
     animals, markers = 20000, 8000
-    with open("herd.bed", "wb") as f:
-        f.write(b"\x6c\x1b\1")
-        f.truncate(3 + animals // 4 * markers)
-    words = [program, "read", "herd", "-o", "out.npy", "--animals", str(animals), "--markers", str(markers), "--order", "C", "--threads", "2"]
+    for mode in 0, 1:
+        with open(f"herd{mode}.bed", "wb") as f:
+            f.write(b"\x6c\x1b" + bytes([mode]))
+            f.truncate(3 + animals // 4 * markers)
+    read = ["read", "herd1", "--order", "C", "--animals", animals, "--markers", markers]
+    freq = ["freq", "herd0", "--animals", markers, "--markers", animals]
 
     def size(path):
         try:
@@ -636,19 +751,19 @@ def test_interrupted():
         except FileNotFoundError:
             return 0
 
-    for number in signal.SIGINT, signal.SIGTERM:
+    for words, number in (read, signal.SIGINT), (read, signal.SIGTERM), (freq, signal.SIGINT), (freq, signal.SIGTERM):
         for _ in range(20):  # a run may end before the signal is sent
-            going = subprocess.Popen(words, stdout=subprocess.PIPE, stderr=subprocess.PIPE)
+            going = subprocess.Popen([program, *map(str, words), "-o", "out", "--threads", "2"], stdout=subprocess.PIPE, stderr=subprocess.PIPE)
             end = time.monotonic() + 20
-            while not size("out.npy.part") and going.poll() is None and time.monotonic() < end:
+            while not size("out.part") and going.poll() is None and time.monotonic() < end:
                 time.sleep(0.0005)
             going.send_signal(number)
             out, err = going.communicate(timeout=30)
             if going.returncode:
                 break
             clear()
-        same((going.returncode, out, err), (-number, b"", b""), f"interrupted by {number}")
-        same(left(), [], f"interrupted by {number}")
+        same((going.returncode, out, err), (-number, b"", b""), f"{words[0]}: interrupted by {number}")
+        same(left(), [], f"{words[0]}: interrupted by {number}")
 
 
 def test_progress():
@@ -667,14 +782,14 @@ def test_progress():
         os.close(own)
         return got.returncode, said.decode()
 
-    for order in "F", "C":
-        for subcommand, doing in ("read", ["reading"]), ("standardise", ["standardising"] if order == "F" else ["statistics", "standardising"]):
-            words = [subcommand, "herd", "-o", "out.npy", "--order", order, "--threads", "2"]
-            status, said = on_terminal(*words)
-            seen = [d for d in ("reading", "statistics", "standardising") if f"\r{d}: 100%" in said]
-            same((status, seen), (0, doing), f"{subcommand} {order}: progress")
-            same(re.sub(r"\r[a-z]+: \d+%|\r *\r", "", said), "", f"{subcommand} {order}: nothing but progress")
-            same(on_terminal(*words, "--quiet"), (0, ""), f"{subcommand} {order} --quiet: no progress")
+    for words, doing in ((["read"], ["reading"]), (["read", "--order", "C"], ["reading"]), (["standardise"], ["standardising"]),
+                         (["standardise", "--order", "C"], ["statistics", "standardising"]), (["freq"], ["counting"])):
+        words += ["herd", "-o", "out.npy", "--threads", "2"]
+        status, said = on_terminal(*words)
+        seen = [d for d in ("reading", "statistics", "standardising", "counting") if f"\r{d}: 100%" in said]
+        same((status, seen), (0, doing), f"{words}: progress")
+        same(re.sub(r"\r[a-z]+: \d+%|\r *\r", "", said), "", f"{words}: nothing but progress")
+        same(on_terminal(*words, "--quiet"), (0, ""), f"{words} --quiet: no progress")
 
 
 def test_example():
@@ -683,6 +798,8 @@ def test_example():
     text = open(os.path.join(root, "README.md")).read()
     same(run("standardise", "examples/small", "-o", "small.npy")[1] in re.sub(r"^    ", "", text, flags=re.M), True, "README: standardise")
     same(run("check", "examples/small")[1] in re.sub(r"^    ", "", text, flags=re.M), True, "README: check")
+    same(run("freq", "examples/small", "-o", "small.freq")[1] in re.sub(r"^    ", "", text, flags=re.M), True, "README: freq")
+    same(get("small.freq").decode() in re.sub(r"^    ", "", text, flags=re.M), True, "README: the table")
     shown = [line.split() for line in open("examples/small.out")]
     values = [[f"{x:.6f}" for x in row] for row in load("small.npy")[1]]
     stats = [[f"{mean:.6f},", f"{deviation:.6f},", f"{observed:.0f}"] for mean, deviation, observed in load("small.stats.npy")[1]]

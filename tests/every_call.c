@@ -138,6 +138,17 @@ static void read_values(const struct reading *r, double missing, double *val) {
         }
 }
 
+/* How many of the listed animals' calls at each listed marker are 0, 1 and 2 copies of the first allele, and missing: four numbers a marker. */
+static void count_plainly(const uint8_t *file, size_t iids, size_t sids, const int64_t *iid_index, size_t iid_len, const int64_t *sid_index,
+                          size_t sid_len, uint64_t *counts) {
+    memset(counts, 0, 4 * sid_len * sizeof *counts);
+    for (size_t m = 0; m < sid_len; m++)
+        for (size_t k = 0; k < iid_len; k++) {
+            int code = code_of(file, iids, sids, means(iids, iid_index[k]), means(sids, sid_index[m]));
+            counts[4 * m + (size_t)value_of(code, true, 3)]++;
+        }
+}
+
 /* How many values of a marker are not NaN. */
 static size_t observed(const double *val, size_t iids, size_t sids, bool order, size_t m) {
     size_t n = 0;
@@ -194,6 +205,13 @@ static void draw_reading(struct reading *r) {
     if (draw(30) == 0) r->len -= 1 + draw(3) % r->len;
     r->iid_len = draw_list(r->iids, r->iid_index), r->sid_len = draw_list(r->sids, r->sid_index);
     r->val_len = r->iid_len * r->sid_len + (draw(40) == 0);
+}
+
+/* Mostly four a marker; other products too. */
+static size_t draw_counts_len(size_t iids, size_t sids) {
+    const size_t others[] = {4 * sids + 1, sids ? 4 * sids - 1 : 0, 3 * sids, 4 * iids, iids * sids};
+    size_t n = draw(24);
+    return n < 5 ? others[n] : BED_COUNTS_PER_MARKER * sids;
 }
 
 /* Mostly three a marker; two a marker too. */
@@ -292,6 +310,16 @@ static void spans(void) {
 static const uint8_t f_files[2][8] = {{0x6C, 0x1B, 0, 0x0C, 0x0D, 0x0A, 3, 8}, {0x6C, 0x1B, 1, 0xE4, 0, 0x2F, 2}};
 static const size_t f_len[2] = {8, 7};
 
+/* The count of calls beside the plain one. The buffer is compared past its length too, and it is as it was at a refusal. */
+static void same_counts(const uint8_t *file, size_t len, size_t iids, size_t sids, const int64_t *iid_index, size_t iid_len,
+                        const int64_t *sid_index, size_t sid_len, size_t counts_len, bed_answer a) {
+    static uint64_t counts[4200], want[4200];
+    for (size_t k = 0; k < 4200; k++) counts[k] = want[k] = (k + 1) * 0x9e3779b97f4a7c15;
+    if (a.number == 0) count_plainly(file, iids, sids, iid_index, iid_len, sid_index, sid_len, want);
+    same(bed_count_calls(file, len, iids, sids, iid_index, iid_len, sid_index, sid_len, counts, counts_len), a);
+    if (memcmp(counts, want, sizeof counts)) fail("a count");
+}
+
 /* The same lists are refused alike. */
 static void lists_of_either_mode(void) {
     static const struct {
@@ -324,6 +352,7 @@ static void lists_of_either_mode(void) {
             r.iid_len = rows[i].iid_len, r.sid_len = rows[i].sid_len, r.val_len = r.iid_len * r.sid_len;
             r.flag = choice >> 1 & 1, r.order = choice >> 2;
             for (size_t k = 0; k < 9; k++) val[k] = want[k] = small[k] = 9, stats[k] = want_stats[k] = 7;
+            same_counts(r.file, r.len, 5, 2, r.iid_index, r.iid_len, r.sid_index, r.sid_len, 4 * r.sid_len, a);
             if (a.number == 0) read_values(&r, -127, want);
             same(bed_read_i8(r.file, r.len, 5, 2, r.flag, r.iid_index, r.iid_len, r.sid_index, r.sid_len, -127, r.order, small, r.val_len), a);
             for (size_t k = 0; k < 9; k++)
@@ -411,6 +440,97 @@ static void reading_calls(void) {
         }
         same(bed_canonical(r.file, r.len, r.iids, r.sids, out, out_len), a);
         if (memcmp(out, want_out, ROOM)) fail("a byte");
+    }
+    end();
+}
+
+/* Ways through all of a file or most of it. */
+enum way { FILE_ORDER, FROM_THE_END, BACKWARD, NO_FIRST, NO_LAST, SECOND_FIRST, EACH_TWICE, LAST_ALONE, WAYS };
+
+static size_t list_by(enum way way, size_t count, int64_t *list) {
+    size_t n = way == EACH_TWICE ? 2 * count : count && (way == NO_FIRST || way == NO_LAST) ? count - 1 : count;
+    for (size_t k = 0; k < n; k++) {
+        int64_t i = (int64_t)k, c = (int64_t)count;
+        const int64_t entries[WAYS] = {i, i - c, c - 1 - i, i + 1, i, i, i / 2, -1};
+        list[k] = entries[way];
+    }
+    if (way == SECOND_FIRST && count > 1) list[0] = 1, list[1] = 0;
+    return n;
+}
+
+static void counting(void) {
+    enum { MANY = 70001, MARKERS = 1000 };
+    static uint8_t file[3 + MANY];
+    static int64_t iid_index[2 * MANY], sid_index[MARKERS];
+    struct reading r;
+    begin("bed_count_calls");
+    for (int i = 0; i < 20000; i++) {
+        draw_reading(&r);
+        size_t counts_len = draw_counts_len(r.iid_len, r.sid_len);
+        bed_answer a = read_checks(&r, r.iid_len * r.sid_len + (counts_len != 4 * r.sid_len), true);
+        same_counts(r.file, r.len, r.iids, r.sids, r.iid_index, r.iid_len, r.sid_index, r.sid_len, counts_len, a);
+    }
+
+    /* lists of whole files, whose pads are any bits */
+    for (size_t iids = 0; iids < 20; iids++)
+        for (size_t sids = 0; sids < 10; sids++)
+            for (int way = 0; way < 2 * WAYS * WAYS; way++) {
+                int mode = way & 1;
+                size_t len = 3 + width_of(mode ? iids : sids) * (mode ? sids : iids);
+                for (size_t k = 3; k < len; k++) file[k] = (uint8_t)draw(256);
+                file[0] = 0x6C, file[1] = 0x1B, file[2] = (uint8_t)mode;
+                size_t iid_len = list_by((enum way)(way / 2 % WAYS), iids, iid_index), sid_len = list_by((enum way)(way / 2 / WAYS), sids, sid_index);
+                same_counts(file, len, iids, sids, iid_index, iid_len, sid_index, sid_len, 4 * sid_len, answer(0, 0, 0));
+            }
+
+    /* every byte as the block of one to four animals */
+    for (size_t iids = 1; iids < 5; iids++) {
+        for (size_t k = 0; k < 256; k++) file[3 + k] = (uint8_t)k;
+        file[2] = 1, list_by(FILE_ORDER, iids, iid_index), list_by(FILE_ORDER, 256, sid_index);
+        same_counts(file, 259, iids, 256, iid_index, iids, sid_index, 256, 1024, answer(0, 0, 0));
+    }
+
+    /* many animals: all of one code, and of any */
+    for (int mode = 0; mode < 2; mode++)
+        for (int code = 0; code < 5; code++)
+            for (int way = 0; way < WAYS; way++) {
+                size_t len = 3 + (mode ? 3 * width_of(MANY) : MANY), iid_len = list_by((enum way)way, MANY, iid_index);
+                for (size_t k = 3; k < len; k++) file[k] = (uint8_t)(code < 4 ? 0x55 * (unsigned)code : draw(256));
+                file[2] = (uint8_t)mode, list_by(FILE_ORDER, 3, sid_index);
+                same_counts(file, len, MANY, 3, iid_index, iid_len, sid_index, 3, 12, answer(0, 0, 0));
+            }
+
+    /* no animals, or none listed, and many markers; no markers, or none listed */
+    for (int mode = 0; mode < 2; mode++) {
+        size_t len = 3 + (mode ? 2 * MARKERS : 5 * MARKERS / 4);
+        file[2] = (uint8_t)mode, list_by(FILE_ORDER, 5, iid_index), list_by(FILE_ORDER, MARKERS, sid_index);
+        same_counts(file, 3, 0, MARKERS, NULL, 0, sid_index, MARKERS, 4 * MARKERS, answer(0, 0, 0));
+        same_counts(file, 3, 0, MARKERS, NULL, 0, sid_index, MARKERS, 0, answer(15, 0, 0));
+        same_counts(file, 3, 0, MARKERS, iid_index, 1, sid_index, MARKERS, 4 * MARKERS, answer(5, 0, 0));
+        same_counts(file, len, 5, MARKERS, NULL, 0, sid_index, MARKERS, 4 * MARKERS, answer(0, 0, 0));
+        same_counts(file, len, 5, MARKERS, iid_index, 5, NULL, 0, 0, answer(0, 0, 0));
+        same_counts(file, 3, 5, 0, iid_index, 5, NULL, 0, 0, answer(0, 0, 0));
+        same_counts(file, 3, 5, 0, iid_index, 5, sid_index, 1, 4, answer(6, 0, 0));
+    }
+
+    /* every length about 4 times the markers */
+    list_by(LAST_ALONE, 5, iid_index), list_by(LAST_ALONE, 4, sid_index);
+    for (size_t sids = 0; sids < 5; sids++)
+        for (size_t len = 0; len <= 20; len++)
+            same_counts(f_files[1], f_len[1], 5, 2, iid_index, 5, sid_index, sids, len, answer(len == 4 * sids ? 0 : 15, 0, 0));
+
+    /* 4 times as many passes 2^64. Nobody can lend such a list, so no promise is made of it; 15 is found before it is looked at. */
+    for (size_t k = 0; k < 4; k++) {
+        same_counts(f_files[1], f_len[1], 5, 2, iid_index, 5, sid_index, SIZE_MAX / 4 + 1 + k, 4 * k, answer(15, 0, 0));
+        same_counts(f_files[1], f_len[1], 5, 2, NULL, 0, sid_index, SIZE_MAX / 2 + 1 + k, 4 * k, answer(15, 0, 0));
+    }
+
+    /* F: marker 0 is 2, missing, 1, 0, 2 and marker 1 is 0, 0, 1, 2, 1 */
+    for (int mode = 0; mode < 2; mode++) {
+        uint64_t counts[8];
+        list_by(FILE_ORDER, 5, iid_index), list_by(FILE_ORDER, 2, sid_index);
+        same(bed_count_calls(f_files[mode], f_len[mode], 5, 2, iid_index, 5, sid_index, 2, counts, 8), answer(0, 0, 0));
+        if (memcmp(counts, (uint64_t[]){1, 1, 2, 1, 2, 2, 1, 0}, sizeof counts)) fail("a count");
     }
     end();
 }
@@ -775,6 +895,8 @@ static void bounded(void) {
     begin("counts that nothing lent backs");
     same(bed_read_f64(header[1], 3, 0, large, true, NULL, 0, NULL, 0, NAN, false, NULL, 0), answer(0, 0, 0));
     same(bed_read_f64(header[0], 3, large, 0, true, NULL, 0, NULL, 0, NAN, true, NULL, 0), answer(0, 0, 0));
+    same(bed_count_calls(header[1], 3, 0, large, NULL, 0, NULL, 0, NULL, 0), answer(0, 0, 0));
+    same(bed_count_calls(header[0], 3, large, 0, NULL, 0, NULL, 0, NULL, 0), answer(0, 0, 0));
     same(bed_canonical(header[1], 3, 0, large, (uint8_t[3]){0}, 3), answer(0, 0, 0));
     same(bed_write_i8(NULL, 0, 0, large, false, true, 0, (uint8_t[3]){0}, 3), answer(0, 0, 0));
     same(bed_impute_and_zero_mean_snps_f64(NULL, 0, large, 0, false, true, false, NULL, 0), answer(0, 0, 0));
@@ -798,6 +920,8 @@ static void nulls(void) {
     same(bed_read_f64(header, 3, 0, 0, true, NULL, 0, NULL, 0, NAN, false, NULL, 0), answer(0, 0, 0));
     same(bed_read_standardised_f64(NULL, 0, 0, 0, true, NULL, 0, NULL, 0, true, NULL, 0, NULL, 0), answer(1, 0, 0));
     same(bed_read_standardised_f64(header, 3, 0, 0, true, NULL, 0, NULL, 0, false, NULL, 0, NULL, 0), answer(0, 0, 0));
+    same(bed_count_calls(NULL, 0, 0, 0, NULL, 0, NULL, 0, NULL, 0), answer(1, 0, 0));
+    same(bed_count_calls(header, 3, 0, 0, NULL, 0, NULL, 0, NULL, 0), answer(0, 0, 0));
     same(bed_canonical(NULL, 0, 0, 0, NULL, 0), answer(1, 0, 0));
     same(bed_canonical(header, 3, 0, 0, NULL, 0), answer(16, 0, 0));
     same(bed_encode1_i8(NULL, 0, NULL, 0, true, 0), answer(0, 0, 0));
@@ -823,6 +947,7 @@ int main(void) {
     files_and_widths();
     spans();
     reading_calls();
+    counting();
     packing(true);
     packing(false);
     standardising();

@@ -1,5 +1,5 @@
-/* Stands before libc in the tests of the command. FAULT is "CALL N error NUMBER", "CALL N signal NUMBER" or "CALL N cut FILE": when CALL is made
- * for the N-th time it fails with that error, the program gets that signal, or FILE is cut to nothing. */
+/* Stands before libc in the tests of the command. FAULT is "CALL N error NUMBER", "CALL N signal NUMBER", "CALL N cut FILE" or "CALL N fill FILE":
+ * when CALL is made for the N-th time it fails with that error, the program gets that signal, FILE is cut to nothing, or each of its bytes is an x. */
 #define _GNU_SOURCE
 #include <dlfcn.h>
 #include <errno.h>
@@ -10,6 +10,15 @@
 #include <sys/types.h>
 #include <unistd.h>
 
+static int fill(const char *path) {
+    FILE *file = fopen(path, "r+");
+    if (!file || fseek(file, 0, SEEK_END)) return -1;
+    long len = ftell(file);
+    rewind(file);
+    while (len-- > 0) fputc('x', file);
+    return fclose(file);
+}
+
 /* The error to fail with, or 0. */
 static int fault(const char *call, int *times) {
     char name[32], kind[16], what[4096];
@@ -17,7 +26,7 @@ static int fault(const char *call, int *times) {
     const char *text = getenv("FAULT");
     if (!text || sscanf(text, "%31s %d %15s %4095s", name, &at, kind, what) != 4 || strcmp(name, call) || ++*times != at) return 0;
     if (!strcmp(kind, "error")) return atoi(what);
-    if (!strcmp(kind, "signal") ? raise(atoi(what)) : truncate(what, 0)) abort();
+    if (!strcmp(kind, "signal") ? raise(atoi(what)) : !strcmp(kind, "fill") ? fill(what) : truncate(what, 0)) abort();
     return 0;
 }
 

@@ -24,6 +24,7 @@ bed_answer bed_read_i8(const uint8_t *, size_t, size_t, size_t, bool, const int6
                        size_t);
 bed_answer bed_read_f64(const uint8_t *, size_t, size_t, size_t, bool, const int64_t *, size_t, const int64_t *, size_t, double, bool, double *,
                         size_t);
+bed_answer bed_count_calls(const uint8_t *, size_t, size_t, size_t, const int64_t *, size_t, const int64_t *, size_t, uint64_t *, size_t);
 bed_answer bed_encode1_i8(const int8_t *, size_t, uint8_t *, size_t, bool, int8_t);
 bed_answer bed_encode1_f64(const double *, size_t, uint8_t *, size_t, bool, double);
 bed_answer bed_write_i8(const int8_t *, size_t, size_t, size_t, bool, bool, int8_t, uint8_t *, size_t);
@@ -117,6 +118,54 @@ static ALONE bool list_places(size_t count, const int64_t *list, size_t n, size_
 
 READ(double, c_read_f64)
 READ(int8_t, c_read_i8)
+
+/* The calls of each marker in file order, counted one by one: no, one and two copies, missing. Where a block is an animal, block by block. */
+static ALONE void c_count_codes(const uint8_t *file, size_t iids, size_t sids, uint64_t *counts) {
+    static const uint8_t place[4] = {2, 3, 1, 0};
+    size_t items = file[2] ? iids : sids, blocks = file[2] ? sids : iids, width = (items + 3) / 4;
+    memset(counts, 0, 4 * sids * sizeof *counts);
+    for (size_t b = 0; b < blocks; b++) {
+        const uint8_t *bytes = file + 3 + b * width;
+        uint64_t n[4] = {0};
+        for (size_t i = 0; i < items; i++) {
+            unsigned code = bytes[i / 4] >> i % 4 * 2 & 3;
+            if (file[2])
+                n[code]++;
+            else
+                counts[4 * i + place[code]]++;
+        }
+        for (unsigned code = 0; code < 4 && file[2]; code++)
+            counts[4 * b + place[code]] = n[code];
+    }
+}
+
+/* The same where a block is a marker, by a table of what each byte has, 16 bits for each of the four. */
+static ALONE void c_count_bytes(const uint8_t *file, size_t iids, size_t sids, uint64_t *counts) {
+    static const uint8_t place[4] = {2, 3, 1, 0};
+    enum { FULL = 16383 }; /* bytes whose calls 16 bits can count */
+    uint64_t table[256];
+    size_t width = (iids + 3) / 4, whole = iids / 4;
+    for (unsigned b = 0; b < 256; b++) {
+        table[b] = 0;
+        for (unsigned p = 0; p < 4; p++)
+            table[b] += (uint64_t)1 << 16 * place[b >> 2 * p & 3];
+    }
+    for (size_t m = 0; m < sids; m++) {
+        const uint8_t *bytes = file + 3 + m * width;
+        uint64_t n[4] = {0};
+        for (size_t start = 0; start < whole; start += FULL) {
+            size_t end = whole - start < FULL ? whole : start + FULL;
+            uint64_t sum = 0;
+            for (size_t i = start; i < end; i++)
+                sum += table[bytes[i]];
+            for (unsigned k = 0; k < 4; k++)
+                n[k] += sum >> 16 * k & 0xFFFF;
+        }
+        for (size_t i = 4 * whole; i < iids; i++)
+            n[place[bytes[i / 4] >> i % 4 * 2 & 3]]++;
+        memcpy(counts + 4 * m, n, sizeof n);
+    }
+}
 
 /* Values to bytes: tests against 0, 1, 2 and missing in turn. */
 #define WRITE(T, NAME)                                                                                                                         \
@@ -305,6 +354,7 @@ static size_t file1_len, file0_len;
 static int64_t *iid_order, *iid_shuffled, *iid_from_end, *sid_order;
 static double *val, *start_m, *start_a, *stats, *piece;
 static int8_t *val8, *start8_m, *start8_a;
+static uint64_t *counts;
 static size_t piece_rows, piece_cols;
 
 static uint64_t state = 0x9E3779B97F4A7C15u;
@@ -352,6 +402,7 @@ static void inputs(void) {
         sid_order[m] = (int64_t)m;
     val = room(calls * 8), start_m = room(calls * 8), start_a = room(calls * 8), stats = room(sids * 24);
     val8 = room(calls), start8_m = room(calls), start8_a = room(calls);
+    counts = room(sids * 32);
     c_read_f64(file1, iids, sids, true, iid_order, iids, sid_order, sids, NAN, false, start_m);
     c_read_f64(file1, iids, sids, true, iid_order, iids, sid_order, sids, NAN, true, start_a);
     c_read_i8(file1, iids, sids, true, iid_order, iids, sid_order, sids, -127, false, start8_m);
@@ -390,6 +441,17 @@ static bool our_read_i8(shape s) {
 }
 static bool c_row_read_i8(shape s) {
     return c_read_i8(file_of(s), iids, sids, true, list_of(s), iids, sid_order, sids, -127, s.animal_order, val8);
+}
+static bool our_count(shape s) {
+    return done(bed_count_calls(file_of(s), file_len(s), iids, sids, iid_order, iids, sid_order, sids, counts, 4 * sids));
+}
+static bool c_row_count_codes(shape s) {
+    c_count_codes(file_of(s), iids, sids, counts);
+    return true;
+}
+static bool c_row_count_bytes(shape s) {
+    c_count_bytes(file_of(s), iids, sids, counts);
+    return true;
 }
 static bool our_canonical(shape s) { return done(bed_canonical(file_of(s), file_len(s), iids, sids, packed, file1_len)); }
 static bool c_row_canonical(shape s) {
@@ -477,7 +539,7 @@ static void turn_back(shape s) {
 }
 
 /* What a row leaves, and what it needs before each run. */
-enum { VAL, VAL8, PACKED, VAL_STATS, PIECE_ATA, PIECE_AAT };
+enum { VAL, VAL8, COUNTS, PACKED, VAL_STATS, PIECE_ATA, PIECE_AAT };
 
 static size_t leaves(int kind, shape s) {
     switch (kind) {
@@ -486,6 +548,8 @@ static size_t leaves(int kind, shape s) {
         return calls * 8;
     case VAL8:
         return calls;
+    case COUNTS:
+        return sids * 32;
     case PACKED:
         return file1_len;
     default:
@@ -493,7 +557,11 @@ static size_t leaves(int kind, shape s) {
     }
 }
 
-static void *output(int kind) { return kind == VAL || kind == VAL_STATS ? (void *)val : kind == VAL8 ? (void *)val8 : kind == PACKED ? packed : (void *)piece; }
+static void *output(int kind) {
+    if (kind == COUNTS)
+        return counts;
+    return kind == VAL || kind == VAL_STATS ? (void *)val : kind == VAL8 ? (void *)val8 : kind == PACKED ? packed : (void *)piece;
+}
 
 static bool alike(const double *x, const double *y, size_t n) {
     for (size_t i = 0; i < n; i++)
@@ -551,7 +619,7 @@ static void row(shape s, int kind, bool in_place, bool (*ours)(shape), bool (*th
                 memcpy(kept_stats, stats, sids * 24);
             }
             if (r == first && side == 1) {
-                if (kind == PACKED || kind == VAL8)
+                if (kind == PACKED || kind == VAL8 || kind == COUNTS)
                     same &= memcmp(kept, output(kind), n) == 0;
                 else
                     same &= alike((double *)kept, output(kind), n / 8);
@@ -640,6 +708,9 @@ int main(int argc, char **argv) {
     row((shape){"read i8, mode 1, animal order", 0, 1, 0, 0}, VAL8, 0, our_read_i8, c_row_read_i8, 0);
     row((shape){"read i8, mode 0, marker order", 1, 0, 0, 0}, VAL8, 0, our_read_i8, c_row_read_i8, 0);
     row((shape){"read i8, mode 0, animal order", 1, 1, 0, 0}, VAL8, 0, our_read_i8, c_row_read_i8, 0);
+    row((shape){"count calls, mode 1, file order (C: call by call)", 0, 0, 0, 0}, COUNTS, 0, our_count, c_row_count_codes, 0);
+    row((shape){"count calls, mode 1, file order (C: a table of bytes)", 0, 0, 0, 0}, COUNTS, 0, our_count, c_row_count_bytes, 0);
+    row((shape){"count calls, mode 0, file order (C: call by call)", 1, 0, 0, 0}, COUNTS, 0, our_count, c_row_count_codes, 0);
     row((shape){"canonical, mode 1 (C: read i8, then write)", 0, 0, 0, 0}, PACKED, 0, our_canonical, c_row_canonical, 0);
     row((shape){"canonical, mode 0 (C: read i8, then write)", 1, 0, 0, 0}, PACKED, 0, our_canonical, c_row_canonical, 0);
     row((shape){"encode1 f64, marker by marker", 0, 0, 0, 0}, PACKED, 0, our_encode_f64, c_row_encode_f64, 0);

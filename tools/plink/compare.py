@@ -1,5 +1,5 @@
-"""The command beside PLINK: canonical files, and the animals and markers that lists of names choose, on drawn prefixes of both modes whose
-pads are any bits; or the times of whole programs. Exit 1 if anything differs.
+"""The command beside PLINK: canonical files, the animals and markers that lists of names choose, and the counts of calls, on drawn prefixes of
+both modes whose pads are any bits; or the times of whole programs. Exit 1 if anything differs.
 
     compare.py MUNGKELAS [times] [files=300] [seed=1] [plink1=plink1.9] [plink2=plink2] [animals=10000] [markers=50000] [repetitions=5]
 """
@@ -60,14 +60,31 @@ def make_bed(program, version, prefix, *more):
     return (None, said) if status else ([get("theirs" + end) for end in (".bed", ".fam", ".bim")], said)
 
 
+def theirs_counted(program, version, *more):
+    """PLINK's counts, as the first eight columns of `freq`; None if it is refused. PLINK 2 counts set pads, so it has the canonical file."""
+    if version == "plink1":
+        command = ["--bfile", "drawn", "--freqx", "--nonfounders", "--keep-allele-order", "--allow-no-sex"]
+        end, places = ".frqx", (0, 1, 2, 3, 4, 5, 6, 9)
+    else:
+        command = ["--bfile", "ours", "--geno-counts", "--threads", "1"]
+        end, places = ".gcount", (0, 1, 3, 2, 6, 5, 4, 9)
+    status, said = run(program, "--out", "theirs", *command, *more)
+    return None if status else [[words[i] for i in places] for words in rows("theirs" + end)]
+
+
+def rows(path):
+    """The lines of a table but its first."""
+    return [line.split("\t") for line in get(path).decode().splitlines()[1:]]
+
+
 def draw():
-    """A prefix `drawn`: its codes by marker, its names."""
+    """A prefix `drawn`: its codes by marker, its names. Some animals have parents: PLINK tells founders from others."""
     animals, markers, mode = drawn.choice((1, 2, 3, 4, 5, 7, 8, 9, drawn.randrange(10, 80))), drawn.randrange(1, 40), drawn.randrange(2)
     codes = [[drawn.choice((0, 1, 2, 3)) for _ in range(animals)] for _ in range(markers)]
     iids = [("f{}".format(a // 3), "i{}".format(a % 5 if a < 15 else a)) for a in range(animals)]  # an IID may be in several families
     sids = ["m{}".format(m) for m in range(markers)]
     put("drawn.bed", pack(codes, mode))
-    put("drawn.fam", "".join("{} {} 0 0 0 -9\n".format(*iid) for iid in iids))
+    put("drawn.fam", "".join("{} {} {} 0 -9\n".format(*iid, drawn.choice(("0 0", "0 0", "sire dam"))) for iid in iids))
     put("drawn.bim", "".join("1\t{}\t0\t{}\tA\tC\n".format(sid, m + 1) for m, sid in enumerate(sids)))
     return mode, codes, iids, sids
 
@@ -86,7 +103,7 @@ def lists(iids, sids):
 def compare():
     counts = dict(files=0, mode_0=0, calls=0, differ=0)
     refused = {version: 0 for version, _ in programs}
-    compared = {version: [0, 0] for version, _ in programs}
+    compared = {version: [0, 0, 0] for version, _ in programs}
 
     def differ(what, said=""):
         counts["differ"] += 1
@@ -120,9 +137,22 @@ def compare():
             compared[version][1] += 1
             if status or unpack(theirs[0], animals, markers) != values(get("ours.npy"), animals, markers):
                 differ("file {}: {} and read with lists".format(n, version), said)
+        for end in ".fam", ".bim":
+            shutil.copy("drawn" + end, "ours" + end)
+        for more in [], chosen:
+            status, said = run(ours, "freq", "drawn", "-o", "ours.freq", "--quiet", *more)
+            for version, program in programs:
+                theirs = theirs_counted(program, version, *more) if program else None
+                if theirs is None:
+                    if program and mode and not more:
+                        differ("file {}: {} counted nothing".format(n, version))
+                    continue
+                compared[version][2] += len(theirs)
+                if status or [words[:8] for words in rows("ours.freq")] != theirs:
+                    differ("file {}: {} and freq{}".format(n, version, " with lists" if more else ""), said)
     print("{files} files, {mode_0} of mode 0, {calls} calls: {differ} differ".format(**counts))
     for version, program in programs:
-        print("{}: {} canonical files and {} choices by lists compared, {} files of mode 0 refused by it".format(
+        print("{}: {} canonical files, {} choices by lists and the counts of {} markers compared, {} files of mode 0 refused by it".format(
             words[version], *compared[version], refused[version]) if program else "{}: not found".format(words[version]))
     return counts["differ"]
 
@@ -140,12 +170,18 @@ def times():
             f.write(block)
     put("drawn.fam", "".join("0 i{} 0 0 0 -9\n".format(a) for a in range(animals)))
     put("drawn.bim", "".join("1\tm{}\t0\t{}\tA\tC\n".format(m, m + 1) for m in range(markers)))
-    rows = [("canonical (make-bed)", [ours, "canonical", "drawn", "-o", "ours.bed", "--quiet"],
-             {"plink1": ["--make-bed", "--keep-allele-order", "--allow-no-sex"], "plink2": ["--make-bed", "--threads", "1"]})]
-    for name, command, theirs in rows:
+    for name, command, plink1, plink2 in (
+            ("check", ["check"], None, None),
+            ("read (recode A, export A: text)", ["read", "-o", "ours.npy"], ["--recode", "A"], ["--export", "A"]),
+            ("standardise", ["standardise", "-o", "ours.npy"], None, None),
+            ("freq (freqx, geno-counts)", ["freq", "-o", "ours.freq"], ["--freqx"], ["--geno-counts"]),
+            ("canonical (make-bed)", ["canonical", "-o", "ours.bed"], ["--make-bed"], ["--make-bed"])):
+        theirs = {"plink1": plink1 and plink1 + ["--keep-allele-order", "--allow-no-sex"], "plink2": plink2 and plink2 + ["--threads", "1"]}
+        lines = [("ours", [ours, *command, "drawn", "--threads", "1", "--quiet"])]
+        lines += [(v, [p, "--bfile", "drawn", "--out", "theirs", *theirs[v]]) for v, p in programs if p and theirs[v]]
         best = {}
         for _ in range(int(words["repetitions"])):
-            for who, line in [("ours", command)] + [(v, [p, "--bfile", "drawn", "--out", "theirs", *theirs[v]]) for v, p in programs if p]:
+            for who, line in lines:
                 start = time.monotonic()
                 status, said = run(*line)
                 assert status == 0, said

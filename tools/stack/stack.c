@@ -16,6 +16,7 @@ static int64_t iid_list[2][IIDS], sid_list[2][SIDS], list[IIDS];
 static double val[IIDS * SIDS], stats[BED_STATS_PER_MARKER * SIDS], piece[IIDS * WIDEST];
 static int8_t val8[IIDS * SIDS];
 static uint8_t marks[IIDS];
+static uint64_t counts[BED_COUNTS_PER_MARKER * SIDS];
 
 static int refused;
 static void done(bed_answer a) { refused += a.number != BED_DONE; }
@@ -51,6 +52,12 @@ static void read_f64(void) {
 static void read_standardised(void) {
     READINGS(done(bed_read_standardised_f64(file[mode], file_len[mode], IIDS, SIDS, true, il, IIDS, sl, SIDS, order, val, IIDS * SIDS, stats,
                                             BED_STATS_PER_MARKER * SIDS)))
+}
+
+static void count_calls(void) {
+    for (int w = 0; w < 8; w++)
+        done(bed_count_calls(file[w & 1], file_len[w & 1], IIDS, SIDS, iid_list[w >> 1 & 1], IIDS, sid_list[w >> 2], SIDS, counts,
+                             BED_COUNTS_PER_MARKER * SIDS));
 }
 
 static void encode1(void) {
@@ -128,6 +135,7 @@ int main(void) {
                  {"lists", lists},
                  {"reading i8", read_i8},
                  {"reading f64", read_f64},
+                 {"counting calls", count_calls},
                  {"packing one marker", encode1},
                  {"writing i8", write_i8},
                  {"writing f64", write_f64},

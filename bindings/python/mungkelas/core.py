@@ -16,6 +16,9 @@ from ._version import __version__
 # The numbers of a statistics record, BED_STATS_PER_MARKER of the header: mean, deviation, how many values were observed.
 STATS_PER_MARKER = 3
 
+# The counts of a marker, BED_COUNTS_PER_MARKER of the header: no, one and two copies of the first allele, and missing.
+COUNTS_PER_MARKER = 4
+
 # What a refusal says, by its number.
 WORDS = {
     1: "fewer bytes than needed",
@@ -32,7 +35,7 @@ WORDS = {
     12: "the start is above the end",
     13: "marker {first} of the matrix has no call",
     14: "marker {first} of the matrix has no mean",
-    15: "the value buffer has the wrong length",
+    15: "the value or counts buffer has the wrong length",
     16: "the packed buffer has the wrong length",
     17: "the statistics buffer has the wrong length",
     18: "a count, a start, a height, a width or a bound is above 2^63 - 1",
@@ -88,6 +91,7 @@ CALLS = {
     "bed_byte_span": [_SIZE] + _BUFFER,
     "bed_read_i8": _READ + [_I8, _BOOL] + _BUFFER,
     "bed_read_f64": _READ + [_F64, _BOOL] + _BUFFER,
+    "bed_count_calls": _BUFFER + [_SIZE, _SIZE] + _BUFFER + _BUFFER + _BUFFER,
     "bed_canonical": _BUFFER + [_SIZE, _SIZE] + _BUFFER,
     "bed_encode1_i8": _BUFFER + _BUFFER + [_BOOL, _I8],
     "bed_encode1_f64": _BUFFER + _BUFFER + [_BOOL, _F64],
@@ -150,7 +154,8 @@ _release.argtypes, _release.restype = [ctypes.POINTER(_View)], None
 _WRITABLE, _FORMAT_AND_SHAPE = 1, 4 | 8
 
 # The letters that stand for a buffer's values, and their width.
-_TYPES = {"u8": (set("Bbc?"), 1), "i8": (set("b"), 1), "i64": (set("ql"), 8), "f64": (set("d"), 8)}
+_TYPES = {"u8": (set("Bbc?"), 1), "i8": (set("b"), 1), "i64": (set("ql"), 8), "u64": (set("QL"), 8),
+          "f64": (set("d"), 8)}
 
 
 class _Lent:
@@ -248,6 +253,13 @@ def read_f64(file, iid_count, sid_count, is_a1_counted, iid_index, sid_index, mi
     """Writes the calls of the listed animals at the listed markers to val."""
     _call(library.bed_read_f64, _Lent(file, "u8"), _size(iid_count), _size(sid_count), bool(is_a1_counted),
           _list(iid_index), _list(sid_index), missing_value, bool(animal_order), _Lent(val, "f64", True))
+
+
+def count_calls(file, iid_count, sid_count, iid_index, sid_index, counts):
+    """Writes how many of the listed animals' calls at each listed marker have no, one and two copies of the first allele,
+    and how many are missing, to counts, unsigned ints of 64 bits."""
+    _call(library.bed_count_calls, _Lent(file, "u8"), _size(iid_count), _size(sid_count), _list(iid_index),
+          _list(sid_index), _Lent(counts, "u64", True))
 
 
 def canonical(file, iid_count, sid_count, out):

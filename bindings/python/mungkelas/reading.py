@@ -210,6 +210,25 @@ class open_bed:
             self._read_lines(animals, markers, order, flat(val, order), threads, told)
         return val
 
+    def count_calls(self, index=None, *, num_threads=None, progress=None):
+        """How many of the same calls are 0, 1, 2 and missing, as uint64, a row of four for each marker read.
+
+        The values are those that read gives: copies of the first allele, or without count_A1 of the second. An animal that
+        the index names twice counts twice. progress is told calls.
+        """
+        animals, markers = self._lists(index, None)
+        threads = parts.thread_count(num_threads, self._num_threads)
+        counts = np.zeros((len(markers), core.COUNTS_PER_MARKER), np.uint64)
+        told = parts.Told(progress, len(animals) * len(markers))
+
+        def work(start, end):
+            core.count_calls(*self._asked()[:3], animals, markers[start:end], flat(counts[start:end], "C"))
+
+        parts.run_lines(work, len(markers), len(animals), self._across("F"), threads, told)
+        if not self.count_A1:
+            counts[:, [0, 2]] = counts[:, [2, 0]]
+        return counts
+
     def read_standardised(self, index=None, order=None, *, out=None, num_threads=None, progress=None):
         """The same calls standardised, as float64, and the statistics, a row for each marker read: mean, deviation, and how
         many of the calls are not missing.

@@ -85,6 +85,11 @@ def standardised(calls):
     return values, np.array([mean, deviation, np.count_nonzero(calls != MISSING, axis=0)]).T.copy()
 
 
+def counted(calls):
+    """How many calls of each marker are 0, 1, 2 and missing."""
+    return np.array([np.count_nonzero(calls == value, axis=0) for value in (0, 1, 2, MISSING)], np.uint64).T.copy()
+
+
 # ---- parts
 
 class Cut:
@@ -156,6 +161,26 @@ def test_reading():
                                     alike(out, cut, "listed calls in out")
 
 
+def test_counting():
+    for mode in (0, 1):
+        for iids, sids in SHAPES:
+            file = drawn(mode, iids, sids)
+            name = saved("drawn.bed", file)
+            for flag in (True, False):
+                calls = unpacked(file, iids, sids, flag)
+                with open_bed(name, iids, sids, count_A1=flag, mmap=flag) as bed:
+                    for turn in range(6):
+                        lists = drawn_list(iids), drawn_list(sids)
+                        for threads in (1, 2, 3):
+                            alike(bed.count_calls(num_threads=threads), counted(calls), "all counts")
+                            with Cut(draw.choice([1, 7, 30]), draw.choice([1, 3])):
+                                got = bed.count_calls(lists, num_threads=threads)
+                            alike(got, counted(calls[np.ix_(*lists)]), "listed counts in parts")
+                            same(got.flags.c_contiguous, True, "the order of the counts")
+                    alike(bed.count_calls(np.s_[::2, ::-1]), counted(calls[::2, ::-1]), "counts by slices")
+                    alike(bed.count_calls(slice(1)), counted(calls[:, :1]), "counts of a marker")
+
+
 def test_defaults():
     file = drawn(1, 9, 5)
     with open_bed(saved("drawn.bed", file), 9, 5) as bed:
@@ -180,6 +205,10 @@ def test_large():
                         alike(bed.read(lists, dtype, order, num_threads=threads), want, "a larger file, listed")
                     for got, want in zip(bed.read_standardised(order=order, num_threads=threads), wanted):
                         alike(got, want, "a larger file, standardised")
+            for threads in (1, 2, 3):
+                alike(bed.count_calls(num_threads=threads), counted(calls), "a larger file, counted")
+                got = bed.count_calls(lists, num_threads=threads)
+                alike(got, counted(calls[np.ix_(*lists)]), "a larger file, listed and counted")
 
 
 def test_lent():
@@ -199,6 +228,12 @@ def test_lent():
         with Seen("read_standardised_f64") as seen:
             val, stats = bed.read_standardised(num_threads=1)
         same(np.shares_memory(seen.calls[0], stats), True, "statistics are lent")
+        for threads in (1, 2, 3):
+            with Cut(100, 4), Seen("count_calls") as seen:
+                counts = bed.count_calls(num_threads=threads)
+            same(all(np.shares_memory(one, counts) for one in seen.calls), True, "counts are lent")
+            same(sum(one.size for one in seen.calls), counts.size, "every count is lent once")
+            same(len(seen.calls) > 1, threads > 1, "with threads the counting is cut")
     for mode in (0, 1):
         with open_bed(saved("drawn.bed", drawn(mode, 40, 30)), 40, 30) as bed:
             for order in "FC":
@@ -314,12 +349,14 @@ def test_progress():
     with open_bed(saved("drawn.bed", file), 40, 30) as bed:
         for threads in (1, 2, 3):
             for order in "FC":
-                for dtype in DTYPES + ("standardised",):
+                for dtype in DTYPES + ("standardised", "counted"):
                     told = []
                     options = {"num_threads": threads, "progress": lambda *numbers: told.append((here(), *numbers))}
                     with Cut(100, 4):
                         if dtype == "standardised":
                             bed.read_standardised(None, order, **options)
+                        elif dtype == "counted":
+                            bed.count_calls(**options)
                         else:
                             bed.read(None, dtype, order, **options)
                     total = 2400 if dtype == "standardised" and order == "C" else 1200
@@ -346,7 +383,8 @@ def test_progress():
         same(len(seen.calls) < 30, True, "the parts left when a reading is stopped")
         told = []
         bed.read(([], []), progress=lambda *numbers: told.append(numbers))
-        same(told, [(0, 0)], "progress of nothing")
+        bed.count_calls(([], []), progress=lambda *numbers: told.append(numbers))
+        same(told, [(0, 0)] * 2, "progress of nothing")
 
 
 def test_out():
@@ -416,6 +454,8 @@ def test_refusals():
                                 continue
                             e = raised((BedError,), bed.read, tuple(lists), out=out, num_threads=threads)
                         same((type(e), e.number, e.first, e.second), want, "a refusal")
+                        e = raised((BedError,), bed.count_calls, tuple(lists), num_threads=threads)
+                        same((type(e), e.number, e.first, e.second), want, "a refusal of counting")
                         same(str(e).startswith(path("drawn.bed")), True, "the file in words")
                         same((out == 9).all(), True, "out at a refusal")
                         seen.add(e.number)
@@ -436,6 +476,7 @@ def test_refusals():
     bed.close()
     bed.close()
     raised((ValueError,), bed.read)
+    raised((ValueError,), bed.count_calls)
     raised((OverflowError,), open_bed(path("good.bed"), -1, 2).read)
 
 
@@ -597,6 +638,7 @@ def test_readme():
 
 test_readme()
 test_reading()
+test_counting()
 test_defaults()
 test_large()
 test_lent()

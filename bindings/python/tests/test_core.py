@@ -57,6 +57,8 @@ def test_header():
     same([0] + sorted(core.WORDS), sorted(numbers), "the refusals")
     record = re.search(r"#define BED_STATS_PER_MARKER (\d+)", header).group(1)
     same(core.STATS_PER_MARKER, int(record), "the numbers of a statistics record")
+    record = re.search(r"#define BED_COUNTS_PER_MARKER (\d+)", header).group(1)
+    same(core.COUNTS_PER_MARKER, int(record), "the counts of a marker")
     version = dict(re.findall(r"#define MUNGKELAS_VERSION_(MAJOR|MINOR|PATCH) +(\d+)", header))
     same(mungkelas.__version__, "{MAJOR}.{MINOR}.{PATCH}".format(**version) if version else "0.1.0", "the version")
 
@@ -129,6 +131,55 @@ def test_reading():
     nothing = array("b")
     core.read_i8(F[:3], 0, 9, True, [], range(9), 0, False, nothing)
     refused(2, 0, 0, core.read_i8, F[:4], 0, 9, True, [], [], 0, False, nothing)
+
+
+def test_counting():
+    for file in (F, F[:-1] + b"\xf2", F_MODE_0):
+        counts = array("Q", [9] * 8)
+        core.count_calls(file, 5, 2, range(5), range(2), counts)
+        same(counts.tolist(), [1, 1, 2, 1, 2, 2, 1, 0], "the counts of F")
+        core.count_calls(file, 5, 2, [-1, 0, 4, 1, -4], [-1, 1], counts)
+        same(counts.tolist(), [3, 2, 0, 0] * 2, "entries that stand twice, in both lists")
+        core.count_calls(file, 5, 2, [1, 1, 1], [0, -1], counts)
+        same(counts.tolist(), [0, 0, 0, 3, 3, 0, 0, 0], "one animal three times")
+        core.count_calls(file, 5, 2, [], [0, 1], counts)
+        same(counts.tolist(), [0] * 8, "no animals")
+        core.count_calls(file, 5, 2, [0, 4], [], array("Q"))
+    good = [F, 5, 2, [0], [0], array("Q", [9] * 4)]
+
+    def changed(number, first, **changes):
+        at = {"file": 0, "animals": 1, "markers": 2, "iids": 3, "sids": 4, "counts": 5}
+        arguments = list(good)
+        for name, value in changes.items():
+            arguments[at[name]] = value
+        before = arguments[5].tolist()
+        refused(number, first, 0, core.count_calls, *arguments)
+        same(arguments[5].tolist(), before, "the counts at a refusal")
+
+    short = array("Q", [9] * 3)
+    changed(18, 0, animals=2**63, counts=short)
+    changed(18, 0, markers=2**64 - 1, file=b"")
+    for length in (0, 1, 2, 3, 5, 8):
+        changed(15, 0, counts=array("Q", [9] * length), file=b"")
+    changed(15, 0, sids=[], iids=[0, 1])
+    changed(15, 0, iids=[0, 1], sids=[0, 1])
+    changed(1, 0, file=F[:2], iids=[5])
+    changed(2, 0, file=b"\x1b\x6c\x02" + F[3:])
+    changed(3, 0, file=b"\x6c\x1b\x02" + F[3:], animals=2**63 - 1, markers=8)
+    changed(4, 0, animals=2**63 - 1, markers=8, iids=[-2**63])
+    changed(2, 0, file=F[:-1], iids=[5])
+    changed(2, 0, file=F + b"\x00", sids=[2])
+    for file in (F, F_MODE_0):  # 2 to 4 and -5 to -3 are animals and no markers
+        changed(5, 5, file=file, iids=[4, 5, -6], sids=[2])
+        changed(5, -6, file=file, iids=[-6])
+        changed(6, 2, file=file, sids=[2])
+        changed(6, -3, file=file, iids=[4], sids=[-3])
+        changed(5, 5, file=file, iids=[5], sids=[], counts=array("Q"))
+        changed(6, 2, file=file, iids=[], sids=[2])
+    core.count_calls(F[:3], 0, 9, [], range(9), counts := array("Q", [9] * 36))
+    same(counts.tolist(), [0] * 36, "markers of no animals")
+    for wrong in (array("q", [9] * 4), array("d", [9] * 4), array("I", [9] * 8), array("Q", [9] * 4).tobytes()):
+        raised(((TypeError, BufferError),), core.count_calls, F, 5, 2, [0], [0], wrong)
 
 
 def test_packing():
@@ -307,6 +358,9 @@ def test_drawn():
         same(val.tolist(), want, "a drawn file at i8")
         core.read_f64(file, iids, sids, flag, array("q", animals), tuple(markers), NAN, order, wide)
         same(floats(wide), ["NaN" if v == -127 else v for v in want], "a drawn file at f64")
+        calls = [[call_at(file, iids, sids, a % iids, m % sids) for a in animals] for m in markers]
+        core.count_calls(file, iids, sids, array("q", animals), markers, counts := array("Q", [9] * (4 * len(markers))))
+        same(counts.tolist(), [one.count(code) for one in calls for code in (3, 2, 0, 1)], "the counts of a drawn file")
         whole = array("b", bytes(iids * sids))
         core.read_i8(file, iids, sids, flag, range(iids), range(sids), -127, order, whole)
         core.write_i8(whole, iids, sids, order, flag, -127, written := bytearray(3 + (iids + 3) // 4 * sids))
@@ -395,6 +449,7 @@ def test_loading():
 test_header()
 test_headers_widths_spans()
 test_reading()
+test_counting()
 test_packing()
 test_standardising()
 test_records()
