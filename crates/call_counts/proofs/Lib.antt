@@ -1,0 +1,3 @@
+pub mod CheckLaws
+pub mod TallyLaws
+pub mod CountLaws
