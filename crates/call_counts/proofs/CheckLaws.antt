@@ -14,9 +14,13 @@ use Rattle.blocks.specs.Block.{fileLength}
 use Rattle.entries.specs.Entry.{firstBad}
 use Rattle.bed_file.specs.File.{isMode1, items, blocks, checkFile, acceptAnswer}
 use Rattle.bed_file.proofs.FileLaws.{accepted, accept-file, file-stage, file-length}
+use Rattle.calls.specs.declared.Shape.{Shape}
+use Rattle.calls.specs.Places.{IsShape}
+use Rattle.calls.proofs.PlaceLaws.{shape-read}
 use Rattle.bed_read.specs.Reading.{checkLists, listsAnswer}
 use Rattle.bed_read.proofs.ReadLaws.{lists-done}
 use Rattle.call_counts.specs.Counts.{countsAnswer}
+use Rattle.call_counts.specs.Private.{Ready}
 
 module _ (file : List ℕ) (iids sids : ℕ) (il sl : List ℤ) (size : ℕ) where
   abbrev lists : Answer
@@ -77,4 +81,15 @@ countable file iids sids il sl size d =
       length-is = file-length file iids sids [] own;
       iids-good = l .0;
       sids-good = l .1;
+    }
+
+-- and what the loops ask for
+pub ready :
+    (file : List ℕ) (iids sids : ℕ) (il sl : List ℤ) (size : ℕ) (shape : Shape) → Countable file iids sids il sl size → IsShape file iids sids shape
+    → Ready file shape il sl
+ready file iids sids il sl size shape r e =
+    record {
+      shaped = shape-read file iids sids shape e (r .length-is);
+      iids-good = ap (λ (x : ℕ). firstBad x il) (e .iids-are) ∙ r .iids-good;
+      sids-good = ap (λ (x : ℕ). firstBad x sl) (e .sids-are) ∙ r .sids-good;
     }

@@ -27,6 +27,10 @@ pub meant :
     → n ≡ means count (getD list k (pos 0))
 meant count list k n f e = means-back count (getD list k (pos 0)) (record { sfits = f }) n e
 
+-- runs begin at whole bytes
+pub next-whole : (from n len : ℕ) → from % 4 ≡ 0 → (from + n < len → n % 4 ≡ 0) → from + n < len → (from + n) % 4 ≡ 0
+next-whole from n len e f h = let g = f h in omega arith
+
 -- ---- the counts buffer, marker by marker, over any counts g n p of n entries at place p
 -- the first m markers are counted up to the entry `until`, and the others up to `from`
 pub record RunTo (g : ℕ → ℕ → ℕ) (size from until m : ℕ) (counts : List ℕ) : Type 0 where
@@ -110,12 +114,19 @@ module _ (file : List ℕ) (iids sids : ℕ) (il sl : List ℤ) where
         omega arith
 
   -- ---- the later buffer
+  all-counted : (new : List ℕ) → CountedTo (countAt file iids sids il sl) (4 * length sl) (length il) new → new ≡ newCounts file iids sids il sl
+  unfolding newCounts callsWith countAt
+  all-counted new t = is-tabulate new (4 * length sl) _ 0 (t .long) (t .holds)
+
   pub counts-new :
-      (old new : List ℕ) → isDone (countsAnswer file iids sids il sl (length old)) ≡ true → CountedTo (countAt file iids sids il sl) (4 * length sl) (length il) new
-      → new ≡ laterCounts file iids sids il sl old
-  unfolding laterCounts newCounts callsWith countAt
-  counts-new old new d t =
-      is-tabulate new (4 * length sl) _ 0 (t .long) (t .holds) ∙ sym (new-if-done (countsAnswer file iids sids il sl (length old)) (newCounts file iids sids il sl) old d)
+      (old new : List ℕ) (x y : ℕ) → x ≡ iids → y ≡ sids → isDone (countsAnswer file iids sids il sl (length old)) ≡ true
+      → CountedTo (countAt file x y il sl) (4 * length sl) (length il) new → new ≡ laterCounts file iids sids il sl old
+  unfolding laterCounts
+  counts-new old new x y ex ey d t =
+      all-counted new
+      (subst (λ (z : ℕ). CountedTo (countAt file iids z il sl) (4 * length sl) (length il) new) ey
+      (subst (λ (z : ℕ). CountedTo (countAt file z y il sl) (4 * length sl) (length il) new) ex t))
+      ∙ sym (new-if-done (countsAnswer file iids sids il sl (length old)) (newCounts file iids sids il sl) old d)
 
   pub counts-kept : (old : List ℕ) → isDone (countsAnswer file iids sids il sl (length old)) ≡ false → old ≡ laterCounts file iids sids il sl old
   unfolding laterCounts

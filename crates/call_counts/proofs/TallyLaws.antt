@@ -132,20 +132,25 @@ in-tally code n j h b = by-place j b
     by-place (suc (suc (suc (suc j)))) b = absurd (omega arith)
 
 -- a tally of fewer than 65,536 codes has room for one weight more
-weight-most : (code : ℕ) → weight code ≤ 281474976710656
+pub weight-most : (code : ℕ) → weight code ≤ 281474976710656
 unfolding weight
 weight-most zero = omega arith
 weight-most (suc zero) = omega arith
 weight-most (suc (suc zero)) = omega arith
 weight-most (suc (suc (suc n))) = omega arith
 
-tally-most : (code : ℕ → ℕ) (n : ℕ) → tally code n ≤ n * 281474976710656
+pub tally-most : (code : ℕ → ℕ) (n : ℕ) → tally code n ≤ n * 281474976710656
 unfolding tally
 tally-most code zero = omega arith
 tally-most code (suc n) = let r = tally-most code n in let w = weight-most (code n) in omega arith
 
 pub tally-room : (code : ℕ → ℕ) (n sum w x : ℕ) → n < 65535 → sum ≡ tally code n → w ≡ weight x → sum + w < 2 ^ 64
 tally-room code n sum w x h e f = let r = tally-most code n in let m = weight-most x in omega arith
+
+pub tally-ext : (f g : ℕ → ℕ) (n : ℕ) → ((k : ℕ) → k < n → f k ≡ g k) → tally f n ≡ tally g n
+unfolding tally
+tally-ext f g zero e = refl
+tally-ext f g (suc n) e = ap (λ (x : ℕ). x + weight (f n)) (tally-ext f g n (λ k h. e k (omega arith))) ∙ ap (λ (x : ℕ). tally g n + weight x) (e n (omega arith))
 
 pub tally-none : (code : ℕ → ℕ) → 0 ≡ tally code 0
 unfolding tally

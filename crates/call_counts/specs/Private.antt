@@ -1,12 +1,26 @@
 -- What only private functions speak in.
 use mathlib.Core.Path.{_≡_}
 use mathlib.Core.List.{List}
+use mathlib.Core.Option.{none}
 use Prim.Native.Nat.{ℕ, zero, suc, _+_, _*_, _/_, _%_, _<_, _≤_}
 use lib.IntN.{ℤ, pos}
 use lib.ListN.{length, getD}
-use Rattle.entries.specs.Entry.{means}
-use Rattle.codes.specs.Code.{copies}
+use Rattle.answer.specs.Lists.{tabulate}
+use Rattle.entries.specs.Entry.{firstBad, means}
+use Rattle.codes.specs.Code.{copies, codeAt}
+use Rattle.calls.specs.declared.Shape.{Shape}
+use Rattle.calls.specs.Places.{Shaped}
 use Rattle.call_counts.specs.Counts.{howMany, sameCopies, codeNamed, counted}
+
+-- an accepted file, and both lists are good
+pub record Ready (file : List ℕ) (shape : Shape) (iidList sidList : List ℤ) : Type 0 where
+  pub shaped : Shaped file shape
+  pub iids-good : firstBad (shape .iids) iidList ≡ none
+  pub sids-good : firstBad (shape .sids) sidList ≡ none
+
+-- the first n entries of a list mean 0, 1, 2 and so on
+abbrev pub InOrder : ℕ → List ℤ → ℕ → Type 0
+InOrder count list n = (k : ℕ) → k < n → means count (getD list k (pos 0)) ≡ k
 
 -- ---- tallies: the four counts of up to 65,535 codes in one number, 16 bits each, in the order of a marker's places
 -- the weight of a code
@@ -24,6 +38,17 @@ tally code (suc n) = tally code n + weight (code n)
 -- the tally of n entries of the animal list, from `from` on, at marker m
 abbrev pub tallyNamed : List ℕ → ℕ → ℕ → List ℤ → ℕ → ℕ → ℕ → ℕ
 tallyNamed file iids sids iidList m from n = tally (λ k. codeNamed file iids sids iidList m (from + k)) n
+
+-- the tally of n items of the block that starts at a byte
+abbrev pub tallyItems : List ℕ → ℕ → ℕ → ℕ
+tallyItems file start n = tally (λ i. codeAt (getD file (start + i / 4) 0) (i % 4)) n
+
+-- the tally of the four codes of a byte, and the table of those of every byte
+unfoldable pub byteTally : ℕ → ℕ
+byteTally byte = weight (codeAt byte 0) + weight (codeAt byte 1) + weight (codeAt byte 2) + weight (codeAt byte 3)
+
+unfoldable pub byteTallies : List ℕ
+byteTallies = tabulate 256 byteTally
 
 -- count j of a tally
 unfoldable pub inTally : ℕ → ℕ → ℕ

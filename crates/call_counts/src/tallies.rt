@@ -1,9 +1,21 @@
 // Tallies: the counts of a marker over a part of the animal list, in one number.
 ghost use mathlib.Core.Path.{_≡_};
-ghost use Prim.Native.Nat.{ℕ, _+_, _^_, _<_, _≤_};
+ghost use mathlib.Core.Bool.{true};
+ghost use mathlib.Core.Option.{none};
+ghost use Prim.Native.Nat.{ℕ, _+_, _-_, _*_, _%_, _^_, _<_, _≤_};
 ghost use lib.ListN.{length, getD};
-ghost use Rattle.call_counts.specs.Private.{weight, tallyNamed, inTally, Added};
+ghost use Rattle.codes.specs.Code.{codeAt};
+ghost use Rattle.entries.specs.Entry.{firstBad};
+ghost use Rattle.calls.specs.Places.{Shaped};
+ghost use Rattle.call_counts.specs.Private.{InOrder, weight, byteTallies, tallyItems, tallyNamed, inTally, Added};
+use calls::Shape;
 use entries::SidIndex;
+
+fn wide(byte: u8) -> usize
+    ensures { λ r. ⌜ (r ≡ byte) × (r < 256) ⌝ }
+{
+    byte as usize
+}
 
 // The weight of a code.
 fn weight_of(code: u8) -> u64
@@ -21,8 +33,47 @@ fn weight_of(code: u8) -> u64
     1
 }
 
+// The code at a place of a byte.
+fn code_at(byte: u8, place: usize) -> u8
+    requires { ⌜ place < 4 ⌝ }
+    ensures { λ r. ⌜ r ≡ codeAt byte place ⌝ }
+{
+    if place == 0 {
+        return byte % 4;
+    }
+    if place == 1 {
+        return byte / 4 % 4;
+    }
+    if place == 2 {
+        return byte / 16 % 4;
+    }
+    byte / 64 % 4
+}
+
+// The tally of the first n items of the block that starts at a byte: byte by byte, then the items of the last one; pads are not counted.
+fn tally_block(file: &[u8], start: usize, n: usize, table: &[u64; 256]) -> u64
+    requires { ⌜ (n ≤ 4 * (length (now file) - start)) × (n < 65536) × (now table ≡ byteTallies) ⌝ }
+    ensures { λ r. ⌜ r ≡ tallyItems (now (file .entry)) start n ⌝ }
+{
+    let whole = n / 4;
+    let mut sum: u64 = 0;
+    let mut b = 0;
+    while b < whole {
+        let byte = wide(file[start + b]);
+        sum = sum + table[byte];
+        b += 1;
+    }
+    let mut i = 4 * whole;
+    while i < n {
+        let code = code_at(file[start + i / 4], i % 4);
+        sum = sum + weight_of(code);
+        i += 1;
+    }
+    sum
+}
+
 // The tally of n entries of the animal list, from `from` on, at a marker.
-pub(crate) fn tally_entries(
+fn tally_entries(
     file: &[u8],
     iid_count: usize,
     sid_count: usize,
@@ -45,6 +96,29 @@ pub(crate) fn tally_entries(
         k += 1;
     }
     sum
+}
+
+// The same, by whole bytes where a marker is a block and the entries are the animals in file order.
+pub(crate) fn tally_marker(
+    file: &[u8],
+    shape: Shape,
+    iid_index: &[i64],
+    sid: SidIndex,
+    from: usize,
+    n: usize,
+    in_order: bool,
+    table: &[u64; 256],
+) -> u64
+    requires { ⌜ Shaped (now file) shape × (firstBad (shape .iids) (now «iid_index») ≡ none) × (sid .0 < shape .sids)
+        × (from + n ≤ length (now «iid_index»)) × (from % 4 ≡ 0) × (0 < n) × (n < 65536)
+        × («in_order» ≡ true → (shape .mode1 ≡ true) × InOrder (shape .iids) (now «iid_index») (length (now «iid_index»))) × (now table ≡ byteTallies) ⌝ }
+    ensures { λ r. ⌜ r ≡ tallyNamed (now (file .entry)) (shape .iids) (shape .sids) (now («iid_index» .entry)) (sid .0) from n ⌝ }
+{
+    if in_order {
+        let block = calls::sid_part(shape, sid).byte;
+        return tally_block(file, block + from / 4, n, table);
+    }
+    tally_entries(file, shape.iids, shape.sids, iid_index, sid, from, n)
 }
 
 // Adds the four counts of a tally to those from place `at` on.
