@@ -1,0 +1,6 @@
+pub mod CheckLaws
+pub mod TallyLaws
+pub mod BlockLaws
+pub mod CountLaws
+pub mod Theorems
+pub mod Examples
