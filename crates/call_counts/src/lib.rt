@@ -5,14 +5,14 @@ ghost use Prim.Native.Nat.{ℕ, _+_, _*_, _%_, _<_, _≤_};
 ghost use lib.ListN.{length, getD};
 ghost use Rattle.call_counts.specs.Counts.{CountsCalls};
 ghost use Rattle.call_counts.specs.Private.{Ready, InOrder, byteTallies, countAt, CountedTo};
-ghost use Rattle.call_counts.specs.Says.{countsSays};
+ghost use Rattle.bed_read.specs.Says.{readSays};
 
 mod checks;
 mod table;
 mod tallies;
 
+use bed_read::ReadAnswer;
 use calls::Shape;
-pub use checks::CountsAnswer;
 
 // All counts 0.
 fn clear(counts: &mut [u64])
@@ -131,9 +131,9 @@ pub fn count_calls(
     iid_index: &[i64],
     sid_index: &[i64],
     counts: &mut [u64],
-) -> CountsAnswer
+) -> ReadAnswer
     ensures { λ r. ⌜ CountsCalls (now (file .entry)) «iid_count» «sid_count» (now («iid_index» .entry)) (now («sid_index» .entry))
-        (countsSays r) (now (counts .entry)) (now (counts .exit)) ⌝ }
+        (readSays r) (now (counts .entry)) (now (counts .exit)) ⌝ }
 {
     let checked = checks::check_counts(
         file,
@@ -143,7 +143,7 @@ pub fn count_calls(
         sid_index,
         counts.len(),
     );
-    if checks::is_done(checked) {
+    if bed_read::is_done(checked) {
         let shape = calls::shape_of(file, iid_count, sid_count);
         let table = table::byte_tallies();
         count_all(file, shape, iid_index, sid_index, &table, counts);

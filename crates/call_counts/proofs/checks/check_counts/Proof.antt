@@ -24,18 +24,15 @@ enum-told c = search needs
 check-lists-requires : tie.Need-check-lists-requires
 check-lists-requires c κs = search needs
 
-of-lists-requires : tie.Need-of-lists-requires
-of-lists-requires c κs = search needs
-
 enum-known-fault : tie.Need-enum-known-fault
 enum-known-fault c = search needs
 
 returns-3 : tie.Need-returns-3
 returns-3 c =
     let s = c .before .before .before in
-    counts-lists _ _ _ _ _ _ (s .before .before .before .before .before .if1 .left) (s .before .before .before .before .if2 .left) _ (s .before .before .before .product-is .ensures) (s .before .before .if3 .taken) _
-    (sym (ap acceptSays (c .before .before .enum-told .given .1)) ∙ s .before .accept .ensures)
-    (c .of-lists .ensures ∙ c .before .check-lists .ensures)
+    counts-lists _ _ _ _ _ _ (s .before .before .before .before .if1 .left) (s .before .before .before .if2 .left) _ (s .before .before .product-is .ensures) (s .before .if3 .taken) _
+    (sym (ap acceptSays (c .before .enum-told .given .1)) ∙ s .accept .ensures)
+    (c .check-lists .ensures)
 
 returns-4 : tie.Need-returns-4
 returns-4 c =
@@ -56,7 +53,6 @@ check-counts-spec =
     accept-requires
     enum-told
     check-lists-requires
-    of-lists-requires
     enum-known-fault
     returns-3
     returns-4
