@@ -23,28 +23,6 @@ use Rattle.call_counts.specs.Counts.{codeNamed}
 use Rattle.call_counts.specs.Private.{InOrder, weight, tally, byteTally, byteTallies, tallyItems, tallyNamed}
 use Rattle.call_counts.proofs.TallyLaws.{weight-most, tally-most, tally-ext}
 
--- ---- the code at a place, as the code tells it
-module _ (byte place : ℕ) where
-  pub place-0 : place ≡ 0 → byte % 4 ≡ codeAt byte place
-  unfolding codeAt
-  place-0 e = (let r : byte % 4 ≡ byte / 1 % 4 = omega arith in r) ∙ sym (ap (codeAt byte) e)
-
-  pub place-1 : place ≡ 1 → byte / 4 % 4 ≡ codeAt byte place
-  unfolding codeAt
-  place-1 e = sym (ap (codeAt byte) e)
-
-  pub place-2 : place ≡ 2 → byte / 16 % 4 ≡ codeAt byte place
-  unfolding codeAt
-  place-2 e = sym (ap (codeAt byte) e)
-
-pub place-3 : (byte place : ℕ) → place < 4 → (place ≡ 0 → ⊥) → (place ≡ 1 → ⊥) → (place ≡ 2 → ⊥) → byte / 64 % 4 ≡ codeAt byte place
-unfolding codeAt
-place-3 byte zero h a b c = absurd (a refl)
-place-3 byte (suc zero) h a b c = absurd (b refl)
-place-3 byte (suc (suc zero)) h a b c = absurd (c refl)
-place-3 byte (suc (suc (suc zero))) h a b c = refl
-place-3 byte (suc (suc (suc (suc p)))) h a b c = absurd (omega arith)
-
 -- ---- four items at a time
 four-more :
     (code : ℕ → ℕ) (n : ℕ)
