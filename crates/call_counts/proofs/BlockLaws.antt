@@ -1,19 +1,19 @@
 -- Laws of a marker's block: its tally by bytes, and where its items stand.
-use mathlib.Core.Path.{_≡_, refl, sym, ap, subst, _∙_}
+use mathlib.Core.Path.{_≡_, sym, ap, subst, _∙_}
 use mathlib.Core.Bool.{Bool, true, false}
 use mathlib.Core.List.{List}
 use mathlib.Core.Option.{none}
-use Prim.Native.Nat.{ℕ, zero, suc, _+_, _-_, _*_, _/_, _%_, _^_, _<_, _≤_}
+use Prim.Native.Nat.{ℕ, suc, _+_, _-_, _*_, _/_, _%_, _^_, _<_, _≤_}
 use native.Mathlib.Omega.{arith}
 use lib.IntN.{ℤ, pos}
 use lib.ListN.{length, getD}
 use Rattle.answer.proofs.Tests.{by-lt}
 use Rattle.answer.proofs.Tabulate.{getD-tabulate}
 use Rattle.blocks.specs.Block.{blockWidth}
-use Rattle.entries.specs.Entry.{firstBad, means}
+use Rattle.entries.specs.Entry.{firstBad}
 use Rattle.entries.proofs.EntryLaws.{means-below, all-good}
 use Rattle.codes.specs.Code.{codeAt}
-use Rattle.bed_file.specs.File.{isMode1, items, blocks}
+use Rattle.bed_file.specs.File.{items, blocks}
 use Rattle.calls.specs.Calls.{callCode}
 use Rattle.calls.specs.declared.Shape.{Shape}
 use Rattle.calls.specs.Places.{Shaped, isBlock, partByte, inWord}

@@ -1,5 +1,5 @@
 -- Laws of the counts so far, over plain numbers and lists.
-use mathlib.Core.Path.{_≡_, refl, sym, ap, subst, _∙_}
+use mathlib.Core.Path.{_≡_, sym, ap, subst, _∙_}
 use mathlib.Core.Bool.{true, false}
 use mathlib.Core.List.{List}
 use Prim.Native.Nat.{ℕ, _+_, _-_, _*_, _/_, _%_, _^_, _<_, _≤_}
@@ -9,7 +9,7 @@ use lib.ListN.{length, getD}
 use lib.Signed.{mag}
 use mir.Syntax.{w64}
 use mir.Val.{ofZ, toZ}
-use Rattle.answer.specs.Answer.{Answer, isDone}
+use Rattle.answer.specs.Answer.{isDone}
 use Rattle.answer.proofs.AnswerLaws.{new-if-done, old-if-not}
 use Rattle.answer.proofs.Tabulate.{is-tabulate}
 use Rattle.answer.proofs.Tests.{by-lt}

@@ -17,7 +17,7 @@ use Rattle.calls.specs.declared.Shape.{Shape}
 use Rattle.calls.specs.Places.{Shaped, IsPart, isBlock, partByte, partPlace, inWord}
 use Rattle.calls.proofs.PlaceLaws.{iid-byte, sid-byte, pairByte, pairPlace, pair-inside, pair-code}
 use Rattle.call_counts.specs.Counts.{codeNamed}
-use Rattle.call_counts.specs.Private.{Along, EntryParts, Inside, tally, tallyItems, tallyParts, tallyNamed}
+use Rattle.call_counts.specs.Private.{Along, EntryParts, Inside, tallyItems, tallyParts, tallyNamed}
 use Rattle.call_counts.proofs.TallyLaws.{if-true, if-false, tally-ext}
 use Rattle.call_counts.proofs.BlockLaws.{block-tally, block-inside}
 

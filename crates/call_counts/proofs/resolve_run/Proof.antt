@@ -3,7 +3,6 @@ use mathlib.Core.Path.{_≡_, sym, _∙_}
 use mathlib.Core.Bool.{true, false}
 use Prim.Native.Nat.{ℕ}
 use native.Mathlib.Omega.{arith}
-use borrow.Author.Needs.{needs}
 use Rattle.call_counts.proofs.resolve_run.Statement.{statement}
 use Rattle.call_counts.proofs.resolve_run.Tie as tie
 

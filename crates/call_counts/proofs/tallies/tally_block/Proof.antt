@@ -1,9 +1,8 @@
 -- `tally_block`: the tally of the bytes so far, then of the items.
-use mathlib.Core.Path.{_≡_, refl, sym, ap, _∙_}
-use Prim.Native.Nat.{ℕ, _+_, _-_, _*_, _/_, _≤_, _<_}
+use mathlib.Core.Path.{_≡_, refl, ap, _∙_}
+use Prim.Native.Nat.{ℕ, _-_, _*_, _/_, _≤_}
 use native.Mathlib.Omega.{arith}
 use borrow.Author.Needs.{needs}
-use lib.ListN.{length}
 use Rattle.call_counts.specs.Private.{tallyItems}
 use Rattle.call_counts.proofs.TallyLaws.{tally-none, tally-more, tally-room}
 use Rattle.call_counts.proofs.BlockLaws.{block-more, block-room}

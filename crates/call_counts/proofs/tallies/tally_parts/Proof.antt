@@ -1,8 +1,7 @@
 -- `tally_parts`: the tally so far.
 use mathlib.Core.Path.{_≡_, refl, ap, _∙_}
-use Prim.Native.Nat.{ℕ, _+_, _-_, _≤_, _<_}
+use Prim.Native.Nat.{_+_, _-_, _≤_}
 use native.Mathlib.Omega.{arith}
-use borrow.Author.Needs.{needs}
 use lib.ListN.{getD}
 use Rattle.codes.specs.Code.{codeAt}
 use Rattle.call_counts.specs.Private.{tally, tallyParts}
