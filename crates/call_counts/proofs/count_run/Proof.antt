@@ -1,5 +1,5 @@
 -- `count_run`: the markers so far are counted up to the end of the run.
-use mathlib.Core.Path.{_≡_, sym, subst, _∙_}
+use mathlib.Core.Path.{_≡_, sym, _∙_}
 use mathlib.Core.Bool.{true, false}
 use Prim.Native.Nat.{ℕ, _+_, _-_, _*_, _/_, _≤_, _<_, _^_}
 use native.Mathlib.Omega.{arith}
@@ -7,9 +7,9 @@ use borrow.Author.Needs.{needs}
 use lib.IntN.{pos}
 use lib.ListN.{length, getD}
 use Rattle.entries.specs.Entry.{means}
-use Rattle.entries.proofs.EntryLaws.{means-below, all-good}
+use Rattle.bed_read.proofs.PartLaws.{meant, meant-below}
 use Rattle.call_counts.specs.Private.{Inside, tallyNamed, inTally, countAt}
-use Rattle.call_counts.proofs.CountLaws.{meant, RunTo, run-none, run-more, run-all, count-more, count-room}
+use Rattle.call_counts.proofs.CountLaws.{RunTo, run-none, run-more, run-all, count-more, count-room}
 use Rattle.call_counts.proofs.PartLaws.{run-block, run-parts, run-tally}
 use Rattle.call_counts.proofs.count_run.Statement.{statement}
 use Rattle.call_counts.proofs.count_run.Tie as tie
@@ -34,8 +34,7 @@ module _ (c : tie.After-sid-of Inv-loop μ-loop) where
 
   marker-below : c .sid-of .result .0 < s .args .shape .sids
   marker-below =
-      subst (λ (x : ℕ). x < s .args .shape .sids) (sym marker)
-      (means-below (s .args .shape .sids) (getD (s .args .sid-index .now) (l .loop .m) (pos 0)) (all-good (s .args .shape .sids) (s .args .sid-index .now) (l .loop .m) (s .pre .0 .sids-good) (c .before .before .loop-test .taken)))
+      meant-below (s .args .shape .sids) (s .args .sid-index .now) (l .loop .m) _ (c .before .sid-of-arg .given) (c .sid-of .ensures) (s .pre .0 .sids-good) (c .before .before .loop-test .taken)
 
   there : 4 * l .loop .m + 4 ≤ 4 * length (s .args .sid-index .now)
   there = let h = c .before .before .loop-test .taken in omega arith

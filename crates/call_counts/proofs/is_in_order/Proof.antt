@@ -6,8 +6,8 @@ use native.Mathlib.Omega.{arith}
 use borrow.Author.Count.{below-more}
 use borrow.Author.Needs.{needs}
 use lib.ListN.{length}
+use Rattle.bed_read.proofs.PartLaws.{meant}
 use Rattle.call_counts.specs.Private.{InOrder}
-use Rattle.call_counts.proofs.CountLaws.{meant}
 use Rattle.call_counts.proofs.is_in_order.Statement.{statement}
 use Rattle.call_counts.proofs.is_in_order.Tie as tie
 

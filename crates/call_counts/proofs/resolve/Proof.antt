@@ -6,8 +6,8 @@ use native.Mathlib.Omega.{arith}
 use borrow.Author.Needs.{needs}
 use Rattle.calls.specs.Places.{isBlock}
 use Rattle.calls.proofs.PlaceLaws.{part-below}
+use Rattle.bed_read.proofs.PartLaws.{meant}
 use Rattle.call_counts.specs.Private.{EntryParts}
-use Rattle.call_counts.proofs.CountLaws.{meant}
 use Rattle.call_counts.proofs.PartLaws.{parts-none, parts-more}
 use Rattle.call_counts.proofs.resolve.Statement.{statement}
 use Rattle.call_counts.proofs.resolve.Tie as tie
