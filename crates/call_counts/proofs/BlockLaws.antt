@@ -1,19 +1,19 @@
 -- Laws of a marker's block: its tally by bytes, and where its items stand.
-use mathlib.Core.Path.{_≡_, refl, sym, ap, subst, _∙_}
+use mathlib.Core.Path.{_≡_, sym, ap, subst, _∙_}
 use mathlib.Core.Bool.{Bool, true, false}
 use mathlib.Core.List.{List}
 use mathlib.Core.Option.{none}
-use Prim.Native.Nat.{ℕ, zero, suc, _+_, _-_, _*_, _/_, _%_, _^_, _<_, _≤_}
+use Prim.Native.Nat.{ℕ, suc, _+_, _-_, _*_, _/_, _%_, _^_, _<_, _≤_}
 use native.Mathlib.Omega.{arith}
 use lib.IntN.{ℤ, pos}
 use lib.ListN.{length, getD}
 use Rattle.answer.proofs.Tests.{by-lt}
 use Rattle.answer.proofs.Tabulate.{getD-tabulate}
 use Rattle.blocks.specs.Block.{blockWidth}
-use Rattle.entries.specs.Entry.{firstBad, means}
+use Rattle.entries.specs.Entry.{firstBad}
 use Rattle.entries.proofs.EntryLaws.{means-below, all-good}
 use Rattle.codes.specs.Code.{codeAt}
-use Rattle.bed_file.specs.File.{isMode1, items, blocks}
+use Rattle.bed_file.specs.File.{items, blocks}
 use Rattle.calls.specs.Calls.{callCode}
 use Rattle.calls.specs.declared.Shape.{Shape}
 use Rattle.calls.specs.Places.{Shaped, isBlock, partByte, inWord}
@@ -22,28 +22,6 @@ use Rattle.calls.proofs.PlaceLaws.{sid-byte}
 use Rattle.call_counts.specs.Counts.{codeNamed}
 use Rattle.call_counts.specs.Private.{InOrder, weight, tally, byteTally, byteTallies, tallyItems, tallyNamed}
 use Rattle.call_counts.proofs.TallyLaws.{weight-most, tally-most, tally-ext}
-
--- ---- the code at a place, as the code tells it
-module _ (byte place : ℕ) where
-  pub place-0 : place ≡ 0 → byte % 4 ≡ codeAt byte place
-  unfolding codeAt
-  place-0 e = (let r : byte % 4 ≡ byte / 1 % 4 = omega arith in r) ∙ sym (ap (codeAt byte) e)
-
-  pub place-1 : place ≡ 1 → byte / 4 % 4 ≡ codeAt byte place
-  unfolding codeAt
-  place-1 e = sym (ap (codeAt byte) e)
-
-  pub place-2 : place ≡ 2 → byte / 16 % 4 ≡ codeAt byte place
-  unfolding codeAt
-  place-2 e = sym (ap (codeAt byte) e)
-
-pub place-3 : (byte place : ℕ) → place < 4 → (place ≡ 0 → ⊥) → (place ≡ 1 → ⊥) → (place ≡ 2 → ⊥) → byte / 64 % 4 ≡ codeAt byte place
-unfolding codeAt
-place-3 byte zero h a b c = absurd (a refl)
-place-3 byte (suc zero) h a b c = absurd (b refl)
-place-3 byte (suc (suc zero)) h a b c = absurd (c refl)
-place-3 byte (suc (suc (suc zero))) h a b c = refl
-place-3 byte (suc (suc (suc (suc p)))) h a b c = absurd (omega arith)
 
 -- ---- four items at a time
 four-more :

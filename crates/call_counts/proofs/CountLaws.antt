@@ -1,31 +1,21 @@
 -- Laws of the counts so far, over plain numbers and lists.
-use mathlib.Core.Path.{_≡_, refl, sym, ap, subst, _∙_}
+use mathlib.Core.Path.{_≡_, sym, ap, subst, _∙_}
 use mathlib.Core.Bool.{true, false}
 use mathlib.Core.List.{List}
 use Prim.Native.Nat.{ℕ, _+_, _-_, _*_, _/_, _%_, _^_, _<_, _≤_}
 use native.Mathlib.Omega.{arith}
 use lib.IntN.{ℤ, pos}
 use lib.ListN.{length, getD}
-use lib.Signed.{mag}
-use mir.Syntax.{w64}
-use mir.Val.{ofZ, toZ}
-use Rattle.answer.specs.Answer.{Answer, isDone}
+use Rattle.answer.specs.Answer.{isDone}
 use Rattle.answer.proofs.AnswerLaws.{new-if-done, old-if-not}
 use Rattle.answer.proofs.Tabulate.{is-tabulate}
 use Rattle.answer.proofs.Tests.{by-lt}
 use Rattle.entries.specs.Entry.{means}
-use Rattle.entries.proofs.EntryLaws.{means-back}
 use Rattle.codes.specs.Code.{copies}
 use Rattle.calls.specs.Calls.{callCode}
 use Rattle.call_counts.specs.Counts.{howMany, sameCopies, codeNamed, callsWith, counted, countsAnswer, newCounts, laterCounts}
 use Rattle.call_counts.specs.Private.{tallyNamed, inTally, Added, countAt, CountedTo}
 use Rattle.call_counts.proofs.TallyLaws.{many-most, many-add, in-tally}
-
--- the number that an entry of a list means, as the machine holds it
-pub meant :
-    (count : ℕ) (list : List ℤ) (k n : ℕ) → mag (getD list k (pos 0)) < 2 ^ 63 → n ≡ means count (toZ w64 (ofZ w64 (getD list k (pos 0))))
-    → n ≡ means count (getD list k (pos 0))
-meant count list k n f e = means-back count (getD list k (pos 0)) (record { sfits = f }) n e
 
 -- runs begin at whole bytes
 pub next-whole : (from n len : ℕ) → from % 4 ≡ 0 → (from + n < len → n % 4 ≡ 0) → from + n < len → (from + n) % 4 ≡ 0

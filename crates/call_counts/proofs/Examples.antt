@@ -2,9 +2,7 @@
 use mathlib.Core.Path.{_≡_, refl}
 use mathlib.Core.List.{List, [], _∷_}
 use Prim.Native.Nat.{ℕ}
-use lib.Dec.{leb, eqb}
-use lib.IntN.{ℤ, pos, negsuc}
-use lib.ListN.{length, getD}
+use lib.IntN.{pos, negsuc}
 use Rattle.answer.specs.Answer.{done, refused, check, checkEntry, checkCount}
 use Rattle.answer.specs.Lists.{tabulate}
 use Rattle.blocks.specs.Block.{blockWidth, checkSize}

@@ -9,30 +9,30 @@ use native.Mathlib.Omega.{arith}
 use lib.ListN.{length, getD, set, length-set}
 use lib.Seq.{getD-set-same, getD-set-other}
 use Rattle.answer.proofs.Tests.{by-lt}
-use Rattle.codes.specs.Code.{copies}
+use Rattle.codes.specs.Code.{copies, codeAt}
 use Rattle.call_counts.specs.Counts.{howMany, sameCopies, counted}
-use Rattle.call_counts.specs.Private.{weight, tally, inTally, Added}
+use Rattle.call_counts.specs.Private.{weight, codeWeights, tally, inTally, Added}
 
--- ---- the weight of a code, as the code tells it
-module _ (code : ℕ) where
-  pub weight-0 : code ≡ 0 → 4294967296 ≡ weight code
-  unfolding weight
-  weight-0 e = sym (ap weight e)
+-- ---- the weight of the code at a place of a byte, as the code tells it
+four-weights : (code : ℕ) → code < 4 → getD codeWeights code 0 ≡ weight code
+four-weights zero h = refl
+four-weights (suc zero) h = refl
+four-weights (suc (suc zero)) h = refl
+four-weights (suc (suc (suc zero))) h = refl
+four-weights (suc (suc (suc (suc n)))) h = absurd (omega arith)
 
-  pub weight-1 : code ≡ 1 → 281474976710656 ≡ weight code
-  unfolding weight
-  weight-1 e = sym (ap weight e)
+pub weight-there :
+    (weights : List ℕ) (x byte place : ℕ) → weights ≡ codeWeights → x ≡ byte / 2 ^ (2 * place) → getD weights (x % 4) 0 ≡ weight (codeAt byte place)
+unfolding codeAt
+weight-there weights x byte place e f =
+    ap (λ (l : List ℕ). getD l (x % 4) 0) e ∙ four-weights (x % 4) (omega arith) ∙ ap (λ (y : ℕ). weight (y % 4)) f
 
-  pub weight-2 : code ≡ 2 → 65536 ≡ weight code
-  unfolding weight
-  weight-2 e = sym (ap weight e)
+-- ---- one of two numbers, by a test
+pub if-true : (b : Bool) (x y : ℕ) → b ≡ true → cond b x y ≡ x
+if-true b x y e = ap (λ (t : Bool). cond t x y) e
 
-pub weight-3 : (code : ℕ) → (code ≡ 0 → ⊥) → (code ≡ 1 → ⊥) → (code ≡ 2 → ⊥) → 1 ≡ weight code
-unfolding weight
-weight-3 zero a b c = absurd (a refl)
-weight-3 (suc zero) a b c = absurd (b refl)
-weight-3 (suc (suc zero)) a b c = absurd (c refl)
-weight-3 (suc (suc (suc n))) a b c = refl
+pub if-false : (b : Bool) (x y : ℕ) → b ≡ false → cond b x y ≡ y
+if-false b x y e = ap (λ (t : Bool). cond t x y) e
 
 -- ---- how many
 bit-most : (b : Bool) → cond b 1 0 ≤ 1

@@ -1,15 +1,17 @@
 -- What only private functions speak in.
 use mathlib.Core.Path.{_≡_}
-use mathlib.Core.List.{List}
+use mathlib.Core.Bool.{true}
+use mathlib.Core.List.{List, [], _∷_}
 use mathlib.Core.Option.{none}
-use Prim.Native.Nat.{ℕ, zero, suc, _+_, _*_, _/_, _%_, _<_, _≤_}
+use Prim.Native.Nat.{ℕ, zero, suc, _+_, _/_, _%_, _<_, _≤_}
 use lib.IntN.{ℤ, pos}
 use lib.ListN.{length, getD}
 use Rattle.answer.specs.Lists.{tabulate}
 use Rattle.entries.specs.Entry.{firstBad, means}
 use Rattle.codes.specs.Code.{copies, codeAt}
 use Rattle.calls.specs.declared.Shape.{Shape}
-use Rattle.calls.specs.Places.{Shaped}
+use Rattle.calls.specs.declared.Part.{Part}
+use Rattle.calls.specs.Places.{Shaped, isBlock, partByte, partPlace, inWord}
 use Rattle.call_counts.specs.Counts.{howMany, sameCopies, codeNamed, counted}
 
 -- an accepted file, and both lists are good
@@ -21,6 +23,24 @@ pub record Ready (file : List ℕ) (shape : Shape) (iidList sidList : List ℤ) 
 -- the first n entries of a list mean 0, 1, 2 and so on
 abbrev pub InOrder : ℕ → List ℤ → ℕ → Type 0
 InOrder count list n = (k : ℕ) → k < n → means count (getD list k (pos 0)) ≡ k
+
+-- a marker is a block, and the entries of the animal list are its items in order
+abbrev pub Along : Shape → List ℤ → Type 0
+Along shape iidList = (shape .mode1 ≡ true) × InOrder (shape .iids) iidList (length iidList)
+
+-- what n entries of the animal list, from `from` on, add to where a call stands
+pub record EntryParts (shape : Shape) (iidList : List ℤ) (from n : ℕ) (bytes places : List ℕ) : Type 0 where
+  pub bytes-long : length bytes ≡ 2048
+  pub places-long : length places ≡ 2048
+  pub byte-is :
+      (k : ℕ) → k < n
+      → getD bytes k 0 ≡ inWord (partByte (isBlock (shape .mode1) true) (shape .width) (means (shape .iids) (getD iidList (from + k) (pos 0))))
+  pub place-is : (k : ℕ) → k < n → getD places k 0 ≡ partPlace (isBlock (shape .mode1) true) (means (shape .iids) (getD iidList (from + k) (pos 0)))
+
+-- with those of a marker: bytes in the file, and places in a byte
+pub record Inside (file : List ℕ) (part : Part) (bytes places : List ℕ) (n : ℕ) : Type 0 where
+  pub byte-in : (k : ℕ) → k < n → part .byte + getD bytes k 0 < length file
+  pub place-in : (k : ℕ) → k < n → part .place + getD places k 0 < 4
 
 -- ---- tallies: the four counts of up to 65,535 codes in one number, 16 bits each, in the order of a marker's places
 -- the weight of a code
@@ -38,6 +58,14 @@ tally code (suc n) = tally code n + weight (code n)
 -- the tally of n entries of the animal list, from `from` on, at marker m
 abbrev pub tallyNamed : List ℕ → ℕ → ℕ → List ℤ → ℕ → ℕ → ℕ → ℕ
 tallyNamed file iids sids iidList m from n = tally (λ k. codeNamed file iids sids iidList m (from + k)) n
+
+-- the weights of the four codes
+abbrev pub codeWeights : List ℕ
+codeWeights = weight 0 ∷ weight 1 ∷ weight 2 ∷ weight 3 ∷ []
+
+-- the tally of n resolved entries
+abbrev pub tallyParts : List ℕ → Part → List ℕ → List ℕ → ℕ → ℕ
+tallyParts file part bytes places n = tally (λ k. codeAt (getD file (part .byte + getD bytes k 0) 0) (part .place + getD places k 0)) n
 
 -- the tally of n items of the block that starts at a byte
 abbrev pub tallyItems : List ℕ → ℕ → ℕ → ℕ

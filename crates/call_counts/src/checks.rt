@@ -26,7 +26,12 @@ pub(crate) fn check_counts(
     }
     if blocks::product_is(4, sid_index.len(), counts_len) {
         match bed_file::accept(file, iid_count, sid_count) {
-            AcceptAnswer::Accepted => bed_read::check_lists(iid_count, sid_count, iid_index, sid_index),
+            AcceptAnswer::Accepted => bed_read::check_lists(
+                iid_count,
+                sid_count,
+                iid_index,
+                sid_index,
+            ),
             AcceptAnswer::Refused(fault) => ReadAnswer::Refused(fault),
         }
     } else {

@@ -1,15 +1,11 @@
 // Tallies: the counts of a marker over a part of the animal list, in one number.
 ghost use mathlib.Core.Path.{_≡_};
-ghost use mathlib.Core.Bool.{true};
-ghost use mathlib.Core.Option.{none};
-ghost use Prim.Native.Nat.{ℕ, _+_, _-_, _*_, _%_, _^_, _<_, _≤_};
+ghost use mathlib.Core.Bool.{true, false, cond};
+ghost use Prim.Native.Nat.{ℕ, _+_, _-_, _*_, _^_, _<_, _≤_};
 ghost use lib.ListN.{length, getD};
 ghost use Rattle.codes.specs.Code.{codeAt};
-ghost use Rattle.entries.specs.Entry.{firstBad};
-ghost use Rattle.calls.specs.Places.{Shaped};
-ghost use Rattle.call_counts.specs.Private.{InOrder, weight, byteTallies, tallyItems, tallyNamed, inTally, Added};
-use calls::Shape;
-use entries::SidIndex;
+ghost use Rattle.call_counts.specs.Private.{Inside, weight, codeWeights, byteTallies, tallyItems, tallyParts, inTally, Added};
+use calls::Part;
 
 fn wide(byte: u8) -> usize
     ensures { λ r. ⌜ (r ≡ byte) × (r < 256) ⌝ }
@@ -17,42 +13,25 @@ fn wide(byte: u8) -> usize
     byte as usize
 }
 
-// The weight of a code.
-fn weight_of(code: u8) -> u64
-    ensures { λ r. ⌜ r ≡ weight code ⌝ }
+// The weights of the four codes.
+pub(crate) fn weights() -> [u64; 4]
+    ensures { λ r. ⌜ r ≡ codeWeights ⌝ }
 {
-    if code == 0 {
-        return 4294967296;
-    }
-    if code == 1 {
-        return 281474976710656;
-    }
-    if code == 2 {
-        return 65536;
-    }
-    1
+    [4294967296, 281474976710656, 65536, 1]
 }
 
-// The code at a place of a byte.
-fn code_at(byte: u8, place: usize) -> u8
-    requires { ⌜ place < 4 ⌝ }
-    ensures { λ r. ⌜ r ≡ codeAt byte place ⌝ }
+// The weight of the code at a place of a byte of the file.
+fn weight_at(file: &[u8], byte: usize, place: usize, weights: &[u64; 4]) -> u64
+    requires { ⌜ (byte < length (now file)) × (place < 4) × (now weights ≡ codeWeights) ⌝ }
+    ensures { λ r. ⌜ r ≡ weight (codeAt (getD (now (file .entry)) byte 0) place) ⌝ }
 {
-    if place == 0 {
-        return byte % 4;
-    }
-    if place == 1 {
-        return byte / 4 % 4;
-    }
-    if place == 2 {
-        return byte / 16 % 4;
-    }
-    byte / 64 % 4
+    let code = wide(file[byte] >> (2 * place)) % 4;
+    weights[code]
 }
 
 // The tally of the first n items of the block that starts at a byte: byte by byte, then the items of the last one; pads are not counted.
-fn tally_block(file: &[u8], start: usize, n: usize, table: &[u64; 256]) -> u64
-    requires { ⌜ (n ≤ 4 * (length (now file) - start)) × (n < 65536) × (now table ≡ byteTallies) ⌝ }
+fn tally_block(file: &[u8], start: usize, n: usize, table: &[u64; 256], weights: &[u64; 4]) -> u64
+    requires { ⌜ (n ≤ 4 * (length (now file) - start)) × (n < 65536) × (now table ≡ byteTallies) × (now weights ≡ codeWeights) ⌝ }
     ensures { λ r. ⌜ r ≡ tallyItems (now (file .entry)) start n ⌝ }
 {
     let whole = n / 4;
@@ -65,60 +44,60 @@ fn tally_block(file: &[u8], start: usize, n: usize, table: &[u64; 256]) -> u64
     }
     let mut i = 4 * whole;
     while i < n {
-        let code = code_at(file[start + i / 4], i % 4);
-        sum = sum + weight_of(code);
+        let more = weight_at(file, start + i / 4, i % 4, weights);
+        sum = sum + more;
         i += 1;
     }
     sum
 }
 
-// The tally of n entries of the animal list, from `from` on, at a marker.
-fn tally_entries(
+// The tally of n resolved entries at a marker.
+fn tally_parts(
     file: &[u8],
-    iid_count: usize,
-    sid_count: usize,
-    iid_index: &[i64],
-    sid: SidIndex,
-    from: usize,
+    part: Part,
+    bytes: &[usize; 2048],
+    places: &[u8; 2048],
     n: usize,
+    weights: &[u64; 4],
 ) -> u64
-    requires { ⌜ (from + n ≤ length (now «iid_index»)) × (n < 65536) ⌝ }
-    ensures { λ r. ⌜ r ≡ tallyNamed (now (file .entry)) «iid_count» «sid_count» (now («iid_index» .entry)) (sid .0) from n ⌝ }
+    requires { ⌜ Inside (now file) part (now bytes) (now places) n × (n ≤ 2048) × (now weights ≡ codeWeights) ⌝ }
+    ensures { λ r. ⌜ r ≡ tallyParts (now (file .entry)) part (now (bytes .entry)) (now (places .entry)) n ⌝ }
 {
+    let byte = part.byte;
+    let place = part.place;
     let mut sum: u64 = 0;
     let mut k = 0;
     while k < n {
-        let at = from + k;
-        let iid = entries::iid_of(iid_count, iid_index[at]);
-        let code = calls::call_code(file, iid_count, sid_count, iid, sid);
-        let more = weight_of(code);
+        let more = weight_at(file, byte + bytes[k], place + places[k] as usize, weights);
         sum = sum + more;
         k += 1;
     }
     sum
 }
 
-// The same, by whole bytes where a marker is a block and the entries are the animals in file order.
-pub(crate) fn tally_marker(
+// The tally of a run at a marker: of n items from byte `first` of its block on, or of n resolved entries.
+pub(crate) fn tally_run(
     file: &[u8],
-    shape: Shape,
-    iid_index: &[i64],
-    sid: SidIndex,
-    from: usize,
+    part: Part,
+    along: bool,
+    first: usize,
+    bytes: &[usize; 2048],
+    places: &[u8; 2048],
     n: usize,
-    in_order: bool,
     table: &[u64; 256],
+    weights: &[u64; 4],
 ) -> u64
-    requires { ⌜ Shaped (now file) shape × (firstBad (shape .iids) (now «iid_index») ≡ none) × (sid .0 < shape .sids)
-        × (from + n ≤ length (now «iid_index»)) × (from % 4 ≡ 0) × (0 < n) × (n < 65536)
-        × («in_order» ≡ true → (shape .mode1 ≡ true) × InOrder (shape .iids) (now «iid_index») (length (now «iid_index»))) × (now table ≡ byteTallies) ⌝ }
-    ensures { λ r. ⌜ r ≡ tallyNamed (now (file .entry)) (shape .iids) (shape .sids) (now («iid_index» .entry)) (sid .0) from n ⌝ }
+    requires { ⌜ (along ≡ true → n ≤ 4 * (length (now file) - (part .byte + first)))
+        × (along ≡ false → Inside (now file) part (now bytes) (now places) n × (n ≤ 2048))
+        × (0 < n) × (n < 65536) × (now table ≡ byteTallies) × (now weights ≡ codeWeights) ⌝ }
+    ensures { λ r. ⌜ r ≡ cond along (tallyItems (now (file .entry)) (part .byte + first) n)
+        (tallyParts (now (file .entry)) part (now (bytes .entry)) (now (places .entry)) n) ⌝ }
 {
-    if in_order {
-        let block = calls::sid_part(shape, sid).byte;
-        return tally_block(file, block + from / 4, n, table);
+    if along {
+        let start = part.byte + first;
+        return tally_block(file, start, n, table, weights);
     }
-    tally_entries(file, shape.iids, shape.sids, iid_index, sid, from, n)
+    tally_parts(file, part, bytes, places, n, weights)
 }
 
 // Adds the four counts of a tally to those from place `at` on.

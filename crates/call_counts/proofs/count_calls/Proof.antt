@@ -28,14 +28,11 @@ is-done-requires c κs = search needs
 shape-of-requires : tie.Need-shape-of-requires
 shape-of-requires c κs = search needs
 
-byte-tallies-requires : tie.Need-byte-tallies-requires
-byte-tallies-requires c κs = search needs
-
 count-all-requires : tie.Need-count-all-requires
 count-all-requires c κs =
-    let b = c .before .before in
-    let f = countable _ _ _ _ _ _ (done (b .before .before)) in
-    (ready _ _ _ _ _ _ _ f (b .before .shape-of .ensures), b .byte-tallies .ensures, sym (f .size-is))
+    let h = c .before in
+    let f = countable _ _ _ _ _ _ (done (h .before)) in
+    (ready _ _ _ _ _ _ _ f (h .shape-of .ensures), sym (f .size-is))
 
 same-length : tie.Need-same-length
 same-length c = search needs
@@ -43,7 +40,7 @@ same-length c = search needs
 returns : tie.Need-returns
 returns c =
     let a = c .before .before in
-    let h = a .before .before .before .before in
+    let h = a .before .before in
     let d = h .before in
     (d .before .before .check-counts .ensures, counts-new _ _ _ _ _ _ _ _ _ (h .shape-of .ensures .iids-are) (h .shape-of .ensures .sids-are) (done d) (a .count-all .ensures))
 
@@ -58,7 +55,6 @@ count-calls-spec =
     check-counts-requires
     is-done-requires
     shape-of-requires
-    byte-tallies-requires
     count-all-requires
     same-length
     returns

@@ -1,6 +1,5 @@
 -- `is_along`: by the mode, and by `is_in_order`.
 use mathlib.Core.Path.{_≡_}
-use mathlib.Core.Bool.{true, false}
 use Prim.Native.Nat.{ℕ}
 use native.Mathlib.Omega.{arith}
 use borrow.Author.Needs.{needs}

@@ -1,13 +1,13 @@
 -- `is_in_order`: the entries so far are in order.
-use mathlib.Core.Path.{_≡_, sym, _∙_, subst}
+use mathlib.Core.Path.{_≡_, sym, _∙_}
 use mathlib.Core.Bool.{true, false}
-use Prim.Native.Nat.{ℕ, _-_, _≤_, _<_}
+use Prim.Native.Nat.{ℕ, _-_, _≤_}
 use native.Mathlib.Omega.{arith}
 use borrow.Author.Count.{below-more}
 use borrow.Author.Needs.{needs}
 use lib.ListN.{length}
+use Rattle.bed_read.proofs.PartLaws.{meant}
 use Rattle.call_counts.specs.Private.{InOrder}
-use Rattle.call_counts.proofs.CountLaws.{meant}
 use Rattle.call_counts.proofs.is_in_order.Statement.{statement}
 use Rattle.call_counts.proofs.is_in_order.Tie as tie
 

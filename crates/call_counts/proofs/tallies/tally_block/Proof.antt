@@ -1,9 +1,8 @@
 -- `tally_block`: the tally of the bytes so far, then of the items.
-use mathlib.Core.Path.{_≡_, refl, sym, ap, _∙_}
-use Prim.Native.Nat.{ℕ, _+_, _-_, _*_, _/_, _≤_, _<_}
+use mathlib.Core.Path.{_≡_, refl, ap, _∙_}
+use Prim.Native.Nat.{ℕ, _-_, _*_, _/_, _≤_}
 use native.Mathlib.Omega.{arith}
 use borrow.Author.Needs.{needs}
-use lib.ListN.{length}
 use Rattle.call_counts.specs.Private.{tallyItems}
 use Rattle.call_counts.proofs.TallyLaws.{tally-none, tally-more, tally-room}
 use Rattle.call_counts.proofs.BlockLaws.{block-more, block-room}
@@ -11,16 +10,16 @@ use Rattle.call_counts.proofs.tallies.tally_block.Statement.{statement}
 use Rattle.call_counts.proofs.tallies.tally_block.Tie as tie
 
 abbrev Inv-loop : tie.InvT-loop
-Inv-loop file start n table whole sum₀ b₀ sum b = (b ≤ whole) × (sum ≡ tallyItems file start (4 * b))
+Inv-loop file start n table weights whole sum₀ b₀ sum b = (b ≤ whole) × (sum ≡ tallyItems file start (4 * b))
 
 abbrev μ-loop : tie.MeasureT-loop
-μ-loop file start n table whole sum₀ b₀ sum b = whole - b
+μ-loop file start n table weights whole sum₀ b₀ sum b = whole - b
 
 abbrev Inv-loop2 : tie.InvT-loop2
-Inv-loop2 file start n table whole sum₀ b i₀ sum i = (i ≤ n) × (sum ≡ tallyItems file start i)
+Inv-loop2 file start n table weights whole sum₀ b i₀ sum i = (i ≤ n) × (sum ≡ tallyItems file start i)
 
 abbrev μ-loop2 : tie.MeasureT-loop2
-μ-loop2 file start n table whole sum₀ b i₀ sum i = n - i
+μ-loop2 file start n table weights whole sum₀ b i₀ sum i = n - i
 
 loop-holds : tie.Need-loop-holds Inv-loop μ-loop Inv-loop2 μ-loop2
 loop-holds c = (omega arith, tally-none _)
@@ -72,22 +71,16 @@ loop2-holds c =
     let e : c .before .loop .b ≡ s .args .n / 4 = (let h = c .loop-test .left in let b = c .before .loop .inv .0 in omega arith) in
     (omega arith, c .before .loop .inv .1 ∙ ap (λ (k : ℕ). tallyItems (s .args .file .now) (s .args .start) (4 * k)) e)
 
-add-code-at : tie.Need-add-code-at Inv-loop μ-loop Inv-loop2 μ-loop2
-add-code-at c = omega arith
+add-weight-at : tie.Need-add-weight-at Inv-loop μ-loop Inv-loop2 μ-loop2
+add-weight-at c = omega arith
 
-shared-slice-read-code-at : tie.Need-shared-slice-read-code-at Inv-loop μ-loop Inv-loop2 μ-loop2
-shared-slice-read-code-at c = omega arith
-
-code-at-requires : tie.Need-code-at-requires Inv-loop μ-loop Inv-loop2 μ-loop2
-code-at-requires c κs = omega arith
-
-weight-of-requires : tie.Need-weight-of-requires Inv-loop μ-loop Inv-loop2 μ-loop2
-weight-of-requires c κs = search needs
+weight-at-requires : tie.Need-weight-at-requires Inv-loop μ-loop Inv-loop2 μ-loop2
+weight-at-requires c κs = (omega (arith, c .loop2-test .taken, c .before .before .before .before .before .pre .0), omega arith, c .before .before .before .before .before .pre .3)
 
 add-sum-2 : tie.Need-add-sum-2 Inv-loop μ-loop Inv-loop2 μ-loop2
 add-sum-2 c =
-    let l = c .before .before .before .before in
-    record { fits = tally-room _ (l .loop2 .i) _ _ _ (omega (arith, c .before .before .before .loop2-test .taken, l .before .before .before .before .pre .1)) (l .loop2 .inv .1) (c .weight-of .ensures) }
+    let l = c .before .before in
+    record { fits = tally-room _ (l .loop2 .i) _ _ _ (omega (arith, c .before .loop2-test .taken, l .before .before .before .before .pre .1)) (l .loop2 .inv .1) (c .weight-at .ensures) }
 
 add-i : tie.Need-add-i Inv-loop μ-loop Inv-loop2 μ-loop2
 add-i c = omega arith
@@ -97,8 +90,8 @@ loop2-less c = omega arith
 
 loop2-again : tie.Need-loop2-again Inv-loop μ-loop Inv-loop2 μ-loop2
 loop2-again c =
-    let l = c .before .before .before .before in
-    (omega (arith, c .before .before .before .loop2-test .taken), tally-more _ (l .loop2 .i) _ _ _ (l .loop2 .inv .1) (c .weight-of .ensures) (c .before .code-at .ensures))
+    let l = c .before .before in
+    (omega (arith, c .before .loop2-test .taken), tally-more _ (l .loop2 .i) _ _ _ (l .loop2 .inv .1) (c .weight-at .ensures) refl)
 
 returns : tie.Need-returns Inv-loop μ-loop Inv-loop2 μ-loop2
 returns c =
@@ -126,10 +119,8 @@ tally-block-spec =
     loop-again
     mul-i
     loop2-holds
-    add-code-at
-    shared-slice-read-code-at
-    code-at-requires
-    weight-of-requires
+    add-weight-at
+    weight-at-requires
     add-sum-2
     add-i
     loop2-less
