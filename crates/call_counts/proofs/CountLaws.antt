@@ -6,6 +6,7 @@ use Prim.Native.Nat.{ℕ, _+_, _-_, _*_, _/_, _%_, _^_, _<_, _≤_}
 use native.Mathlib.Omega.{arith}
 use lib.IntN.{ℤ, pos}
 use lib.ListN.{length, getD}
+use Rattle.answer.specs.Lists.{howMany}
 use Rattle.answer.specs.Answer.{isDone}
 use Rattle.answer.proofs.AnswerLaws.{new-if-done, old-if-not}
 use Rattle.answer.proofs.Tabulate.{is-tabulate}
@@ -13,9 +14,10 @@ use Rattle.answer.proofs.Tests.{by-lt}
 use Rattle.entries.specs.Entry.{means}
 use Rattle.codes.specs.Code.{copies}
 use Rattle.calls.specs.Calls.{callCode}
-use Rattle.call_counts.specs.Counts.{howMany, sameCopies, codeNamed, callsWith, counted, countsAnswer, newCounts, laterCounts}
+use Rattle.call_counts.specs.Counts.{sameCopies, codeNamed, callsWith, counted, countsAnswer, newCounts, laterCounts}
 use Rattle.call_counts.specs.Private.{tallyNamed, inTally, Added, countAt, CountedTo}
-use Rattle.call_counts.proofs.TallyLaws.{many-most, many-add, in-tally}
+use Rattle.answer.proofs.HowMany.{many-most, many-add}
+use Rattle.call_counts.proofs.TallyLaws.{in-tally}
 
 -- runs begin at whole bytes
 pub next-whole : (from n len : ℕ) → from % 4 ≡ 0 → (from + n < len → n % 4 ≡ 0) → from + n < len → (from + n) % 4 ≡ 0

@@ -4,14 +4,14 @@ use mathlib.Core.List.{List, [], _∷_}
 use Prim.Native.Nat.{ℕ}
 use lib.IntN.{pos, negsuc}
 use Rattle.answer.specs.Answer.{done, refused, check, checkEntry, checkCount}
-use Rattle.answer.specs.Lists.{tabulate}
+use Rattle.answer.specs.Lists.{tabulate, howMany}
 use Rattle.blocks.specs.Block.{blockWidth, checkSize}
 use Rattle.entries.specs.Entry.{isGood, means, firstBad}
 use Rattle.codes.specs.Code.{copies, codeAt, itemCode}
 use Rattle.bed_file.specs.File.{isMode1, items, blocks, checkFile, checkOpen, checkMode, checkLength}
 use Rattle.calls.specs.Calls.{block, codeIn, callCode}
 use Rattle.bed_read.specs.Reading.{checkLists, fileOrder}
-use Rattle.call_counts.specs.Counts.{countsAnswer, howMany, sameCopies, codeNamed, callsWith, counted, newCounts}
+use Rattle.call_counts.specs.Counts.{countsAnswer, sameCopies, codeNamed, callsWith, counted, newCounts}
 
 abbrev F : List ℕ
 F = 0x6C ∷ 0x1B ∷ 1 ∷ 0xE4 ∷ 0x00 ∷ 0x2F ∷ 0x02 ∷ []

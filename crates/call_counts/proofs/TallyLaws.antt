@@ -3,14 +3,15 @@ use mathlib.Core.Path.{_≡_, refl, sym, ap, subst, _∙_}
 use mathlib.Core.Bool.{Bool, true, false, cond}
 use mathlib.Core.List.{List}
 use Prim.Native.Nat.{ℕ, zero, suc, _+_, _*_, _/_, _%_, _^_, _<_, _≤_}
-use native.Mathlib.Nat.{add-zero, add-suc}
+use native.Mathlib.Nat.{add-zero}
 use native.Mathlib.Numerals.{add-one}
 use native.Mathlib.Omega.{arith}
 use lib.ListN.{length, getD, set, length-set}
 use lib.Seq.{getD-set-same, getD-set-other}
+use Rattle.answer.specs.Lists.{howMany}
 use Rattle.answer.proofs.Tests.{by-lt}
 use Rattle.codes.specs.Code.{copies, codeAt}
-use Rattle.call_counts.specs.Counts.{howMany, sameCopies, counted}
+use Rattle.call_counts.specs.Counts.{sameCopies, counted}
 use Rattle.call_counts.specs.Private.{weight, codeWeights, tally, inTally, Added}
 
 -- ---- the weight of the code at a place of a byte, as the code tells it
@@ -34,28 +35,7 @@ if-true b x y e = ap (λ (t : Bool). cond t x y) e
 pub if-false : (b : Bool) (x y : ℕ) → b ≡ false → cond b x y ≡ y
 if-false b x y e = ap (λ (t : Bool). cond t x y) e
 
--- ---- how many
-bit-most : (b : Bool) → cond b 1 0 ≤ 1
-bit-most true = omega arith
-bit-most false = omega arith
-
-pub many-most : (n : ℕ) (test : ℕ → Bool) → howMany n test ≤ n
-unfolding howMany
-many-most zero test = omega arith
-many-most (suc n) test = let r = many-most n test in let b = bit-most (test n) in omega arith
-
-pub many-add : (a b : ℕ) (test : ℕ → Bool) → howMany (a + b) test ≡ howMany a test + howMany b (λ k. test (a + k))
-unfolding howMany
-many-add a zero test = ap (λ (n : ℕ). howMany n test) (add-zero a) ∙ omega arith
-many-add a (suc b) test = ap (λ (n : ℕ). howMany n test) (add-suc a b) ∙ (let r = many-add a b test in omega arith)
-
--- tests that agree at every place count alike
-pub many-ext : (n : ℕ) (f g : ℕ → Bool) → ((k : ℕ) → k < n → f k ≡ g k) → howMany n f ≡ howMany n g
-unfolding howMany
-many-ext zero f g e = refl
-many-ext (suc n) f g e =
-    ap (λ (x : ℕ). x + cond (f n) 1 0) (many-ext n f g (λ k h. e k (omega arith))) ∙ ap (λ (b : Bool). howMany n g + cond b 1 0) (e n (omega arith))
-
+-- ---- how many codes are counted where
 -- how many of n codes are counted at place j
 abbrev pub valued : (ℕ → ℕ) → ℕ → ℕ → ℕ
 valued code j n = howMany n (λ k. sameCopies (counted j) (copies (code k)))

@@ -9,6 +9,7 @@ use native.Mathlib.Omega.{arith}
 use lib.Dec.{eqb}
 use lib.IntN.{ℤ, pos}
 use lib.ListN.{length, getD}
+use Rattle.answer.specs.Lists.{howMany}
 use Rattle.answer.specs.Answer.{Answer, done, refused, check, isDone, ifDone}
 use Rattle.answer.proofs.AnswerLaws.{count-passes, old-if-not, new-if-done, same-if-done}
 use Rattle.answer.proofs.Tabulate.{length-tabulate, getD-tabulate, tabulate-ext}
@@ -19,9 +20,10 @@ use Rattle.bed_file.specs.File.{acceptAnswer}
 use Rattle.bed_file.proofs.FileLaws.{accepted}
 use Rattle.calls.specs.Calls.{callCode}
 use Rattle.bed_read.specs.Reading.{checkLists, fileOrder, readCode}
-use Rattle.call_counts.specs.Counts.{countsAnswer, howMany, sameCopies, codeNamed, callsWith, counted, newCounts, laterCounts}
+use Rattle.call_counts.specs.Counts.{countsAnswer, sameCopies, codeNamed, callsWith, counted, newCounts, laterCounts}
 use Rattle.call_counts.proofs.CheckLaws.{countable}
-use Rattle.call_counts.proofs.TallyLaws.{many-most, many-ext, four-add}
+use Rattle.answer.proofs.HowMany.{many-most, many-ext}
+use Rattle.call_counts.proofs.TallyLaws.{four-add}
 
 module _ (file : List ℕ) (iids sids : ℕ) (il : List ℤ) where
   -- the four counts of a marker add up to the length of the animal list

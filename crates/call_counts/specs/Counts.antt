@@ -1,14 +1,14 @@
 -- Counting the calls of the animals named, at each marker named.
 use mathlib.Core.Path.{_≡_}
-use mathlib.Core.Bool.{Bool, true, false, cond}
+use mathlib.Core.Bool.{Bool, true, false}
 use mathlib.Core.List.{List, []}
 use mathlib.Core.Option.{Option, some, none}
-use Prim.Native.Nat.{ℕ, zero, suc, _+_, _*_, _/_, _%_}
+use Prim.Native.Nat.{ℕ, zero, suc, _*_, _/_, _%_}
 use lib.Dec.{eqb}
 use lib.IntN.{ℤ, pos}
 use lib.ListN.{length, getD}
 use Rattle.answer.specs.Answer.{Answer, done, check, checkCount, ifDone}
-use Rattle.answer.specs.Lists.{tabulate}
+use Rattle.answer.specs.Lists.{tabulate, howMany}
 use Rattle.entries.specs.Entry.{means}
 use Rattle.codes.specs.Code.{copies}
 use Rattle.bed_file.specs.File.{checkFile}
@@ -24,11 +24,6 @@ countsAnswer file iids sids iidList sidList countsLength =
     (check (eqb (4 * length sidList) countsLength) 15
     (checkFile file iids sids
     (checkLists iids sids iidList sidList (done [])))))
-
--- how many of the places 0 to n − 1 pass a test
-unfoldable pub howMany : ℕ → (ℕ → Bool) → ℕ
-howMany zero test = 0
-howMany (suc n) test = howMany n test + cond (test n) 1 0
 
 -- whether two calls have the same number of copies of the first allele, or are both missing
 unfoldable pub sameCopies : Option ℕ → Option ℕ → Bool

@@ -6,13 +6,13 @@ use mathlib.Core.Option.{none}
 use Prim.Native.Nat.{ℕ, zero, suc, _+_, _/_, _%_, _<_, _≤_}
 use lib.IntN.{ℤ, pos}
 use lib.ListN.{length, getD}
-use Rattle.answer.specs.Lists.{tabulate}
+use Rattle.answer.specs.Lists.{tabulate, howMany}
 use Rattle.entries.specs.Entry.{firstBad, means}
 use Rattle.codes.specs.Code.{copies, codeAt}
 use Rattle.calls.specs.declared.Shape.{Shape}
 use Rattle.calls.specs.declared.Part.{Part}
 use Rattle.calls.specs.Places.{Shaped, isBlock, partByte, partPlace, inWord}
-use Rattle.call_counts.specs.Counts.{howMany, sameCopies, codeNamed, counted}
+use Rattle.call_counts.specs.Counts.{sameCopies, codeNamed, counted}
 
 -- an accepted file, and both lists are good
 pub record Ready (file : List ℕ) (shape : Shape) (iidList sidList : List ℤ) : Type 0 where
