@@ -1,4 +1,5 @@
 pub mod Tests
 pub mod AnswerLaws
 pub mod Tabulate
+pub mod HowMany
 pub mod MatrixLaws

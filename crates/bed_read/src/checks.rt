@@ -69,7 +69,7 @@ pub(crate) fn check_read(
     }
 }
 
-pub(crate) fn is_done(answer: ReadAnswer) -> bool
+pub fn is_done(answer: ReadAnswer) -> bool
     ensures { λ r. ⌜ r ≡ isDone (readSays answer) ⌝ }
 {
     match answer {

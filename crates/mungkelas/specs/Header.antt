@@ -13,6 +13,7 @@ use Rattle.index.specs.Checks.{indexAnswer, indexBuffer}
 use Rattle.bed_read.specs.Reading.{readAnswer, readBuffer}
 use Rattle.bed_write.specs.Packing.{placeCode, encodeAnswer, encodeBuffer}
 use Rattle.bed_write.specs.Writing.{valueCode, writeAnswer, writeBuffer}
+use Rattle.call_counts.specs.Counts.{countsAnswer, laterCounts}
 use Rattle.canonical.specs.Canonical.{canonicalAnswer, canonicalBuffer}
 use Rattle.standardise.specs.Standardised.{standardiseAnswer, laterValues, laterStats}
 use Rattle.read_standardised.specs.Joined.{joinedAnswer, joinedValues, joinedStats}
@@ -26,6 +27,11 @@ abbrev pub BedRead :
 BedRead w file iids sids flag iidList sidList missing order r old new =
     (r ≡ bedAnswer (readAnswer file iids sids iidList sidList (length old)))
     × (new ≡ readBuffer w file iids sids flag iidList sidList missing order old)
+
+-- `bed_count_calls`
+abbrev pub BedCountCalls : List ℕ → ℕ → ℕ → List ℤ → List ℤ → BedAnswer → List ℕ → List ℕ → Type 0
+BedCountCalls file iids sids iidList sidList r old new =
+    (r ≡ bedAnswer (countsAnswer file iids sids iidList sidList (length old))) × (new ≡ laterCounts file iids sids iidList sidList old)
 
 -- `bed_canonical`
 abbrev pub BedCanonical : List ℕ → ℕ → ℕ → BedAnswer → List ℕ → List ℕ → Type 0

@@ -1,8 +1,8 @@
-// Reading a file, its canonical file, and reading and standardising in one call.
+// Reading a file, counting its calls, its canonical file, and reading and standardising in one call.
 ghost use mathlib.Core.Path.{_≡_};
 ghost use Rattle.bed_file.specs.File.{openAnswer};
 ghost use Rattle.bed_answer.specs.Interface.{bedAnswer};
-ghost use Rattle.mungkelas.specs.Header.{BedCanonical, BedReadStandardised};
+ghost use Rattle.mungkelas.specs.Header.{BedCountCalls, BedCanonical, BedReadStandardised};
 
 pub mod read_f64;
 pub mod read_i8;
@@ -15,6 +15,22 @@ pub extern "C" fn bed_open_and_check(file: &[u8]) -> BedAnswer
 {
     let answer = bed_file::open_and_check(file);
     bed_answer::of_open(answer)
+}
+
+#[no_mangle]
+pub extern "C" fn bed_count_calls(
+    file: &[u8],
+    iid_count: usize,
+    sid_count: usize,
+    iid_index: &[i64],
+    sid_index: &[i64],
+    counts: &mut [u64],
+) -> BedAnswer
+    ensures { λ r. ⌜ BedCountCalls (now (file .entry)) «iid_count» «sid_count» (now («iid_index» .entry)) (now («sid_index» .entry))
+        r (now (counts .entry)) (now (counts .exit)) ⌝ }
+{
+    let answer = call_counts::count_calls(file, iid_count, sid_count, iid_index, sid_index, counts);
+    bed_answer::of_read(answer)
 }
 
 #[no_mangle]

@@ -1,0 +1,7 @@
+pub mod CheckLaws
+pub mod TallyLaws
+pub mod BlockLaws
+pub mod PartLaws
+pub mod CountLaws
+pub mod Theorems
+pub mod Examples
