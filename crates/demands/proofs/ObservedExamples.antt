@@ -1,21 +1,23 @@
 -- The observed count of calls read: the file of Sides in both modes, whose marker 0 has the calls 0, 2 and missing, marker 1 three ones.
-use mathlib.Core.Path.{_≡_, refl}
+use mathlib.Core.Path.{_≡_, refl, sym}
 use mathlib.Core.Bool.{Bool, true, false}
 use mathlib.Core.List.{List, [], _∷_}
 use lib.Dec.{lit≤}
 use lib.IntN.{ℤ, pos, negsuc}
 use lib.ListN.{getD}
 use lib.Ieee.{nan, binary64, ofInt}
+use Rattle.answer.specs.Lists.{tabulate, howMany}
 use Rattle.blocks.specs.Block.{blockWidth}
-use Rattle.codes.specs.Code.{codeAt, itemCode}
+use Rattle.codes.specs.Code.{codeAt, itemCode, copies}
 use Rattle.entries.specs.Entry.{firstBad, isGood, means}
 use Rattle.bed_file.specs.File.{acceptAnswer, isMode1, items, blocks}
 use Rattle.calls.specs.Calls.{block, codeIn, callCode}
+use Rattle.call_counts.specs.Counts.{sameCopies, codeNamed, callsWith, counted, newCounts}
 use Rattle.statistics.specs.Calls.{two, whole, total}
 use Rattle.read_standardised.specs.Joined.{joinedStats}
 use Rattle.demands.specs.Demand.{IsAccepted, GoodList, meant, RightLengths}
 use Rattle.demands.specs.Observed.{callsObserved}
-use Rattle.demands.proofs.Observed.{joined-observed}
+use Rattle.demands.proofs.Observed.{joined-observed, counts-observed}
 use Rattle.demands.proofs.Sides.{T, T13, val, stats, markers, three}
 
 -- animal 1, animal 1 again, animal 2: its call at marker 0 is missing
@@ -59,3 +61,14 @@ pub none-kept : (mode1 order : Bool) → getD (joinedStats binary64 (T13 mode1) 
 unfolding callsObserved total meant means callCode codeIn block itemCode codeAt isMode1 items blocks blockWidth
 none-kept true order = joined-observed binary64 (T13 true) 3 2 true repeated markers order val stats (accepted-13 true) animals-good markers-good lengths (lit≤ tt) 1 (lit≤ tt)
 none-kept false order = joined-observed binary64 (T13 false) 3 2 true repeated markers order val stats (accepted-13 false) animals-good markers-good lengths (lit≤ tt) 1 (lit≤ tt)
+
+-- the calls counted: of each marker the first three add up to its third number above
+pub repeated-counts : (mode1 : Bool) → newCounts (T mode1) 3 2 repeated markers ≡ 0 ∷ 0 ∷ 2 ∷ 1 ∷ 0 ∷ 3 ∷ 0 ∷ 0 ∷ []
+unfolding newCounts callsWith codeNamed counted sameCopies copies howMany tabulate means callCode codeIn block itemCode codeAt isMode1 items blocks blockWidth
+repeated-counts true = refl
+repeated-counts false = refl
+
+pub repeated-adds-up : (mode1 : Bool) → callsObserved (T mode1) 3 2 repeated markers 0 ≡ 2
+unfolding callsWith codeNamed sameCopies copies howMany meant means callCode codeIn block itemCode codeAt isMode1 items blocks blockWidth
+repeated-adds-up true = sym (counts-observed (T true) 3 2 repeated markers 0)
+repeated-adds-up false = sym (counts-observed (T false) 3 2 repeated markers 0)
