@@ -38,15 +38,15 @@ static void add_field(struct table *t, struct bytes field, const char *absent) {
     add(t, "\t", 1);
 }
 
-/* The counts and the frequency; without counts, each as long as it can be. */
-static void add_numbers(struct table *t, const uint64_t *counts, size_t animals) {
-    uint64_t most[BED_COUNTS_PER_MARKER] = {animals, animals, animals, animals};
-    const uint64_t *n = counts ? counts : most;
+/* The counts and the frequency, as text in `line`; answers its length. */
+static size_t numbers(char line[128], const uint64_t *n, const char *frequency) {
+    return (size_t)snprintf(line, 128, "%" PRIu64 "\t%" PRIu64 "\t%" PRIu64 "\t%" PRIu64 "\t%s\n", n[2], n[1], n[0], n[3], frequency);
+}
+
+static void add_numbers(struct table *t, const uint64_t *n) {
     char frequency[32] = "NA", line[128];
-    if (!counts) strcpy(frequency, LONGEST);
-    else if (n[0] + n[1] + n[2]) snprintf(frequency, sizeof frequency, "%.6g", (double)(2 * n[2] + n[1]) / (double)(2 * (n[0] + n[1] + n[2])));
-    int len = snprintf(line, sizeof line, "%" PRIu64 "\t%" PRIu64 "\t%" PRIu64 "\t%" PRIu64 "\t%s\n", n[2], n[1], n[0], n[3], frequency);
-    add(t, line, (size_t)len);
+    if (n[0] + n[1] + n[2]) snprintf(frequency, sizeof frequency, "%.6g", (double)(2 * n[2] + n[1]) / (double)(2 * (n[0] + n[1] + n[2])));
+    add(t, line, numbers(line, n, frequency));
 }
 
 /* Lays the table out in the room at `at`, and answers its length; without counts and with `at` null, what that is at most. */
@@ -55,6 +55,9 @@ static size_t lay_out(const struct herd *h, const uint64_t *counts, uint8_t *at,
     struct table t = {at, 0, room};
     struct bytes bim = h->bim.bytes, fields[BIM_FIELDS] = {{0}};
     size_t line = 0; /* lines of the .bim that are gone through */
+    const uint64_t most[BED_COUNTS_PER_MARKER] = {h->iid_len, h->iid_len, h->iid_len, h->iid_len};
+    char longest[128];
+    size_t longest_len = numbers(longest, most, LONGEST);
     add(&t, head, sizeof head - 1);
     for (size_t m = 0; m < h->sid_len; m++) {
         size_t marker = (size_t)h->sids[m];
@@ -62,7 +65,8 @@ static size_t lay_out(const struct herd *h, const uint64_t *counts, uint8_t *at,
         while (h->bim.path && line <= marker) next_fields(&bim, fields), line++;
         snprintf(number, sizeof number, "%zu", marker);
         add_field(&t, fields[0], "."), add_field(&t, fields[1], number), add_field(&t, fields[4], "."), add_field(&t, fields[5], ".");
-        add_numbers(&t, counts ? counts + m * BED_COUNTS_PER_MARKER : NULL, h->iid_len);
+        if (counts) add_numbers(&t, counts + m * BED_COUNTS_PER_MARKER);
+        else add(&t, longest, longest_len);
     }
     return t.len;
 }
