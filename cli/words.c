@@ -27,7 +27,6 @@ static const char *const words[] = {
     [BED_END_GREATER_THAN_COUNT] = "the end is out of range",
     [BED_START_GREATER_THAN_END] = "the start is above the end",
     [BED_NO_INDIVIDUALS] = "a marker has no call",
-    [BED_ILLEGAL_SNP_MEAN] = "a marker has no mean",
     [BED_INDEX_MISMATCH] = "the value or counts buffer has the wrong length",
     [BED_ENCODING_LENGTH] = "the packed buffer has the wrong length",
     [BED_STATS_MISMATCH] = "the statistics buffer has the wrong length",

@@ -7,29 +7,14 @@
 
 #include "mungkelas.h"
 
-/* What each number of a refusal says. */
+/* What can befall a file: all the refusals of the calls below, whose lists and buffers fit. */
 static const char *const words[] = {
-    "done",
-    "the file has fewer bytes than needed",
-    "this is no .bed file of these counts: its first two bytes or its length are wrong",
-    "the mode byte is neither 0 nor 1",
-    "a file of these counts would be too large",
-    "an entry of the animal list is out of range",
-    "an entry of the marker list is out of range",
-    "a value is none of 0, 1, 2, missing",
-    "there are not as many marks as items",
-    "the step is 0",
-    "the start is out of range",
-    "the end is out of range",
-    "the start is above the end",
-    "a marker has no call at all",
-    "a marker has no mean",
-    "the value buffer has the wrong length",
-    "the packed buffer has the wrong length",
-    "the statistics buffer has the wrong length",
-    "a count is too large",
-    "the list buffer is too short",
-    "this is no piece of the product",
+    [BED_READ_ERROR] = "the file has fewer bytes than needed",
+    [BED_ILL_FORMED] = "this is no .bed file of these counts: its first two bytes or its length are wrong",
+    [BED_BAD_MODE] = "the mode byte is neither 0 nor 1",
+    [BED_INDEXES_TOO_BIG_FOR_FILES] = "a file of these counts would be too large",
+    [BED_NO_INDIVIDUALS] = "a marker has no call at all",
+    [BED_COUNT_TOO_LARGE] = "a count is too large",
 };
 
 static uint8_t *read_file(const char *path, size_t *length) {
@@ -57,8 +42,8 @@ static uint8_t *read_file(const char *path, size_t *length) {
 }
 
 static int refuse(bed_answer a) {
-    printf("refused, %llu: %s", (unsigned long long)a.number, words[a.number <= 20 ? a.number : 0]);
-    if (a.number == BED_NO_INDIVIDUALS || a.number == BED_ILLEGAL_SNP_MEAN) printf(" (marker %lld)", (long long)a.first);
+    printf("refused, %llu: %s", (unsigned long long)a.number, words[a.number]);
+    if (a.number == BED_NO_INDIVIDUALS) printf(" (marker %lld)", (long long)a.first);
     printf("\n");
     return 1;
 }

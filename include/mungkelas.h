@@ -31,7 +31,7 @@
 /* The version; it stands here alone. MAJOR rises with every change that breaks a caller (CHANGELOG.md). */
 #define MUNGKELAS_VERSION_MAJOR 2
 #define MUNGKELAS_VERSION_MINOR 0
-#define MUNGKELAS_VERSION_PATCH 0
+#define MUNGKELAS_VERSION_PATCH 1
 #define MUNGKELAS_TEXT_(a, b, c) #a "." #b "." #c
 #define MUNGKELAS_TEXT(a, b, c) MUNGKELAS_TEXT_(a, b, c)
 #define MUNGKELAS_VERSION MUNGKELAS_TEXT(MUNGKELAS_VERSION_MAJOR, MUNGKELAS_VERSION_MINOR, MUNGKELAS_VERSION_PATCH)
@@ -62,7 +62,7 @@ enum {
     BED_END_GREATER_THAN_COUNT = 11,      /* end's magnitude above count */
     BED_START_GREATER_THAN_END = 12,      /* range start above end */
     BED_NO_INDIVIDUALS = 13,              /* lowest refused marker has no value but NaN; first: its place in the matrix */
-    BED_ILLEGAL_SNP_MEAN = 14,            /* lowest refused marker has a NaN mean; first: its place in the matrix */
+    BED_ILLEGAL_SNP_MEAN = 14,            /* lowest refused marker of a lent matrix has a NaN mean; first: its place in the matrix */
     BED_INDEX_MISMATCH = 15,              /* value or counts buffer of another length than the counts or list lengths ask */
     BED_ENCODING_LENGTH = 16,             /* packed buffer of the wrong length */
     BED_STATS_MISMATCH = 17,              /* statistics buffer is not BED_STATS_PER_MARKER times the matrix's markers */
@@ -146,7 +146,8 @@ bed_answer bed_impute_and_zero_mean_snps_f64(double *val, size_t val_len, size_t
 /* Reading with missing NaN, then statistics, then applying, in one call. Reads file, iid_index and sid_index; writes val and stats.
  * An animal that is listed twice is observed twice.
  * Refusals: 18 (either count), 15 (val_len is not iid_len * sid_len), 17 (by sid_len), then as bed_read_f64 from 1 on, then the lowest
- * marker refused for 13 or 14: val then holds the values read, standardised as the call above says. */
+ * marker refused for 13: val then holds the values read, standardised as the call above says. Calls that were read have a mean, however
+ * many they are: 14 is never given. */
 bed_answer bed_read_standardised_f64(const uint8_t *file, size_t file_len, size_t iid_count, size_t sid_count, bool is_a1_counted,
                                      const int64_t *iid_index, size_t iid_len, const int64_t *sid_index, size_t sid_len,
                                      bool animal_order, double *val, size_t val_len, double *stats, size_t stats_len);

@@ -41,6 +41,13 @@ static void fail(const char *what) {
     exit(1);
 }
 
+/* Of the refusals seen since `begin`: that one was given, or never was. */
+static void expect(int number, bool given) {
+    if (!seen[number] != given) return;
+    printf("%s: %d was %sgiven\n", call, number, given ? "not " : "");
+    exit(1);
+}
+
 static bed_answer answer(uint64_t number, int64_t first, int64_t second) {
     bed_answer a = {number, first, second};
     return a;
@@ -418,6 +425,7 @@ static void reading_calls(void) {
         same_floats(val, want, ROOM, "a value");
         same_floats(stats, want_stats, 64, "a statistic");
     }
+    expect(13, true), expect(14, false);
     end();
 
     lists_of_either_mode();
@@ -675,6 +683,42 @@ static void records(void) {
     end();
 }
 
+/* Document 02: "Values decoded from a file are 0, 1, 2 or missing", and "the joined call never gives 14. A lent matrix may hold infinities and keeps 14." */
+static void illegal_means(void) {
+    /* every block of four calls, of either mode, with either flag, in either order, in one call and in two: 13 where no call is there */
+    begin("means of decoded calls");
+    static const int64_t four[4] = {0, 1, 2, 3};
+    for (int choice = 0; choice < 8 * 256; choice++) {
+        uint8_t codes = (uint8_t)(choice >> 3), file[7] = {0x6C, 0x1B, choice & 1, codes};
+        bool flag = choice >> 1 & 1, order = choice >> 2 & 1;
+        size_t len = file[2] ? 4 : 7;
+        for (int a = 0; a < 4 && !file[2]; a++) file[3 + a] = (uint8_t)(codes >> 2 * a & 3);
+        double val[4], stats[3] = {7, 7, 7};
+        bed_answer a = answer(codes == 0x55 ? 13 : 0, 0, 0);
+        same(bed_read_standardised_f64(file, len, 4, 1, flag, four, 4, four, 1, order, val, 4, stats, 3), a);
+        same(bed_read_f64(file, len, 4, 1, flag, four, 4, four, 1, NAN, order, val, 4), answer(0, 0, 0));
+        same(bed_impute_and_zero_mean_snps_f64(val, 4, 4, 1, order, true, false, stats, 3), a);
+    }
+    expect(13, true), expect(14, false);
+    end();
+
+    /* columns whose sum is a NaN, by themselves and behind one that has a mean; with lent statistics none is refused */
+    begin("means of a lent matrix");
+    static const double columns[3][3] = {{INFINITY, -INFINITY, NAN}, {-INFINITY, 2, INFINITY}, {1.5e308, 1.5e308, -INFINITY}};
+    for (int choice = 0; choice < 3 * 8; choice++) {
+        const double *column = columns[choice >> 3];
+        bool order = choice & 1, apply = choice >> 1 & 1, lent = choice >> 2 & 1;
+        double alone[3], behind[6], stats[6] = {7, 7, 7, 8, 8, 8};
+        for (size_t i = 0; i < 3; i++) alone[i] = column[i], behind[place(order, 3, 2, i, 0)] = (double)i, behind[place(order, 3, 2, i, 1)] = column[i];
+        same(bed_impute_and_zero_mean_snps_f64(alone, 3, 3, 1, order, apply, lent, stats, 3), answer(lent ? 0 : 14, 0, 0));
+        same(bed_impute_and_zero_mean_snps_f64(behind, 6, 3, 2, order, apply, lent, stats, 6), answer(lent ? 0 : 14, lent ? 0 : 1, 0));
+        if (!lent) same_floats(alone, column, 3, "a value of the refused marker");
+        same_floats(stats + 3, (double[]){8, 8, 8}, 3, "a statistic of the refused marker");
+    }
+    expect(14, true);
+    end();
+}
+
 static void standardising(void) {
     begin("bed_impute_and_zero_mean_snps_f64");
     for (int i = 0; i < 20000; i++) {
@@ -703,9 +747,11 @@ static void standardising(void) {
     same_floats(s, (double[]){1, INFINITY, 2}, 3, "a statistic");
     same(bed_impute_and_zero_mean_snps_f64(none, 2, 2, 1, false, true, false, s, 3), answer(13, 0, 0));
     same_floats(s, (double[]){1, INFINITY, 2}, 3, "a statistic");
+    expect(13, true), expect(14, true);
     end();
 
     records();
+    illegal_means();
 
     begin("bed_root_f64");
     for (int i = 0; i < 200000; i++) {

@@ -1,4 +1,5 @@
 -- What a call answers, and its checks in order.
+use mathlib.Core.Path.{_≡_}
 use mathlib.Core.Bool.{Bool, true, false, cond}
 use mathlib.Core.List.{List, [], _∷_}
 use mathlib.Core.Option.{Option, some, none}
@@ -25,6 +26,10 @@ checkEntry (some e) n later = refused n (e ∷ [])
 abbrev pub isDone : Answer → Bool
 isDone (done vs) = true
 isDone (refused n vs) = false
+
+-- "never gives" a number (02): the answer is not the refusal by it, whatever that would carry
+abbrev pub GivesNo : ℕ → Answer → Type 0
+GivesNo n answer = (vs : List ℤ) → answer ≡ refused n vs → ⊥
 
 -- 18: "a count, a piece's height, width or start, or a range bound exceeds 2^63 − 1"
 abbrev pub countLimit : ℕ

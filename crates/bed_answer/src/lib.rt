@@ -213,7 +213,6 @@ pub fn of_joined(answer: JoinedAnswer) -> BedAnswer
         JoinedAnswer::IidIndexTooBig(e) => entry(5, e),
         JoinedAnswer::SidIndexTooBig(e) => entry(6, e),
         JoinedAnswer::NoIndividuals(m) => one(13, m),
-        JoinedAnswer::IllegalSnpMean(m) => one(14, m),
     }
 }
 

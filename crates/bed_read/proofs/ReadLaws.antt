@@ -4,6 +4,7 @@ use mathlib.Core.Bool.{Bool, true, false}
 use mathlib.Core.List.{List, [], _∷_}
 use mathlib.Core.Option.{some, none}
 use Prim.Native.Nat.{ℕ, _*_, _^_, _<_, _≤_}
+use native.Mathlib.Omega.{arith}
 use borrow.Author.Tests.{eq-eqb, eqb-true}
 use lib.Dec.{eqb}
 use lib.IntN.{ℤ}
@@ -14,7 +15,7 @@ use mir.Val.{ofZ, toZ}
 use mir.ValLaws.{toZ-ofZ}
 use Rattle.answer.specs.Answer.{Answer, done, refused, check, countLimit, isDone}
 use Rattle.entries.specs.Entry.{firstBad}
-use Rattle.answer.proofs.AnswerLaws.{check-passes, check-refuses, count-passes, count-refuses, entry-passes, entry-refuses, check-done, count-done, entry-done, Stage, lets, refuses, entry-stage, then-stage, heard, stays, before-later}
+use Rattle.answer.proofs.AnswerLaws.{check-passes, check-refuses, count-passes, count-refuses, entry-passes, entry-refuses, check-done, count-done, entry-done, entry-other, Stage, lets, refuses, entry-stage, then-stage, heard, stays, before-later}
 use Rattle.blocks.specs.Block.{fileLength}
 use Rattle.bed_file.specs.File.{isMode1, items, blocks, checkFile, acceptAnswer}
 use Rattle.bed_read.specs.Reading.{checkLists, listsAnswer, readAnswer}
@@ -51,6 +52,12 @@ module _ (iids sids : ℕ) (il sl : List ℤ) where
         pub lists-good : firstBad sids sl ≡ none → done [] ≡ listsAnswer iids sids il sl
         unfolding checkLists
         lists-good b = sym (lists-counted ∙ entry-passes (firstBad iids il) 5 _ g ∙ entry-passes (firstBad sids sl) 6 _ b)
+
+-- a refusal by a number above 6 is not the lists'
+pub lists-other : (iids sids : ℕ) (il sl : List ℤ) (later : Answer) (n : ℕ) (vs : List ℤ) → 6 < n → checkLists iids sids il sl later ≡ refused n vs → later ≡ refused n vs
+unfolding checkLists
+lists-other iids sids il sl later n vs h e =
+    entry-other (firstBad sids sl) 6 later n vs (λ q. omega (arith, q)) (entry-other (firstBad iids il) 5 _ n vs (λ q. omega (arith, q)) e .1) .1
 
 -- ---- reading's checks, in order
 module _ (file : List ℕ) (iids sids : ℕ) (il sl : List ℤ) (valLength : ℕ) where

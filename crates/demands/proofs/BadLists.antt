@@ -22,7 +22,7 @@ use Rattle.statistics.specs.declared.MarkerStats.the-variants.{Lent, Found, NoI
 use Rattle.statistics.specs.Statistics.{statsPerMarker}
 use Rattle.standardise.specs.Standardised.{markerAnswer, markersAnswer, found, lowestRefused}
 use Rattle.read_standardised.specs.Joined.{joinedChecks, readNan, joinedAnswer}
-use Rattle.read_standardised.proofs.JoinLaws.{joined-accepted}
+use Rattle.read_standardised.proofs.JoinLaws.{joined-accepted, by-lists}
 use Rattle.demands.specs.Demand.{IsAccepted, GoodList, RightLengths, CarriesFirstBad}
 
 -- ---- the first bad entry, by its place
@@ -140,12 +140,8 @@ module _ (f : Format) (file : List ℕ) (iids sids : ℕ) (flag : Bool) (iidList
   lowest-high = markers-high (found f order (length iidList) (length sidList) (readNan f file iids sids flag iidList sidList order val stats) false stats) (length sidList)
 
   joined-by-lists : (m : ℕ) → 4 < m → m < 15 → joinedAnswer f file iids sids flag iidList sidList order val stats ≡ refused m vs → checkLists iids sids iidList sidList lowest ≡ refused m vs
-  unfolding joinedAnswer joinedChecks
-  joined-by-lists m l h e =
-      file-other file iids sids (checkLists iids sids iidList sidList lowest) m vs l
-      (check-other (eqb (statsPerMarker * length sidList) (length stats)) 17 _ m vs (λ q. omega (arith, q))
-      (check-other (eqb (length iidList * length sidList) (length val)) 15 _ m vs (λ q. omega (arith, q))
-      (count-other sids _ m vs (λ q. omega (arith, q)) (count-other iids _ m vs (λ q. omega (arith, q)) e))))
+  unfolding joinedAnswer
+  joined-by-lists m l h = by-lists file iids sids iidList sidList (length val) (length stats) lowest m vs h l
 
   pub joined-by-5 : joinedAnswer f file iids sids flag iidList sidList order val stats ≡ refused 5 vs → CarriesFirstBad iids iidList vs
   joined-by-5 e = lists-by-5 iids sids iidList sidList lowest lowest-high vs (joined-by-lists 5 (omega arith) (omega arith) e)

@@ -14,7 +14,7 @@ use Rattle.read_standardised.specs.Joined.{readNan}
 use Rattle.read_standardised.specs.Ways.{Way, inTurn, joinedCall, asRead, valuesLeft}
 use Rattle.demands.specs.Demand.{IsAccepted, GoodList, RightLengths}
 use Rattle.read_standardised.proofs.JoinLaws.{values-are}
-use Rattle.demands.proofs.ReadLaws.{length-read}
+use Rattle.read_standardised.proofs.CallsRead.{length-read}
 use Rattle.demands.proofs.SideLaws.{left-by-reading, right-17, is-read}
 
 module _ (f : Format) (order : Bool) (n s : ℕ) (xs : List Float) (useStats : Bool) (stats : List Float) (apply : Bool) (l : length xs ≡ n * s) where

@@ -22,3 +22,4 @@ pub mod Orders
 pub mod Examples
 pub mod Sides
 pub mod ObservedExamples
+pub mod Never14Examples

@@ -25,10 +25,10 @@ use Rattle.statistics.proofs.Exact.{total-ext}
 use Rattle.standardise.specs.Standardised.{value}
 use Rattle.standardise.proofs.Observed.{third-of-calls}
 use Rattle.read_standardised.specs.Joined.{readNan, joinedStats}
+use Rattle.read_standardised.proofs.CallsRead.{cell-read, call-read}
 use Rattle.read_standardised.proofs.JoinLaws.{stats-are}
 use Rattle.demands.specs.Demand.{IsAccepted, GoodList, meant, RightLengths}
 use Rattle.demands.specs.Observed.{callsObserved}
-use Rattle.demands.proofs.ReadLaws.{cell-read, call-read}
 use Rattle.demands.proofs.SideLaws.{is-read, right-17}
 
 -- ---- the first three counts of `count_calls` add up to it

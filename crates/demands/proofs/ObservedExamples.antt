@@ -29,20 +29,20 @@ unfolding acceptAnswer isMode1 items blocks blockWidth
 accepted true = refl
 accepted false = refl
 
-accepted-13 : (mode1 : Bool) → IsAccepted (T13 mode1) 3 2
+pub accepted-13 : (mode1 : Bool) → IsAccepted (T13 mode1) 3 2
 unfolding acceptAnswer isMode1 items blocks blockWidth
 accepted-13 true = refl
 accepted-13 false = refl
 
-animals-good : GoodList 3 repeated
+pub animals-good : GoodList 3 repeated
 unfolding firstBad isGood
 animals-good = refl
 
-markers-good : GoodList 2 markers
+pub markers-good : GoodList 2 markers
 unfolding firstBad isGood
 markers-good = refl
 
-lengths : RightLengths repeated markers val stats
+pub lengths : RightLengths repeated markers val stats
 lengths = record { for-15 = refl; for-17 = refl }
 
 -- an animal that is named again counts again

@@ -24,7 +24,8 @@ use Rattle.demands.specs.Demand.{IsAccepted, GoodList, meant, NamesEachO
 use Rattle.demands.proofs.ReadBackLaws.{order-length, order-good, order-means}
 use Rattle.read_standardised.proofs.JoinLaws.{as-read-is, answer-is, values-are, stats-are}
 use Rattle.demands.proofs.SumLaws.{same-sums, names-length, meant-below}
-use Rattle.demands.proofs.ReadLaws.{read-done, length-read, cell-read, call-read}
+use Rattle.read_standardised.proofs.CallsRead.{length-read, cell-read, call-read}
+use Rattle.demands.proofs.ReadLaws.{read-done}
 
 -- ---- a side whose file is accepted, whose lists are good, and whose buffers have the right lengths
 module _ (f : Format) (file : List ℕ) (iids sids : ℕ) (flag : Bool) (il sl : List ℤ) (order : Bool) (val stats : List Float)

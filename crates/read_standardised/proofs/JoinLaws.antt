@@ -1,7 +1,7 @@
 -- The joined call's checks in order, and that it is reading and standardising in turn. Over plain numbers and lists.
 use mathlib.Core.Path.{_≡_, refl, sym, ap, _∙_}
 use mathlib.Core.Bool.{Bool, true, false}
-use mathlib.Core.List.{List, [], _∷_, map}
+use mathlib.Core.List.{List, [], _∷_}
 use Prim.Native.Nat.{ℕ, _*_, _<_, _≤_}
 use native.Mathlib.Omega.{arith}
 use borrow.Author.Tests.{eq-eqb}
@@ -10,17 +10,17 @@ use lib.IntN.{ℤ}
 use lib.ListN.{length}
 use lib.Ieee.{Float, nan, Format}
 use Rattle.answer.specs.Answer.{Answer, done, refused, check, checkCount, countLimit, isDone, ifDone}
-use Rattle.codes.specs.Value.{float, valueOf}
+use Rattle.codes.specs.Value.{float}
 use Rattle.answer.proofs.Tests.{by-test}
-use Rattle.answer.proofs.AnswerLaws.{check-passes, check-refuses, count-passes, count-refuses, check-stage, count-stage, then-stage, Stage, lets, refuses, heard, new-if-done, old-if-not}
-use Rattle.answer.proofs.MatrixLaws.{length-matrix}
+use Rattle.answer.proofs.AnswerLaws.{check-passes, check-refuses, count-passes, count-refuses, check-other, count-other, check-stage, count-stage, then-stage, Stage, lets, refuses, heard, new-if-done, old-if-not}
 use Rattle.bed_file.specs.File.{checkFile, acceptAnswer}
-use Rattle.bed_read.specs.Reading.{checkLists, readAnswer, readCode, codesRead, valuesRead, readBuffer}
-use Rattle.bed_file.proofs.FileLaws.{accepted, file-stage}
-use Rattle.bed_read.proofs.ReadLaws.{lists-stage}
+use Rattle.bed_read.specs.Reading.{checkLists, readAnswer, valuesRead, readBuffer}
+use Rattle.bed_file.proofs.FileLaws.{accepted, file-other, file-stage}
+use Rattle.bed_read.proofs.ReadLaws.{lists-other, lists-stage}
 use Rattle.statistics.specs.Statistics.{statsPerMarker}
 use Rattle.standardise.specs.Standardised.{bufferChecks, lowestRefused, newStats, newValues, standardiseAnswer, laterStats, laterValues}
 use Rattle.standardise.proofs.CallLaws.{checks-pass}
+use Rattle.read_standardised.proofs.CallsRead.{length-read}
 use Rattle.read_standardised.specs.Joined.{joinedChecks, readNan, joinedAnswer, joinedStats, joinedValues, Joins}
 use Rattle.read_standardised.specs.Ways.{inTurn, asRead, answersOf, valuesLeft, statsLeft, GoesBy}
 
@@ -28,10 +28,6 @@ use Rattle.read_standardised.specs.Ways.{inTurn, asRead, answersOf, valu
 pub unheard : {F : Answer → Answer} → Stage F → isDone (F (done [])) ≡ false → (later : Answer) → F later ≡ F (done [])
 unheard (lets g) e later = absurd (let q : _≡_ {A = Bool} true false = sym (ap isDone (g (done []))) ∙ e in let r : _≡_ {A = ℕ} 0 1 = cc in omega arith)
 unheard (refuses n vs g) e later = g later ∙ sym (g (done []))
-
-length-map : {A B : Type 0} (g : A → B) (l : List A) → length (map g l) ≡ length l
-length-map g [] = refl
-length-map g (x ∷ xs) = simp (length-map g xs)
 
 -- ---- the checks
 module _ (file : List ℕ) (iids sids : ℕ) (il sl : List ℤ) (valLength statsLength : ℕ) where
@@ -83,6 +79,19 @@ module _ (file : List ℕ) (iids sids : ℕ) (il sl : List ℤ) (valLength stats
       ∙ ap (λ (x : Answer). check (eqb (length il * length sl) valLength) 15 (check (eqb (statsPerMarker * length sl) statsLength) 17 x))
       (a .heard-later (checkLists iids sids il sl later))
 
+  -- a refusal by a number from 5 to 14 is the lists' or a later one's, and one by 7 to 14 a later one's
+  module _ (later : Answer) (n : ℕ) (vs : List ℤ) (h : n < 15) where
+    pub by-lists : 4 < n → joinedChecks file iids sids il sl valLength statsLength later ≡ refused n vs → checkLists iids sids il sl later ≡ refused n vs
+    unfolding joinedChecks
+    by-lists l e =
+        file-other file iids sids (checkLists iids sids il sl later) n vs l
+        (check-other (eqb (statsPerMarker * length sl) statsLength) 17 _ n vs (λ q. omega (arith, q))
+        (check-other (eqb (length il * length sl) valLength) 15 _ n vs (λ q. omega (arith, q))
+        (count-other sids _ n vs (λ q. omega (arith, q)) (count-other iids _ n vs (λ q. omega (arith, q)) e))))
+
+    pub by-markers : 6 < n → joinedChecks file iids sids il sl valLength statsLength later ≡ refused n vs → later ≡ refused n vs
+    by-markers l e = lists-other iids sids il sl later n vs l (by-lists (omega arith) e)
+
   -- where 17 finds nothing the reading's are left
   module _ (e : eqb (statsPerMarker * length sl) statsLength ≡ true) where
     reading-left : (later : Answer) → joinedChecks file iids sids il sl valLength statsLength later ≡ before17 (after17 later)
@@ -114,8 +123,8 @@ module _ (f : Format) (file : List ℕ) (iids sids : ℕ) (flag : Bool) (il sl :
   )
 
   read-length : length (readNan f file iids sids flag il sl order val stats) ≡ length il * length sl
-  unfolding readNan valuesRead codesRead
-  read-length = length-map (valueOf float flag nan) (codesRead order file iids sids il sl) ∙ length-matrix order (length il) (length sl) (readCode file iids sids il sl)
+  unfolding readNan
+  read-length = length-read flag order file iids sids il sl
 
   module _ (d : isDone (readAnswer file iids sids il sl (length val)) ≡ true) where
     pub as-read-is : asRead f file iids sids flag il sl order val stats ≡ readNan f file iids sids flag il sl order val stats
@@ -123,7 +132,7 @@ module _ (f : Format) (file : List ℕ) (iids sids : ℕ) (flag : Bool) (il sl :
     as-read-is = new-if-done (readAnswer file iids sids il sl (length val)) (valuesRead float flag nan order file iids sids il sl) val d
 
   -- what a reading leaves whose missing value is NaN
-  left-as-read : (v1 : List Float) (missing : Float) → missing ≡ nan → v1 ≡ readBuffer float file iids sids flag il sl missing order val → v1 ≡ asRead f file iids sids flag il sl order val stats
+  pub left-as-read : (v1 : List Float) (missing : Float) → missing ≡ nan → v1 ≡ readBuffer float file iids sids flag il sl missing order val → v1 ≡ asRead f file iids sids flag il sl order val stats
   unfolding asRead
   left-as-read v1 missing n rv = rv ∙ ap (λ (x : Float). readBuffer float file iids sids flag il sl x order val) n
 

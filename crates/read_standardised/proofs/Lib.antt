@@ -1,1 +1,3 @@
+pub mod CallsRead
 pub mod JoinLaws
+pub mod Never14

@@ -9,6 +9,7 @@ use Rattle.read_standardised.specs.declared.in_turn.AnswersInTurn.{Answe
 use Rattle.read_standardised.specs.declared.answers.JoinedAnswer.{JoinedAnswer}
 use Rattle.read_standardised.specs.declared.answers.JoinedAnswer.the-variants as answers
 
+-- "Show that the joined call never gives 14 and take it from that call's answers." (02): 14 has no case
 abbrev pub joinedSays : JoinedAnswer → Answer
 joinedSays answers.Done = done []
 joinedSays answers.IndexMismatch = refused 15 []
@@ -17,7 +18,6 @@ joinedSays (answers.Refused fault) = refused (faultNumber fault) []
 joinedSays (answers.IidIndexTooBig e) = refused 5 (e ∷ [])
 joinedSays (answers.SidIndexTooBig e) = refused 6 (e ∷ [])
 joinedSays (answers.NoIndividuals m) = refused 13 (pos m ∷ [])
-joinedSays (answers.IllegalSnpMean m) = refused 14 (pos m ∷ [])
 
 -- and what the answers of the two calls in turn say
 abbrev pub inTurnSays : AnswersInTurn → List Answer

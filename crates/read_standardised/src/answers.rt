@@ -1,6 +1,6 @@
 // The answers: the joined call's, from those of the two calls.
 ghost use mathlib.Core.Path.{_≡_};
-ghost use Rattle.answer.specs.Answer.{isDone};
+ghost use Rattle.answer.specs.Answer.{isDone, GivesNo};
 ghost use Rattle.bed_read.specs.Says.{readSays};
 ghost use Rattle.standardise.specs.Says.{standardiseSays};
 ghost use Rattle.read_standardised.specs.Says.{joinedSays};
@@ -8,7 +8,7 @@ use bed_file::FileFault;
 use bed_read::ReadAnswer;
 use standardise::StandardiseAnswer;
 
-// What the joined call answers; 5 and 6 carry the entry, 13 and 14 the place in the marker list.
+// What the joined call answers; 5 and 6 carry the entry, 13 the place in the marker list.
 pub enum JoinedAnswer {
     Done,
     IndexMismatch,
@@ -17,7 +17,6 @@ pub enum JoinedAnswer {
     IidIndexTooBig(i64),
     SidIndexTooBig(i64),
     NoIndividuals(usize),
-    IllegalSnpMean(usize),
 }
 
 // The reading's answer as the joined call's.
@@ -33,8 +32,9 @@ pub(crate) fn of_reading(answer: ReadAnswer) -> JoinedAnswer
     }
 }
 
-// The standardiser's answer as the joined call's.
+// The standardiser's answer as the joined call's, which has no 14: of calls that were read the standardiser gives none.
 pub(crate) fn of_standardising(answer: StandardiseAnswer) -> JoinedAnswer
+    requires { ⌜ GivesNo 14 (standardiseSays answer) ⌝ }
     ensures { λ r. ⌜ joinedSays r ≡ standardiseSays answer ⌝ }
 {
     match answer {
@@ -43,7 +43,8 @@ pub(crate) fn of_standardising(answer: StandardiseAnswer) -> JoinedAnswer
         StandardiseAnswer::IndexMismatch => JoinedAnswer::IndexMismatch,
         StandardiseAnswer::StatsMismatch => JoinedAnswer::StatsMismatch,
         StandardiseAnswer::NoIndividuals(m) => JoinedAnswer::NoIndividuals(m),
-        StandardiseAnswer::IllegalSnpMean(m) => JoinedAnswer::IllegalSnpMean(m),
+        // never reached: that is what is required
+        StandardiseAnswer::IllegalSnpMean(m) => JoinedAnswer::NoIndividuals(m),
     }
 }
 
@@ -58,6 +59,5 @@ pub(crate) fn is_done(answer: JoinedAnswer) -> bool
         JoinedAnswer::IidIndexTooBig(_) => false,
         JoinedAnswer::SidIndexTooBig(_) => false,
         JoinedAnswer::NoIndividuals(_) => false,
-        JoinedAnswer::IllegalSnpMean(_) => false,
     }
 }

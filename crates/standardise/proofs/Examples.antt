@@ -13,14 +13,14 @@ use lib.Ieee.{Float, nan, inf, binary64, ofInt, add, mul, div, isNan}
 use Rattle.statistics.specs.declared.MarkerStats.{MarkerStats}
 use Rattle.statistics.specs.declared.MarkerStats.the-variants.{NoIndividuals, IllegalSnpMean}
 use Rattle.statistics.specs.Statistics.{plusZero, one, counted, accumulated, mean, statsOf, noValue, markerStats, foundFor, inPlaces, statsAt}
-use Rattle.answer.specs.Answer.{Answer, done, refused, isDone, ifDone}
+use Rattle.answer.specs.Answer.{Answer, done, refused, isDone, GivesNo, ifDone}
 use Rattle.answer.specs.Matrix.{matrixPlace}
 use Rattle.statistics.specs.Calls.{two, IsCall, isZero, isTwo, whole, present, total, SumsAgree}
 use Rattle.standardise.specs.Standardised.{markerAnswer, markersAnswer, bufferChecks, value, found, lowestRefused, standardiseAnswer, laterStats, laterValues}
 use Rattle.standardise.proofs.Theorems.{orders-same-answer, orders-same-stats, orders-same-values, rows-unchanged, one-marker-same-cells, one-marker-same-answer, one-marker-same-stats, one-marker-same-values, reordered-same-answer, reordered-same-stats, reordered-moved-values}
 use Rattle.standardise.specs.Refused.{NotRefused, IsLowestRefused}
 use Rattle.standardise.proofs.Observed.{three-places, third-is-observed, lent-unwritten, lent-third-unread}
-use Rattle.standardise.proofs.Refused.{lowest-refused, is-lowest-refused, none-is-refused, done-none-refused, number-told, is-13, is-14, lent-not-refused, refused-keeps-values, refused-keeps-stats}
+use Rattle.standardise.proofs.Refused.{lowest-refused, is-lowest-refused, none-is-refused, done-none-refused, number-told, is-13, is-14, lent-not-refused, calls-never-14, refused-keeps-values, refused-keeps-stats}
 
 abbrev pub herd : List Float
 herd = plusZero ∷ two ∷ []
@@ -177,6 +177,16 @@ pub infinite-answer : (order : Bool) → lowestRefused binary64 order 3 1 infini
 unfolding lowestRefused markersAnswer markerAnswer ifDone found foundFor markerStats noValue accumulated counted mean value matrixPlace isNan add mul div
 infinite-answer true = refl
 infinite-answer false = refl
+
+-- "A lent matrix may hold infinities and keeps 14": a call's answer, in either order
+pub infinities-14 : (order : Bool) → standardiseAnswer binary64 order 2 1 (inf false ∷ inf true ∷ []) false stats ≡ refused 14 (pos 0 ∷ [])
+unfolding standardiseAnswer bufferChecks lowestRefused markersAnswer markerAnswer ifDone found foundFor markerStats noValue accumulated counted mean value matrixPlace isNan add mul div
+infinities-14 true = refl
+infinities-14 false = refl
+
+-- a matrix of calls does not: 0 and 2
+pub herd-never-14 : GivesNo 14 (standardiseAnswer binary64 true 2 1 herd false stats)
+herd-never-14 = calls-never-14 binary64 true 2 1 herd stats calls false
 
 only-answer : (order : Bool) → markerAnswer 0 (found binary64 order 3 1 infinite false nine 0) ≡ refused 14 (pos 0 ∷ [])
 unfolding markerAnswer found foundFor markerStats noValue accumulated counted mean value matrixPlace isNan add mul div

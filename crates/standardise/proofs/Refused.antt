@@ -8,17 +8,20 @@ use native.Mathlib.Omega.{arith}
 use borrow.Author.Tests.{eqb-true, eqb-false}
 use lib.Dec.{eqb}
 use lib.IntN.{ℤ, pos}
-use lib.ListN.{getD}
+use lib.ListN.{length, getD}
 use lib.Ieee.{Float, nan, Format, isNan}
-use Rattle.answer.specs.Answer.{Answer, done, refused, isDone, ifDone}
+use Rattle.answer.specs.Answer.{Answer, done, refused, isDone, GivesNo, ifDone}
 use Rattle.answer.specs.Matrix.{matrixPlace, matrix}
 use Rattle.answer.proofs.MatrixLaws.{getD-matrix}
 use Rattle.answer.proofs.Tests.{by-test}
+use Rattle.answer.proofs.AnswerLaws.{number, check-other, count-other}
 use Rattle.statistics.specs.declared.Stats.{Stats}
 use Rattle.statistics.specs.declared.MarkerStats.{MarkerStats}
 use Rattle.statistics.specs.declared.MarkerStats.the-variants.{Lent, Found, NoIndividuals, IllegalSnpMean}
 use Rattle.statistics.specs.Statistics.{accumulated, mean, statsOf, noValue, markerStats, foundFor, statsPerMarker, statsAt}
-use Rattle.standardise.specs.Standardised.{markerAnswer, markersAnswer, bufferChecks, keptOrNew, applied, value, found, lowestRefused, newStats, laterStats, laterValues}
+use Rattle.statistics.specs.Calls.{IsCall}
+use Rattle.statistics.proofs.SumLimit.{calls-not-14}
+use Rattle.standardise.specs.Standardised.{markerAnswer, markersAnswer, bufferChecks, keptOrNew, applied, value, found, lowestRefused, standardiseAnswer, newStats, laterStats, laterValues}
 use Rattle.standardise.specs.Refused.{IsRefused, NotRefused, IsLowestRefused}
 use Rattle.standardise.specs.Private.{laterValue}
 use Rattle.standardise.proofs.Theorems.{later-value, changes, either-same}
@@ -194,6 +197,31 @@ module _ (f : Format) (order : Bool) (iids sids : ℕ) (val stats : List Float) 
 pub lent-not-refused : (f : Format) (order : Bool) (iids sids : ℕ) (val stats : List Float) → lowestRefused f order iids sids val true stats ≡ done []
 unfolding found foundFor
 lent-not-refused f order iids sids val stats = none-is-refused f order iids sids val true stats (λ m h. inl (statsAt stats m, refl))
+
+-- ---- a matrix of decoded calls has no marker with a NaN mean, however many animals it has, and whatever the choices
+module _ (f : Format) (order : Bool) (iids sids : ℕ) (val : List Float) (stats : List Float)
+    (calls : (i m : ℕ) → i < iids → m < sids → IsCall (value order iids sids val i m)) where
+  no-mean : (m : ℕ) (k : ℕ) → k ≡ 14 → m < sids
+      → ((k ≡ 13) × (found f order iids sids val false stats m ≡ NoIndividuals)) ⊎ ((k ≡ 14) × (found f order iids sids val false stats m ≡ IllegalSnpMean)) → ⊥
+  unfolding found foundFor
+  no-mean m k q h (inl (n, e)) = omega arith
+  no-mean m k q h (inr (n, e)) = calls-not-14 f (λ i. value order iids sids val i m) iids (λ i b. calls i m b h) e
+
+  pub calls-lowest-never-14 : (useStats : Bool) → GivesNo 14 (lowestRefused f order iids sids val useStats stats)
+  unfolding number
+  calls-lowest-never-14 true vs e = let q : _≡_ {A = ℕ} 0 14 = sym (ap number (lent-not-refused f order iids sids val stats)) ∙ ap number e in omega arith
+  calls-lowest-never-14 false vs e =
+      let (m, c, l) = lowest-refused f order iids sids val false stats 14 vs e in
+      no-mean m 14 refl (l .in-matrix) (number-told m (found f order iids sids val false stats m) 14 (pos m ∷ []) (l .is-refused))
+
+  -- so standardising it never gives 14
+  pub calls-never-14 : (useStats : Bool) → GivesNo 14 (standardiseAnswer f order iids sids val useStats stats)
+  unfolding standardiseAnswer bufferChecks
+  calls-never-14 useStats vs e =
+      calls-lowest-never-14 useStats vs
+      (check-other (eqb (statsPerMarker * sids) (length stats)) 17 _ 14 vs (λ q. omega (arith, q))
+      (check-other (eqb (iids * sids) (length val)) 15 _ 14 vs (λ q. omega (arith, q))
+      (count-other sids _ 14 vs (λ q. omega (arith, q)) (count-other iids _ 14 vs (λ q. omega (arith, q)) e))))
 
 -- ---- 2. "At 13 or 14 refused markers keep old statistics"; "still applies to every marker not refused"
 kept-value : (f : Format) (b : Bool) (x : MarkerStats) (v : Float) → IsRefused x → laterValue f b x v ≡ v

@@ -51,6 +51,8 @@ fn say_f64(v: f64) {
         say(b" 9");
     } else if v == 1.0 / 0.0 {
         say(b" +infinity");
+    } else if v == -1.0 / 0.0 {
+        say(b" -infinity");
     } else if 1.0 / v == 1.0 / 0.0 {
         say(b" +0");
     } else {
@@ -364,6 +366,13 @@ fn columns() {
         &mut none,
         2,
         true,
+    );
+    let mut infinities = [1.0 / 0.0, -1.0 / 0.0];
+    column(
+        b"document 02, lent column +infinity, -infinity: 14, which keeps old statistics, here 9: saw",
+        &mut infinities,
+        2,
+        false,
     );
 }
 

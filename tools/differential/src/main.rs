@@ -27,8 +27,8 @@ struct Seen {
     least: Option<Case>,
 }
 
-/// The numbers that document 01 lets a call give, and that an input can meet. The canonical call's second 4 needs a longer file than can be lent, and
-/// 14 needs values that no reading gives.
+/// The numbers that documents 01 and 02 let a call give, and that an input can meet. The canonical call's second 4 needs a longer file than can be lent. 14
+/// is a lent matrix's alone: the joined call never gives it.
 fn numbers(name: &str) -> &'static [u64] {
     match name {
         "open_and_check" => &[0, 1, 2],

@@ -57,12 +57,6 @@ enum-known-answer-4 c = search needs
 one-requires : tie.Need-one-requires
 one-requires c κs = search needs
 
-enum-known-answer-5 : tie.Need-enum-known-answer-5
-enum-known-answer-5 c = search needs
-
-one-requires-2 : tie.Need-one-requires-2
-one-requires-2 c κs = search needs
-
 returns : tie.Need-returns
 unfolding bedAnswer numberOf valuesOf clipAnswer clip carriesEntry
 returns c = told (λ a. clipAnswer (joinedSays a)) _ (c .bare .ensures) (c .before .enum-told .given .1)
@@ -91,10 +85,6 @@ returns-7 : tie.Need-returns-7
 unfolding bedAnswer numberOf valuesOf clipAnswer clip carriesEntry
 returns-7 c = told (λ a. clipAnswer (joinedSays a)) _ (c .one .ensures) (c .before .before .answer4 .given .1)
 
-returns-8 : tie.Need-returns-8
-unfolding bedAnswer numberOf valuesOf clipAnswer clip carriesEntry
-returns-8 c = told (λ a. clipAnswer (joinedSays a)) _ (c .one2 .ensures) (c .before .before .answer5 .given .1)
-
 pub of-joined-spec : {M : Type 1} → statement M
 of-joined-spec =
     tie.close
@@ -114,13 +104,10 @@ of-joined-spec =
     entry-requires-2
     enum-known-answer-4
     one-requires
-    enum-known-answer-5
-    one-requires-2
     returns
     returns-2
     returns-3
     returns-4
     returns-5
     returns-6
-    returns-7
-    returns-8)
+    returns-7)

@@ -7,6 +7,7 @@ use lib.ListN.{length}
 use borrow.Author.Tests.{not-true, not-false}
 use Rattle.answer.specs.Answer.{refused}
 use Rattle.read_standardised.proofs.JoinLaws.{iids-too-large, sids-too-large, values-mismatch, stats-mismatch, call-refused, standardised-after, refused-after}
+use Rattle.read_standardised.proofs.Never14.{never-14-after}
 use borrow.Author.Needs.{needs}
 use Rattle.read_standardised.proofs.read_standardised_f64.Statement.{statement}
 use Rattle.read_standardised.proofs.read_standardised_f64.Tie as tie
@@ -46,7 +47,13 @@ impute-and-zero-mean-snps-f64-requires : tie.Need-impute-and-zero-mean-snps-f64-
 impute-and-zero-mean-snps-f64-requires c κs = search needs
 
 of-standardising-requires : tie.Need-of-standardising-requires
-of-standardising-requires c κs = search needs
+unfolding ofBits div
+of-standardising-requires c κs =
+    let t = c .before .before .before .before .before .before .before in
+    let s = t .before .before .before .before .before .before .before .before .before .before .before .before .before .before .before .before in
+    never-14-after binary64 (s .args .file .now) (s .args .iid-count) (s .args .sid-count) (s .args .is-a1-counted) (s .args .iid-index .now) (s .args .sid-index .now) (s .args .animal-order) (s .args .val .now) (s .args .stats .now)
+    _ _ _ refl (t .before .before .of-reading .ensures ∙ t .before .before .before .before .before .read-no-alloc-f64 .ensures .0) (t .before .before .before .before .before .read-no-alloc-f64 .ensures .1)
+    _ (t .before .is-done .ensures) (t .if5 .taken) _ (c .before .before .before .before .impute-and-zero-mean-snps-f64 .ensures .0)
 
 same-length : tie.Need-same-length
 same-length c = search needs

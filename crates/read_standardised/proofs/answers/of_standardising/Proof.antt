@@ -39,7 +39,7 @@ returns-5 : tie.Need-returns-5
 returns-5 c = sym (ap standardiseSays (c .before .answer .given .1))
 
 returns-6 : tie.Need-returns-6
-returns-6 c = sym (ap standardiseSays (c .before .answer2 .given .1))
+returns-6 c = absurd (c .before .before .before .pre _ (ap standardiseSays (c .before .answer2 .given .1)))
 
 pub of-standardising-spec : {M : Type 1} → statement M
 of-standardising-spec =
