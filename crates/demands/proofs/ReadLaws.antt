@@ -1,5 +1,5 @@
 -- What reading leaves: by the calls of the file, and cell by cell. Over plain numbers and lists.
-use mathlib.Core.Path.{_≡_, sym, ap, subst, _∙_}
+use mathlib.Core.Path.{_≡_, sym, ap, subst}
 use mathlib.Core.Bool.{Bool}
 use mathlib.Core.List.{List, [], map}
 use Prim.Native.Nat.{ℕ, _*_, _<_}
@@ -8,13 +8,13 @@ use lib.ListN.{length, getD}
 use lib.Ieee.{Float, nan}
 use Rattle.answer.specs.Answer.{done, isDone}
 use Rattle.entries.specs.Entry.{means}
-use Rattle.answer.specs.Matrix.{matrixPlace}
 use Rattle.codes.specs.Value.{Width, float, valueOf}
 use Rattle.entries.proofs.EntryLaws.{means-below, all-good}
-use Rattle.answer.proofs.MatrixLaws.{length-matrix, getD-matrix, matrix-ext, map-matrix}
+use Rattle.answer.proofs.MatrixLaws.{matrix-ext}
 use Rattle.calls.specs.Calls.{callCode}
 use Rattle.bed_read.specs.Reading.{readAnswer, readCode, codesRead, valuesRead}
 use Rattle.bed_read.proofs.ReadLaws.{read-good}
+use Rattle.bed_read.proofs.BufferLaws.{read-cell}
 use Rattle.statistics.specs.Calls.{IsCall}
 use Rattle.standardise.specs.Standardised.{value}
 use Rattle.demands.specs.Demand.{IsAccepted, CallsAgree, GoodList}
@@ -42,23 +42,14 @@ module _ (file other : List ℕ) (iids sids : ℕ) (il sl : List ℤ) (gi : Good
   unfolding valuesRead
   values-same w flag missing order = ap (map (valueOf w flag missing)) (codes-same order)
 
--- ---- the cells of what is read
-module _ (flag order : Bool) (file : List ℕ) (iids sids : ℕ) (il sl : List ℤ) where
+-- ---- the cells of what is read with missing NaN, by lists of n and s entries
+module _ (flag order : Bool) (file : List ℕ) (iids sids : ℕ) (il sl : List ℤ) (n s : ℕ) (li : length il ≡ n) (ls : length sl ≡ s) (k m : ℕ) (hk : k < n) (hm : m < s) where
   abbrev read : List Float
   read = valuesRead float flag nan order file iids sids il sl
 
-  pub length-read : length read ≡ length il * length sl
-  unfolding valuesRead codesRead
-  length-read =
-      ap length (map-matrix (valueOf float flag nan) order (length il) (length sl) (readCode file iids sids il sl))
-      ∙ length-matrix order (length il) (length sl) (λ k m. valueOf float flag nan (readCode file iids sids il sl k m))
+  pub cell-read : value order n s read k m ≡ valueOf float flag nan (readCode file iids sids il sl k m)
+  unfolding value
+  cell-read = read-cell float flag nan order file iids sids il sl n s li ls nan k m hk hm
 
-  module _ (k m : ℕ) (hk : k < length il) (hm : m < length sl) where
-    pub cell-read : value order (length il) (length sl) read k m ≡ valueOf float flag nan (readCode file iids sids il sl k m)
-    unfolding value valuesRead codesRead
-    cell-read =
-        ap (λ (l : List Float). getD l (matrixPlace order (length il) (length sl) k m) nan) (map-matrix (valueOf float flag nan) order (length il) (length sl) (readCode file iids sids il sl))
-        ∙ getD-matrix (length il) (length sl) k m hk hm order (λ k m. valueOf float flag nan (readCode file iids sids il sl k m)) nan
-
-    pub call-read : IsCall (value order (length il) (length sl) read k m)
-    call-read = subst IsCall (sym cell-read) (decoded-call flag (readCode file iids sids il sl k m))
+  pub call-read : IsCall (value order n s read k m)
+  call-read = subst IsCall (sym cell-read) (decoded-call flag (readCode file iids sids il sl k m))

@@ -1,7 +1,7 @@
 -- The joined call's checks in order, and that it is reading and standardising in turn. Over plain numbers and lists.
 use mathlib.Core.Path.{_≡_, refl, sym, ap, _∙_}
 use mathlib.Core.Bool.{Bool, true, false}
-use mathlib.Core.List.{List, [], _∷_, map}
+use mathlib.Core.List.{List, [], _∷_}
 use Prim.Native.Nat.{ℕ, _*_, _<_, _≤_}
 use native.Mathlib.Omega.{arith}
 use borrow.Author.Tests.{eq-eqb}
@@ -10,14 +10,14 @@ use lib.IntN.{ℤ}
 use lib.ListN.{length}
 use lib.Ieee.{Float, nan, Format}
 use Rattle.answer.specs.Answer.{Answer, done, refused, check, checkCount, countLimit, isDone, ifDone}
-use Rattle.codes.specs.Value.{float, valueOf}
+use Rattle.codes.specs.Value.{float}
 use Rattle.answer.proofs.Tests.{by-test}
 use Rattle.answer.proofs.AnswerLaws.{check-passes, check-refuses, count-passes, count-refuses, check-stage, count-stage, then-stage, Stage, lets, refuses, heard, new-if-done, old-if-not}
-use Rattle.answer.proofs.MatrixLaws.{length-matrix}
 use Rattle.bed_file.specs.File.{checkFile, acceptAnswer}
-use Rattle.bed_read.specs.Reading.{checkLists, readAnswer, readCode, codesRead, valuesRead, readBuffer}
+use Rattle.bed_read.specs.Reading.{checkLists, readAnswer, readBuffer}
 use Rattle.bed_file.proofs.FileLaws.{accepted, file-stage}
 use Rattle.bed_read.proofs.ReadLaws.{lists-stage}
+use Rattle.bed_read.proofs.BufferLaws.{read-length, buffer-values, buffer-kept}
 use Rattle.statistics.specs.Statistics.{statsPerMarker}
 use Rattle.standardise.specs.Standardised.{bufferChecks, lowestRefused, newStats, newValues, standardiseAnswer, laterStats, laterValues}
 use Rattle.standardise.proofs.CallLaws.{checks-pass}
@@ -28,10 +28,6 @@ use Rattle.read_standardised.specs.Ways.{inTurn, asRead, answersOf, valu
 pub unheard : {F : Answer → Answer} → Stage F → isDone (F (done [])) ≡ false → (later : Answer) → F later ≡ F (done [])
 unheard (lets g) e later = absurd (let q : _≡_ {A = Bool} true false = sym (ap isDone (g (done []))) ∙ e in let r : _≡_ {A = ℕ} 0 1 = cc in omega arith)
 unheard (refuses n vs g) e later = g later ∙ sym (g (done []))
-
-length-map : {A B : Type 0} (g : A → B) (l : List A) → length (map g l) ≡ length l
-length-map g [] = refl
-length-map g (x ∷ xs) = simp (length-map g xs)
 
 -- ---- the checks
 module _ (file : List ℕ) (iids sids : ℕ) (il sl : List ℤ) (valLength statsLength : ℕ) where
@@ -113,14 +109,10 @@ module _ (f : Format) (file : List ℕ) (iids sids : ℕ) (flag : Bool) (il sl :
     sym (old-if-not (joinedChecks file iids sids il sl (length val) (length stats) (done [])) _ stats (ap isDone (h (done [])) ∙ n)),
   )
 
-  read-length : length (readNan f file iids sids flag il sl order val stats) ≡ length il * length sl
-  unfolding readNan valuesRead codesRead
-  read-length = length-map (valueOf float flag nan) (codesRead order file iids sids il sl) ∙ length-matrix order (length il) (length sl) (readCode file iids sids il sl)
-
   module _ (d : isDone (readAnswer file iids sids il sl (length val)) ≡ true) where
     pub as-read-is : asRead f file iids sids flag il sl order val stats ≡ readNan f file iids sids flag il sl order val stats
-    unfolding asRead readNan readBuffer
-    as-read-is = new-if-done (readAnswer file iids sids il sl (length val)) (valuesRead float flag nan order file iids sids il sl) val d
+    unfolding asRead readNan
+    as-read-is = buffer-values float file iids sids flag il sl nan order val d
 
   -- what a reading leaves whose missing value is NaN
   left-as-read : (v1 : List Float) (missing : Float) → missing ≡ nan → v1 ≡ readBuffer float file iids sids flag il sl missing order val → v1 ≡ asRead f file iids sids flag il sl order val stats
@@ -150,9 +142,10 @@ module _ (f : Format) (file : List ℕ) (iids sids : ℕ) (flag : Bool) (il sl :
       read = asRead f file iids sids flag il sl order val stats
 
       standardiser-hears : (later : Answer) → bufferChecks (length il) (length sl) read stats later ≡ later
+      unfolding readNan
       standardiser-hears later =
           checks-pass (length il) (length sl) read stats later hi hs
-          (eq-eqb (length il * length sl) (length read) (sym (ap length (as-read-is d) ∙ read-length))) e
+          (eq-eqb (length il * length sl) (length read) (sym (ap length (as-read-is d) ∙ read-length float flag nan order file iids sids il sl (length il) (length sl) refl refl))) e
 
       -- the standardiser of what was read leaves what the joined call does
       pub call-made :
@@ -216,12 +209,11 @@ module _ (f : Format) (file : List ℕ) (iids sids : ℕ) (flag : Bool) (il sl :
           )
 
       pub refused-after : (t : Bool) → t ≡ isDone rd → t ≡ false → Joins f file iids sids flag il sl order val stats rd v1 stats
-      unfolding readBuffer
       refused-after t td tf =
           let d : isDone rd ≡ false = sym td ∙ tf in
           let dr : isDone (readAnswer file iids sids il sl (length val)) ≡ false = sym (ap isDone ra) ∙ d in
           let m = call-refused rd d (λ later. reading-refuses file iids sids il sl (length val) (length stats) e dr later ∙ sym ra) in
-          (m .0, rv ∙ old-if-not (readAnswer file iids sids il sl (length val)) (valuesRead float flag missing order file iids sids il sl) val dr ∙ m .1, m .2)
+          (m .0, rv ∙ sym (buffer-kept float file iids sids flag il sl missing order val dr) ∙ m .1, m .2)
 
 -- ---- the joined call whose checks find nothing
 module _ (f : Format) (file : List ℕ) (iids sids : ℕ) (flag : Bool) (il sl : List ℤ) (order : Bool) (val stats : List Float)
