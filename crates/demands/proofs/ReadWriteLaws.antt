@@ -36,9 +36,8 @@ module _ (w : Width) (numbers : Numbers w) (flag : Bool) (missing : w .Value) (o
 
   -- the writing is not refused where the counts and the length fit and the buffer is of the right length, and leaves the file of the codes read
   pub read-is-written : n ≤ countLimit → s ≤ countLimit → fileLength n s ≤ 2 ^ 64 - 1 → (out : List ℕ) → length out ≡ fileLength n s
-      → (writeAnswer n s (valueCode w flag missing order n s (readBuffer w file iids sids flag il sl missing order val)) (length (readBuffer w file iids sids flag il sl missing order val)) (length out) ≡ done [])
-      × (writeBuffer n s (valueCode w flag missing order n s (readBuffer w file iids sids flag il sl missing order val)) (length (readBuffer w file iids sids flag il sl missing order val)) out
-      ≡ bedFile n s (readCode file iids sids il sl))
+      → (writeAnswer n s (valueCode w flag missing order n s read) (length read) (length out) ≡ done [])
+      × (writeBuffer n s (valueCode w flag missing order n s read) (length read) out ≡ bedFile n s (readCode file iids sids il sl))
   read-is-written hn hs fits out l =
       codes-written n s (valueCode w flag missing order n s read) (length read) out (readCode file iids sids il sl) code-back hn hs fits
       (sym (ap length is-read ∙ read-length w flag missing order file iids sids il sl n s li ls)) l
