@@ -54,7 +54,7 @@ values-read w flag missing d order file iids sids il sl =
     (λ c h. getD-inside (values w flag missing) c d missing (let n = four-values w flag missing in omega arith))
     order file iids sids il sl
 
--- ---- what is read by lists of n and s entries: the matrix of the values of the codes
+-- ---- what is read by lists of n and s entries
 module _ (w : Width) (flag : Bool) (missing : w .Value) (order : Bool) (file : List ℕ) (iids sids : ℕ) (il sl : List ℤ) (n s : ℕ) (li : length il ≡ n) (ls : length sl ≡ s) where
   abbrev read : List (w .Value)
   read = valuesRead w flag missing order file iids sids il sl
@@ -62,16 +62,19 @@ module _ (w : Width) (flag : Bool) (missing : w .Value) (order : Bool) (file : L
   abbrev cell : ℕ → ℕ → w .Value
   cell k m = valueOf w flag missing (readCode file iids sids il sl k m)
 
-  pub read-matrix : read ≡ matrix order n s (λ k m. valueOf w flag missing (readCode file iids sids il sl k m))
+  -- is the matrix of the values of the codes
+  pub read-matrix : read ≡ matrix order n s cell
   unfolding valuesRead codesRead
   read-matrix =
       map-matrix (valueOf w flag missing) order (length il) (length sl) (readCode file iids sids il sl)
       ∙ ap (λ (x : ℕ). matrix order x (length sl) cell) li ∙ ap (λ (x : ℕ). matrix order n x cell) ls
 
+  -- of the length that 15 asks for
   pub read-length : length read ≡ n * s
   read-length = ap length read-matrix ∙ length-matrix order n s cell
 
-  pub read-cell : (d : w .Value) (k m : ℕ) → k < n → m < s → getD read (matrixPlace order n s k m) d ≡ valueOf w flag missing (readCode file iids sids il sl k m)
+  -- with the value of each code at its place
+  pub read-cell : (d : w .Value) (k m : ℕ) → k < n → m < s → getD read (matrixPlace order n s k m) d ≡ cell k m
   read-cell d k m hk hm = ap (λ (l : List (w .Value)). getD l (matrixPlace order n s k m) d) read-matrix ∙ getD-matrix n s k m hk hm order cell d
 
 -- and it is left where reading is done

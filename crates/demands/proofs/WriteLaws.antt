@@ -36,6 +36,7 @@ module _ (iids sids : ℕ) (code : ℕ → ℕ → Option ℕ) (valLength : ℕ)
   unfolding writeAnswer
   buffers-done = before-later (buffers-stage iids sids valLength (length old)) _ d
 
+  -- the counts and the length fit, and the buffers have the right lengths
   pub writing-passed : Passed iids sids valLength (length old) (checkBuffers iids sids valLength (length old) (done []))
   writing-passed = passed iids sids valLength (length old) (checkBuffers iids sids valLength (length old) (done [])) refl buffers-done
 
@@ -50,6 +51,7 @@ module _ (iids sids : ℕ) (code : ℕ → ℕ → Option ℕ) (valLength : ℕ)
       not-bad (code a m) (pair a m)
       (first-all iids (λ a. ifBad (code a m) (pair a m)) (first-all sids (λ m. firstOf iids (λ a. ifBad (code a m) (pair a m))) no-bad m hm) a ha)
 
+  -- the file of the codes is left
   pub wrote : writeBuffer iids sids code valLength old ≡ bedFile iids sids (λ a m. orZero (code a m))
   unfolding writeBuffer
   wrote = new-if-done _ _ old d
@@ -93,6 +95,7 @@ module _ (w : Width) (flag : Bool) (missing : w .Value) (order : Bool) (iids sid
   is-file : file ≡ bedFile iids sids codes
   is-file = wrote iids sids code (length val) old d
 
+  -- each code is one of the four
   pub written-small : (a m : ℕ) → a < iids → m < sids → orZero (valueCode w flag missing order iids sids val a m) < 4
   written-small a m ha hm = zero-below (code a m) (value-coded w flag missing order iids sids val a m)
 
