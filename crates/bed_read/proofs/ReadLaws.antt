@@ -15,11 +15,10 @@ use mir.Val.{ofZ, toZ}
 use mir.ValLaws.{toZ-ofZ}
 use Rattle.answer.specs.Answer.{Answer, done, refused, check, countLimit, isDone}
 use Rattle.entries.specs.Entry.{firstBad}
-use Rattle.answer.proofs.AnswerLaws.{check-passes, check-refuses, count-passes, count-refuses, entry-passes, entry-refuses, check-done, count-done, entry-done, entry-other, Stage, lets, refuses, entry-stage, then-stage, heard, stays, before-later}
-use Rattle.blocks.specs.Block.{fileLength}
-use Rattle.bed_file.specs.File.{isMode1, items, blocks, checkFile, acceptAnswer}
+use Rattle.answer.proofs.AnswerLaws.{check-passes, check-refuses, count-passes, count-refuses, entry-passes, entry-refuses, check-done, count-done, entry-done, entry-other, Stage, lets, refuses, entry-stage, then-stage, stays, before-later}
+use Rattle.bed_file.specs.File.{checkFile, acceptAnswer}
 use Rattle.bed_read.specs.Reading.{checkLists, listsAnswer, readAnswer}
-use Rattle.bed_file.proofs.FileLaws.{accepted, accept-file, file-stage, file-length}
+use Rattle.bed_file.proofs.FileLaws.{accepted, accept-file, file-stage}
 
 -- ---- the lists' checks, in order
 module _ (iids sids : ℕ) (il sl : List ℤ) where
@@ -135,7 +134,7 @@ read-good file iids sids il sl valLength d e gi gs =
 -- ---- what is known where reading is done
 pub record Readable (file : List ℕ) (iids sids : ℕ) (il sl : List ℤ) (valLength : ℕ) : Type 0 where
   pub product : length il * length sl ≡ valLength
-  pub length-is : length file ≡ fileLength (items (isMode1 file) iids sids) (blocks (isMode1 file) iids sids)
+  pub is-accepted : isDone (acceptAnswer file iids sids) ≡ true
   pub iids-good : firstBad iids il ≡ none
   pub sids-good : firstBad sids sl ≡ none
 
@@ -145,14 +144,11 @@ readable file iids sids il sl valLength d =
     let a = count-done iids _ d in
     let b = count-done sids _ (a .1) in
     let c = check-done (eqb (length il * length sl) valLength) 15 _ (b .1) in
-    let own = own-checks file iids sids (checkLists iids sids il sl (done [])) (c .1) in
-    let l = lists-done iids sids il sl (done []) (subst (λ (x : Answer). isDone x ≡ true) (heard (file-stage file iids sids) [] own (checkLists iids sids il sl (done []))) (c .1)) in
+    let acc : isDone (acceptAnswer file iids sids) ≡ true = ap isDone (accept-file file iids sids (a .0) (b .0)) ∙ before-later (file-stage file iids sids) _ (c .1) in
+    let l = lists-done iids sids il sl (done []) (subst (λ (x : Answer). isDone x ≡ true) (accepted file iids sids acc .heard-later (checkLists iids sids il sl (done []))) (c .1)) in
     record {
       product = eqb-true (length il * length sl) valLength (c .0);
-      length-is = file-length file iids sids [] own;
+      is-accepted = acc;
       iids-good = l .0;
       sids-good = l .1;
     }
-  where
-    own-checks : (file : List ℕ) (iids sids : ℕ) (later : Answer) → isDone (checkFile file iids sids later) ≡ true → isDone (checkFile file iids sids (done [])) ≡ true
-    own-checks file iids sids later e = before-later (file-stage file iids sids) later e

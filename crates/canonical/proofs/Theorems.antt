@@ -15,7 +15,7 @@ use Rattle.calls.specs.Calls.{callCode}
 use Rattle.calls.proofs.CallLaws.{call-below}
 use Rattle.bed_write.proofs.BedLaws.{bed-ext}
 use Rattle.canonical.specs.Canonical.{canonicalAnswer, canonicalFile, canonicalBuffer}
-use Rattle.canonical.proofs.WrittenLaws.{bed-call, bed-accepted}
+use Rattle.canonical.proofs.WrittenLaws.{bed-call, bed-accepted, bed-canonical}
 
 module _ (file : List ℕ) (iids sids : ℕ) (d : isDone (acceptAnswer file iids sids) ≡ true) (fits : fileLength iids sids ≤ 2 ^ 64 - 1) where
   -- its canonical file is left in every buffer of the right length
@@ -45,7 +45,7 @@ module _ (file : List ℕ) (iids sids : ℕ) (d : isDone (acceptAnswer file iids
 
   canonical-same : canonicalFile (canonicalFile file iids sids) iids sids ≡ canonicalFile file iids sids
   unfolding canonicalFile
-  canonical-same = bed-ext iids sids (callCode (canonicalFile file iids sids) iids sids) (callCode file iids sids) canonical-call
+  canonical-same = bed-canonical iids sids (callCode file iids sids) (λ a m ha hm. call-below file iids sids a m)
 
 -- 4. "that file is accepted for the same counts", and its canonical file is itself
 pub canonical-again :

@@ -1,4 +1,4 @@
--- Laws of a file that was written: its calls, and that it is accepted.
+-- Laws of a file that was written: its calls, that it is accepted, and that it is its own canonical file.
 use mathlib.Core.Path.{_≡_, refl, sym, ap, subst, _∙_}
 use mathlib.Core.Bool.{Bool, true}
 use mathlib.Core.List.{List, []}
@@ -20,7 +20,8 @@ use Rattle.bed_file.proofs.FileLaws.{open-good}
 use Rattle.calls.specs.Calls.{codeIn, callCode}
 use Rattle.calls.proofs.CallLaws.{code-in-byte}
 use Rattle.bed_write.specs.Writing.{bedFile}
-use Rattle.bed_write.proofs.BedLaws.{bed-length, bed-byte}
+use Rattle.bed_write.proofs.BedLaws.{bed-length, bed-byte, bed-ext}
+use Rattle.canonical.specs.Canonical.{canonicalFile}
 
 module _ (iids sids : ℕ) (code : ℕ → ℕ → ℕ) (small : (a m : ℕ) → a < iids → m < sids → code a m < 4) where
   abbrev file : List ℕ
@@ -68,3 +69,8 @@ module _ (iids sids : ℕ) (code : ℕ → ℕ → ℕ) (small : (a m : ℕ) →
       ∙ ap (λ (b : Bool). checkLength (length file) (items b iids sids) (blocks b iids sids) (done [])) bed-mode
       ∙ check-passes (leb (fileLength iids sids) (2 ^ 64 - 1)) 4 _ (le-leb (fileLength iids sids) (2 ^ 64 - 1) hl)
       ∙ check-passes (eqb (length file) (fileLength iids sids)) 2 (done []) (eq-eqb (length file) (fileLength iids sids) l)
+
+  -- and its canonical file is itself
+  pub bed-canonical : canonicalFile file iids sids ≡ file
+  unfolding canonicalFile
+  bed-canonical = bed-ext iids sids (callCode file iids sids) code bed-call

@@ -5,16 +5,17 @@ use mathlib.Core.List.{List}
 use Prim.Native.Nat.{ℕ, _*_}
 use lib.IntN.{ℤ}
 use lib.ListN.{length}
-use lib.Ieee.{Float, Format}
+use lib.Ieee.{Float, nan, Format}
 use Rattle.answer.specs.Matrix.{matrix}
 use Rattle.answer.proofs.MatrixLaws.{length-matrix}
+use Rattle.codes.specs.Value.{float}
+use Rattle.bed_read.proofs.BufferLaws.{read-length}
 use Rattle.standardise.specs.Standardised.{applied, value, found, mayChange, newValues}
 use Rattle.standardise.proofs.Theorems.{same-length}
 use Rattle.read_standardised.specs.Joined.{readNan}
 use Rattle.read_standardised.specs.Ways.{Way, inTurn, joinedCall, asRead, valuesLeft}
 use Rattle.demands.specs.Demand.{IsAccepted, GoodList, RightLengths}
 use Rattle.read_standardised.proofs.JoinLaws.{values-are}
-use Rattle.read_standardised.proofs.CallsRead.{length-read}
 use Rattle.demands.proofs.SideLaws.{left-by-reading, right-17, is-read}
 
 module _ (f : Format) (order : Bool) (n s : ℕ) (xs : List Float) (useStats : Bool) (stats : List Float) (apply : Bool) (l : length xs ≡ n * s) where
@@ -35,9 +36,9 @@ module _ (f : Format) (file : List ℕ) (iids sids : ℕ) (flag : Bool) (il sl :
   unfolding valuesLeft readNan
   values-length (inTurn useStats apply) =
       let l : length (asRead f file iids sids flag il sl order val stats) ≡ length il * length sl =
-      ap length (left-by-reading f file iids sids flag il sl order val stats acc gi gs len) ∙ length-read flag order file iids sids il sl in
+      ap length (left-by-reading f file iids sids flag il sl order val stats acc gi gs len) ∙ read-length float flag nan order file iids sids il sl (length il) (length sl) refl refl in
       same-length f order (length il) (length sl) (asRead f file iids sids flag il sl order val stats) useStats stats apply ∙ l
   values-length joinedCall =
-      let l : length (readNan f file iids sids flag il sl order val stats) ≡ length il * length sl = length-read flag order file iids sids il sl in
+      let l : length (readNan f file iids sids flag il sl order val stats) ≡ length il * length sl = read-length float flag nan order file iids sids il sl (length il) (length sl) refl refl in
       ap length (values-are f file iids sids flag il sl order val stats (right-17 f file iids sids flag il sl order val stats acc gi gs len) (is-read f file iids sids flag il sl order val stats acc gi gs len))
       ∙ new-length f order (length il) (length sl) (readNan f file iids sids flag il sl order val stats) false stats true l ∙ l

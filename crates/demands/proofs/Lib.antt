@@ -1,5 +1,7 @@
 -- The theorems.
 pub mod ReadBackLaws
+pub mod WriteLaws
+pub mod ReadWriteLaws
 pub mod ReadBack
 pub mod ReadBackExamples
 pub mod ReadLaws

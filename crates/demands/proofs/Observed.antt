@@ -80,7 +80,7 @@ module _ (f : Format) (file : List ℕ) (iids sids : ℕ) (flag : Bool) (il sl :
   unfolding readNan callsObserved readCode meant
   read-observed m h =
       total-ext (λ k. present (value order (length il) (length sl) read k m)) (λ k. cond (eqb (readCode file iids sids il sl k m) 1) 0 1) (length il)
-      (λ k l. ap present (cell-read flag order file iids sids il sl k m l h) ∙ decoded-present flag (readCode file iids sids il sl k m) (read-below file iids sids il sl k m))
+      (λ k l. ap present (cell-read flag order file iids sids il sl (length il) (length sl) refl refl k m l h) ∙ decoded-present flag (readCode file iids sids il sl k m) (read-below file iids sids il sl k m))
 
   -- so it is after the joined call, of an accepted file, good lists and buffers of the right lengths, up to 2^53 entries of the animal list at f64. A
   -- marker of which no call was observed is refused, and keeps its third number
@@ -91,5 +91,5 @@ module _ (f : Format) (file : List ℕ) (iids sids : ℕ) (flag : Bool) (il sl :
   joined-observed acc gi gs len enough m h =
       ap (λ (x : List Float). getD x (m * statsPerMarker + 2) nan)
       (stats-are f file iids sids flag il sl order val stats (right-17 f file iids sids flag il sl order val stats acc gi gs len) (is-read f file iids sids flag il sl order val stats acc gi gs len))
-      ∙ third-of-calls f order (length il) (length sl) read stats m h (λ k l. call-read flag order file iids sids il sl k m l h) enough
+      ∙ third-of-calls f order (length il) (length sl) read stats m h (λ k l. call-read flag order file iids sids il sl (length il) (length sl) refl refl k m l h) enough
       ∙ ap (λ (n : ℕ). cond (eqb n 0) (getD stats (m * statsPerMarker + 2) nan) (whole f n)) (read-observed m h)

@@ -1,6 +1,6 @@
 -- Document 01's decoding and packing equal the PLINK 1.9 format, of whole files: what is read, written and made canonical is PLINK's file,
 -- over the definitions that the contracts cite.
-use mathlib.Core.Path.{_≡_, sym, ap, subst, _∙_}
+use mathlib.Core.Path.{_≡_, refl, sym, ap, subst, _∙_}
 use mathlib.Core.Bool.{Bool, true, false, _&&_}
 use mathlib.Core.List.{List, [], _∷_}
 use Prim.Native.Nat.{ℕ, _+_, _-_, _*_, _/_, _^_, _<_, _≤_}
@@ -17,10 +17,10 @@ use Rattle.codes.specs.Code.{itemCode, copies, packedByte, packed}
 use Rattle.answer.specs.Lists.{tabulate}
 use Rattle.answer.specs.Matrix.{matrixPlace, matrix}
 use Rattle.codes.specs.Plink.{plinkWidth, copiesOfFirst, copiesValue}
-use Rattle.codes.specs.Value.{Width, valueOf}
+use Rattle.codes.specs.Value.{Width}
 use Rattle.answer.proofs.AnswerLaws.{check-passes, count-passes, check-done, count-done, new-if-done}
 use Rattle.codes.proofs.CodeLaws.{width-room}
-use Rattle.answer.proofs.MatrixLaws.{matrix-ext, map-matrix}
+use Rattle.answer.proofs.MatrixLaws.{matrix-ext}
 use Rattle.entries.proofs.EntryLaws.{means-below, all-good}
 use Rattle.codes.proofs.PlinkLaws.{width-is-plink, pads-are-zero}
 use Rattle.answer.proofs.Tabulate.{length-tabulate, getD-tabulate}
@@ -28,17 +28,16 @@ use Rattle.answer.proofs.Tests.{both-true}
 use Rattle.bed_file.specs.File.{isMode1, items, blocks, checkOpen, checkMode, checkLength, checkFile, acceptAnswer}
 use Rattle.bed_file.proofs.FileLaws.{open-good, accepted}
 use Rattle.calls.specs.Calls.{block, codeIn, callCode}
-use Rattle.bed_read.specs.Reading.{readAnswer, readCode, codesRead, valuesRead, readBuffer}
+use Rattle.bed_read.specs.Reading.{readAnswer, readCode, readBuffer}
+use Rattle.bed_read.proofs.BufferLaws.{read-matrix, buffer-values}
 use Rattle.calls.proofs.CallLaws.{call-below}
 use Rattle.bed_write.specs.Packing.{placeCode, orZero}
 use Rattle.bed_write.specs.Writing.{valueCode, writeAnswer, bedFile, writeBuffer}
 use Rattle.bed_write.proofs.BedLaws.{bed-byte}
-use Rattle.bed_write.proofs.FirstLaws.{zero-below}
-use Rattle.bed_write.proofs.WriteLaws.{value-coded}
 use Rattle.canonical.specs.Canonical.{canonicalAnswer, canonicalFile, canonicalBuffer}
 use Rattle.canonical.proofs.WrittenLaws.{bed-mode, bed-call, bed-accepted}
 use Rattle.canonical.proofs.CanonicalLaws.{writable}
-use Rattle.demands.proofs.ReadBack.{writing-passed, has-code, wrote}
+use Rattle.demands.proofs.WriteLaws.{writing-passed, has-code, wrote, written-small}
 use Rattle.demands.specs.Demand.{IsAccepted, GoodList, meant}
 use Rattle.demands.proofs.ReadLaws.{read-done}
 use Rattle.demands.specs.PlinkFile.{IsPlinkFile, variantBit, genotypeIn, ExtraBitsZero, copiesBy, Apart, StandsIn}
@@ -95,12 +94,12 @@ module _ (file : List ℕ) (iids sids : ℕ) (acc : IsAccepted file iids sids) (
         (readAnswer file iids sids iidList sidList (length val) ≡ done [])
         × (readBuffer w file iids sids flag iidList sidList missing order val
         ≡ matrix order (length iidList) (length sidList) (λ k m. copiesValue w missing (copiesBy flag (genotypeIn file iids (meant sids sidList m) (meant iids iidList k)))))
-    unfolding readBuffer valuesRead codesRead readCode meant
+    unfolding readCode meant
     reading-is-plink =
         let d = read-done file iids sids iidList sidList acc gi gs (length val) for-15 in (
           d,
-          new-if-done _ _ val (ap isDone d)
-              ∙ map-matrix (valueOf w flag missing) order (length iidList) (length sidList) (readCode file iids sids iidList sidList)
+          buffer-values w file iids sids flag iidList sidList missing order val (ap isDone d)
+              ∙ read-matrix w flag missing order file iids sids iidList sidList (length iidList) (length sidList) refl refl
               ∙ matrix-ext order (length iidList) (length sidList) _ _
               (λ k m hk hm.
               let a = meant iids iidList k in
@@ -175,7 +174,7 @@ module _ (w : Width) (apart : Apart w) (flag : Bool) (missing : w .Value) (order
 
   small : (a m : ℕ) → a < iids → m < sids → code a m < 4
   unfolding code
-  small a m ha hm = zero-below (valueCode w flag missing order iids sids val a m) (value-coded w flag missing order iids sids val a m)
+  small = written-small w flag missing order iids sids val old is-done
 
   -- leaves PLINK's file
   pub written-is-plink : IsPlinkFile (writeBuffer iids sids (valueCode w flag missing order iids sids val) (length val) old) iids sids

@@ -3,69 +3,30 @@ use mathlib.Core.Path.{_≡_, refl, sym, ap, subst, _∙_}
 use mathlib.Core.Bool.{Bool, true, false, not, _&&_, _||_, true≢false}
 use mathlib.Core.List.{List, []}
 use mathlib.Core.Logic.{inl, inr}
-use mathlib.Core.Option.{Option, some, none}
 use Prim.Native.Nat.{ℕ, _-_, _*_, _^_, _<_, _≤_}
-use native.Mathlib.Omega.{arith}
-use borrow.Author.Tests.{eq-eqb, le-leb}
-use lib.Dec.{T, eqb, leb}
+use lib.Dec.{T}
 use lib.IntN.{ℤ}
 use lib.Ieee.{Float, nan, eq, ne, isNan}
 use lib.Ieee.Compare.{differs-from-itself}
 use lib.ListN.{length, getD}
-use Rattle.answer.specs.Answer.{Answer, done, isDone}
-use Rattle.blocks.specs.Block.{fileLength, checkSize}
+use Rattle.answer.specs.Answer.{done, isDone}
+use Rattle.blocks.specs.Block.{fileLength}
 use Rattle.answer.specs.Matrix.{matrixPlace}
-use Rattle.codes.specs.Value.{Width, i8, float, sameInt, valueOf, codeOf, sameOrNan}
-use Rattle.answer.proofs.AnswerLaws.{check-passes, count-passes, new-if-done, heard, before-later}
-use Rattle.codes.proofs.ValueLaws.{sameInt-refl, sameInt-eq}
-use Rattle.codes.proofs.ValueLaws.{decode-encode, encode-decode, Numbers, float-numbers, NoNumber}
+use Rattle.codes.specs.Value.{Width, i8, float, sameInt, valueOf, sameOrNan}
+use Rattle.codes.proofs.ValueLaws.{sameInt-refl, sameInt-eq, decode-encode, Numbers, float-numbers, NoNumber}
 use Rattle.bed_file.specs.File.{acceptAnswer}
 use Rattle.calls.specs.Calls.{callCode}
-use Rattle.calls.proofs.CallLaws.{call-below}
-use Rattle.bed_read.specs.Reading.{fileOrder, readAnswer, readBuffer}
+use Rattle.bed_read.specs.Reading.{fileOrder, readAnswer, readCode, readBuffer}
 use Rattle.bed_file.proofs.FileLaws.{accepted}
-use Rattle.bed_write.specs.Packing.{placeCode, orZero, firstOf, ifBad}
-use Rattle.bed_write.specs.Writing.{valueCode, firstBadCall, checkCall, checkBuffers, writeAnswer, bedFile, writeBuffer}
+use Rattle.bed_write.specs.Packing.{placeCode, orZero}
+use Rattle.bed_write.specs.Writing.{valueCode, writeAnswer, writeBuffer}
 use Rattle.canonical.specs.Canonical.{canonicalFile, canonicalBuffer}
 use Rattle.canonical.proofs.Theorems.{canonical-left, canonical-call}
-use Rattle.canonical.proofs.WrittenLaws.{bed-call, bed-accepted}
 use Rattle.demands.specs.ReadBack.{EqualOrBothNan}
-use Rattle.bed_write.proofs.FirstLaws.{first-none, first-all, not-bad, zero-below}
 use Rattle.bed_write.proofs.BedLaws.{bed-ext}
-use Rattle.bed_write.proofs.WriteLaws.{buffers-stage, passed, Passed, value-coded}
-use Rattle.demands.proofs.ReadBackLaws.{all-answer, read-length, read-at}
-
--- ---- a writing that is accepted
-call-none : (o : Option (ℕ × ℕ)) → isDone (checkCall o (done [])) ≡ true → o ≡ none
-unfolding checkCall
-call-none none e = refl
-call-none (some p) e = absurd (let q : _≡_ {A = ℕ} 0 1 = cc in omega arith)
-
-module _ (iids sids : ℕ) (code : ℕ → ℕ → Option ℕ) (valLength : ℕ) (old : List ℕ) (d : isDone (writeAnswer iids sids code valLength (length old)) ≡ true) where
-  buffers-done : isDone (checkBuffers iids sids valLength (length old) (done [])) ≡ true
-  unfolding writeAnswer
-  buffers-done = before-later (buffers-stage iids sids valLength (length old)) _ d
-
-  pub writing-passed : Passed iids sids valLength (length old) (checkBuffers iids sids valLength (length old) (done []))
-  writing-passed = passed iids sids valLength (length old) (checkBuffers iids sids valLength (length old) (done [])) refl buffers-done
-
-  no-bad : firstBadCall iids sids code ≡ none
-  unfolding writeAnswer
-  no-bad = call-none (firstBadCall iids sids code) (subst (λ (x : Answer). isDone x ≡ true) (heard (buffers-stage iids sids valLength (length old)) [] buffers-done (checkCall (firstBadCall iids sids code) (done []))) d)
-
-  -- every value has a code
-  pub has-code : (a m : ℕ) → a < iids → m < sids → code a m ≡ some (orZero (code a m))
-  unfolding firstBadCall
-  has-code a m ha hm =
-      not-bad (code a m) (pair a m)
-      (first-all iids (λ a. ifBad (code a m) (pair a m)) (first-all sids (λ m. firstOf iids (λ a. ifBad (code a m) (pair a m))) no-bad m hm) a ha)
-    where
-      pair : ℕ → ℕ → ℕ × ℕ
-      pair a m = (a, m)
-
-  pub wrote : writeBuffer iids sids code valLength old ≡ bedFile iids sids (λ a m. orZero (code a m))
-  unfolding writeBuffer
-  wrote = new-if-done _ _ old d
+use Rattle.demands.proofs.WriteLaws.{has-code, written-call, written-accepted}
+use Rattle.demands.proofs.ReadBackLaws.{order-length, order-code, all-answer, read-at}
+use Rattle.demands.proofs.ReadWriteLaws.{read-is-written}
 
 -- 1. "Under one flag and one missing value, an accepted writing read back gives every value, equal by number or NaN for NaN.": from either
 -- matrix order, into either
@@ -81,37 +42,17 @@ pub written-read-back :
     (matrixPlace later iids sids a m) missing)
     ≡ true)
 unfolding valueCode placeCode
-written-read-back w flag missing iids sids order val old d later buffer l = (
-  all-answer file iids sids acc (length buffer) l,
-  λ a m ha hm.
-      let v = getD val (matrixPlace order iids sids a m) missing in
-      subst (λ x. sameOrNan w v x ≡ true)
-      (sym (read-at file iids sids acc w flag missing later buffer l a m ha hm ∙ ap (valueOf w flag missing) (code-back a m ha hm)))
-      (decode-encode w flag missing v (orZero (code a m)) (has-code iids sids code (length val) old d a m ha hm)),
-)
-  where
-    code : ℕ → ℕ → Option ℕ
-    code = valueCode w flag missing order iids sids val
-
-    codes : ℕ → ℕ → ℕ
-    codes a m = orZero (code a m)
-
-    small : (a m : ℕ) → a < iids → m < sids → codes a m < 4
-    small a m ha hm = zero-below (code a m) (value-coded w flag missing order iids sids val a m)
-
-    file : List ℕ
-    file = writeBuffer iids sids code (length val) old
-
-    is-file : file ≡ bedFile iids sids codes
-    is-file = wrote iids sids code (length val) old d
-
-    acc : isDone (acceptAnswer file iids sids) ≡ true
-    acc =
-        let p = writing-passed iids sids code (length val) old d in
-        ap (λ x. isDone (acceptAnswer x iids sids)) is-file ∙ ap isDone (bed-accepted iids sids codes small (p .iids-fit) (p .sids-fit) (p .file-fits))
-
-    code-back : (a m : ℕ) → a < iids → m < sids → callCode file iids sids a m ≡ codes a m
-    code-back a m ha hm = ap (λ x. callCode x iids sids a m) is-file ∙ bed-call iids sids codes small a m ha hm
+written-read-back w flag missing iids sids order val old d later buffer l =
+    let code = valueCode w flag missing order iids sids val in
+    let file = writeBuffer iids sids code (length val) old in
+    let acc : isDone (acceptAnswer file iids sids) ≡ true = ap isDone (written-accepted w flag missing order iids sids val old d) in (
+      all-answer file iids sids acc (length buffer) l,
+      λ a m ha hm.
+          let v = getD val (matrixPlace order iids sids a m) missing in
+          subst (λ x. sameOrNan w v x ≡ true)
+          (sym (read-at file iids sids acc w flag missing later buffer l a m ha hm ∙ ap (valueOf w flag missing) (written-call w flag missing order iids sids val old d a m ha hm)))
+          (decode-encode w flag missing v (orZero (code a m)) (has-code iids sids code (length val) old d a m ha hm)),
+    )
 
 -- and said of each width without the test that the definition of a value's code uses: i8 has no NaN, and an integer is its number
 same-i8 : (u v : ℤ) → sameOrNan i8 u v ≡ true → u ≡ v
@@ -159,15 +100,6 @@ pub written-read-back-f64 :
 written-read-back-f64 flag missing iids sids order val old d later buffer l a m ha hm =
     same-f64 _ _ (written-read-back float flag missing iids sids order val old d later buffer l .1 a m ha hm)
 
-abbrev pair : ℕ → ℕ → ℕ × ℕ
-pair a m = (a, m)
-
-codes-found : (iids sids : ℕ) (code : ℕ → ℕ → Option ℕ) (c : ℕ → ℕ → ℕ) → ((a m : ℕ) → a < iids → m < sids → code a m ≡ some (c a m)) → firstBadCall iids sids code ≡ none
-unfolding firstBadCall ifBad
-codes-found iids sids code c e =
-    first-none sids (λ m. firstOf iids (λ a. ifBad (code a m) (pair a m)))
-    (λ m hm. first-none iids (λ a. ifBad (code a m) (pair a m)) (λ a ha. ap (λ o. ifBad o (pair a m)) (e a m ha hm)))
-
 -- 2. "Reading all and then writing gives every code back if missing is none of 0, 1, 2 by number.": from either mode, by either matrix order,
 -- the file that is left is the canonical file
 pub read-written :
@@ -182,37 +114,12 @@ pub read-written :
     (valueCode w flag missing order iids sids (readBuffer w file iids sids flag (fileOrder iids) (fileOrder sids) missing order buffer))
     (length (readBuffer w file iids sids flag (fileOrder iids) (fileOrder sids) missing order buffer)) old
     ≡ canonicalFile file iids sids)
-unfolding valueCode placeCode writeAnswer writeBuffer firstBadCall checkBuffers checkSize checkCall canonicalFile orZero
-read-written w n flag missing other file iids sids d fits order buffer l old k = (
-  all-answer file iids sids d (length buffer) l,
-  answer,
-  new-if-done _ _ old (ap isDone answer)
-      ∙ bed-ext iids sids (λ a m. orZero (code a m)) (callCode file iids sids) (λ a m ha hm. ap orZero (back a m ha hm)),
-)
-  where
-    read : List (w .Value)
-    read = readBuffer w file iids sids flag (fileOrder iids) (fileOrder sids) missing order buffer
-
-    code : ℕ → ℕ → Option ℕ
-    code = valueCode w flag missing order iids sids read
-
-    back : (a m : ℕ) → a < iids → m < sids → code a m ≡ some (callCode file iids sids a m)
-    back a m ha hm =
-        ap (codeOf w flag missing) (read-at file iids sids d w flag missing order buffer l a m ha hm)
-        ∙ encode-decode w n flag missing other (callCode file iids sids a m) (call-below file iids sids a m)
-
-    none-bad : firstBadCall iids sids code ≡ none
-    none-bad = codes-found iids sids code (callCode file iids sids) back
-
-    answer : writeAnswer iids sids code (length read) (length old) ≡ done []
-    answer =
-        let acc = accepted file iids sids d in
-        count-passes iids _ (acc .iids-fit)
-        ∙ count-passes sids _ (acc .sids-fit)
-        ∙ check-passes (leb (fileLength iids sids) (2 ^ 64 - 1)) 4 _ (le-leb (fileLength iids sids) (2 ^ 64 - 1) fits)
-        ∙ check-passes (eqb (iids * sids) (length read)) 15 _ (eq-eqb (iids * sids) (length read) (sym (read-length file iids sids d w flag missing order buffer l)))
-        ∙ check-passes (eqb (length old) (fileLength iids sids)) 16 _ (eq-eqb (length old) (fileLength iids sids) k)
-        ∙ ap (λ o. checkCall o (done [])) none-bad
+unfolding canonicalFile
+read-written w n flag missing other file iids sids d fits order buffer l old k =
+    let acc = accepted file iids sids d in
+    let answer = all-answer file iids sids d (length buffer) l in
+    let r = read-is-written w n flag missing other order file iids sids (fileOrder iids) (fileOrder sids) buffer (ap isDone answer) iids sids (order-length iids) (order-length sids) (acc .iids-fit) (acc .sids-fit) fits old k in
+    (answer, r .0, r .1 ∙ bed-ext iids sids (readCode file iids sids (fileOrder iids) (fileOrder sids)) (callCode file iids sids) (order-code file iids sids))
 
 -- every code is back, in a file that is accepted
 pub every-code-back :

@@ -18,8 +18,10 @@ use Rattle.bed_file.specs.File.{isMode1, items, blocks, acceptAnswer}
 use Rattle.bed_read.specs.Reading.{fileOrder, readBuffer}
 use Rattle.bed_write.specs.Packing.{placeCode, orZero, packedCodes, firstOf, ifBad}
 use Rattle.bed_write.specs.Writing.{valueCode, firstBadCall, checkCall, checkBuffers, writeAnswer, writeBuffer}
+use Rattle.canonical.specs.Canonical.{canonicalBuffer}
 use Rattle.canonical.proofs.Examples.{canonical-of-mode-0}
 use Rattle.demands.specs.ReadBack.{EqualOrBothNan}
+use Rattle.demands.proofs.WriteLaws.{written-canonical}
 use Rattle.demands.proofs.ReadBack.{written-read-back, written-read-back-i8, written-read-back-f64, read-written}
 
 -- "i8 column 0, −127, 1, 2, 2, counted, missing −127: 27 00"
@@ -57,6 +59,15 @@ pub column-read-back-i8 :
     ≡ negsuc 126
 unfolding matrixPlace
 column-read-back-i8 later = written-read-back-i8 true (negsuc 126) 5 1 true column five column-writable later column refl 1 0 (lit≤ tt) (lit≤ tt)
+
+five-long : length five ≡ fileLength 5 1
+unfolding blockWidth
+five-long = refl
+
+-- the canonical file of its file is that file
+pub column-canonical :
+    canonicalBuffer (writeBuffer 5 1 (valueCode i8 true (negsuc 126) true 5 1 column) 5 five) 5 1 five ≡ writeBuffer 5 1 (valueCode i8 true (negsuc 126) true 5 1 column) 5 five
+column-canonical = written-canonical i8 true (negsuc 126) true 5 1 column five column-writable five five-long .1
 
 -- −0.0 and NaN, with missing NaN: what is read back is equal by number, and NaN
 abbrev zeroAndNan : List Float

@@ -1,25 +1,24 @@
 -- Laws of reading everything, in file order.
 use mathlib.Core.Path.{_≡_, sym, ap, _∙_}
 use mathlib.Core.Bool.{Bool, true}
-use mathlib.Core.List.{List, [], map}
+use mathlib.Core.List.{List, []}
 use mathlib.Core.Option.{none}
 use Prim.Native.Nat.{ℕ, _*_, _<_}
 use native.Mathlib.Omega.{arith}
 use borrow.Author.Tests.{lt-ltb}
 use lib.IntN.{pos}
-use lib.ListN.{length, getD, length-map, List·getD-map}
+use lib.ListN.{length, getD}
 use Rattle.answer.specs.Answer.{done, isDone}
 use Rattle.entries.specs.Entry.{firstBad, isGood, means}
-use Rattle.answer.specs.Matrix.{matrixPlace, matrix}
+use Rattle.answer.specs.Matrix.{matrixPlace}
 use Rattle.codes.specs.Value.{Width, valueOf}
-use Rattle.answer.proofs.AnswerLaws.{new-if-done}
-use Rattle.answer.proofs.MatrixLaws.{length-matrix, getD-matrix, place-below}
 use Rattle.entries.proofs.EntryLaws.{none-bad}
-use Rattle.answer.proofs.Tabulate.{length-tabulate, getD-tabulate, getD-inside}
+use Rattle.answer.proofs.Tabulate.{length-tabulate, getD-tabulate}
 use Rattle.bed_file.specs.File.{acceptAnswer}
 use Rattle.calls.specs.Calls.{callCode}
-use Rattle.bed_read.specs.Reading.{fileOrder, readAnswer, readCode, codesRead, valuesRead, readBuffer}
+use Rattle.bed_read.specs.Reading.{fileOrder, readAnswer, readCode, readBuffer}
 use Rattle.bed_read.proofs.ReadLaws.{read-good}
+use Rattle.bed_read.proofs.BufferLaws.{read-cell, buffer-values}
 
 pub order-length : (n : ℕ) → length (fileOrder n) ≡ n
 unfolding fileOrder
@@ -39,6 +38,12 @@ pub order-means : (n k : ℕ) → k < n → means n (getD (fileOrder n) k (pos 0
 unfolding means
 order-means n k h = ap (means n) (order-at n k h)
 
+-- the codes read are those of the calls
+pub order-code : (file : List ℕ) (iids sids a m : ℕ) → a < iids → m < sids → readCode file iids sids (fileOrder iids) (fileOrder sids) a m ≡ callCode file iids sids a m
+unfolding readCode
+order-code file iids sids a m ha hm =
+    ap (λ (x : ℕ). callCode file iids sids x (means sids (getD (fileOrder sids) m (pos 0)))) (order-means iids a ha) ∙ ap (callCode file iids sids a) (order-means sids m hm)
+
 module _ (file : List ℕ) (iids sids : ℕ) (d : isDone (acceptAnswer file iids sids) ≡ true) where
   -- reading everything is not refused
   pub all-answer : (len : ℕ) → len ≡ iids * sids → readAnswer file iids sids (fileOrder iids) (fileOrder sids) len ≡ done []
@@ -47,33 +52,13 @@ module _ (file : List ℕ) (iids sids : ℕ) (d : isDone (acceptAnswer file iids
       (ap (λ (n : ℕ). n * length (fileOrder sids)) (order-length iids) ∙ ap (λ (n : ℕ). iids * n) (order-length sids) ∙ sym e)
       (order-good iids) (order-good sids)
 
-  module _ (w : Width) (flag : Bool) (missing : w .Value) (order : Bool) (buffer : List (w .Value)) (l : length buffer ≡ iids * sids) where
-    abbrev read : List (w .Value)
-    read = readBuffer w file iids sids flag (fileOrder iids) (fileOrder sids) missing order buffer
-
-    codes-all : codesRead order file iids sids (fileOrder iids) (fileOrder sids) ≡ matrix order iids sids (readCode file iids sids (fileOrder iids) (fileOrder sids))
-    unfolding codesRead
-    codes-all =
-        ap (λ (n : ℕ). matrix order n (length (fileOrder sids)) (readCode file iids sids (fileOrder iids) (fileOrder sids))) (order-length iids)
-        ∙ ap (λ (n : ℕ). matrix order iids n (readCode file iids sids (fileOrder iids) (fileOrder sids))) (order-length sids)
-
-    read-is : read ≡ map (valueOf w flag missing) (matrix order iids sids (readCode file iids sids (fileOrder iids) (fileOrder sids)))
-    unfolding readBuffer valuesRead
-    read-is = new-if-done _ _ buffer (ap isDone (all-answer (length buffer) l)) ∙ ap (map (valueOf w flag missing)) codes-all
-
-    pub read-length : length read ≡ iids * sids
-    read-length = ap length read-is ∙ length-map (matrix order iids sids (readCode file iids sids (fileOrder iids) (fileOrder sids))) (valueOf w flag missing) ∙ length-matrix order iids sids (readCode file iids sids (fileOrder iids) (fileOrder sids))
-
-    -- each value read is that of the call's code
-    pub read-at : (a m : ℕ) → a < iids → m < sids → getD read (matrixPlace order iids sids a m) missing ≡ valueOf w flag missing (callCode file iids sids a m)
-    unfolding readCode
-    read-at a m ha hm =
-        let p : matrixPlace order iids sids a m < iids * sids = place-below iids sids a m ha hm order in
-        let l' = read-length in
-        getD-inside read (matrixPlace order iids sids a m) missing (valueOf w flag missing 0) (omega arith)
-        ∙ ap (λ x. getD x (matrixPlace order iids sids a m) (valueOf w flag missing 0)) read-is
-        ∙ List·getD-map (valueOf w flag missing) (matrix order iids sids (readCode file iids sids (fileOrder iids) (fileOrder sids))) (matrixPlace order iids sids a m) 0
-        ∙ ap (valueOf w flag missing)
-        (getD-matrix iids sids a m ha hm order (readCode file iids sids (fileOrder iids) (fileOrder sids)) 0
-        ∙ ap (λ (x : ℕ). callCode file iids sids x (means sids (getD (fileOrder sids) m (pos 0)))) (order-means iids a ha)
-        ∙ ap (callCode file iids sids a) (order-means sids m hm))
+  -- each value read is that of the call's code
+  pub read-at : (w : Width) (flag : Bool) (missing : w .Value) (order : Bool) (buffer : List (w .Value)) → length buffer ≡ iids * sids
+      → (a m : ℕ) → a < iids → m < sids
+      → getD (readBuffer w file iids sids flag (fileOrder iids) (fileOrder sids) missing order buffer) (matrixPlace order iids sids a m) missing
+      ≡ valueOf w flag missing (callCode file iids sids a m)
+  read-at w flag missing order buffer l a m ha hm =
+      ap (λ (x : List (w .Value)). getD x (matrixPlace order iids sids a m) missing)
+      (buffer-values w file iids sids flag (fileOrder iids) (fileOrder sids) missing order buffer (ap isDone (all-answer (length buffer) l)))
+      ∙ read-cell w flag missing order file iids sids (fileOrder iids) (fileOrder sids) iids sids (order-length iids) (order-length sids) missing a m ha hm
+      ∙ ap (valueOf w flag missing) (order-code file iids sids a m ha hm)

@@ -1,5 +1,5 @@
 -- Two sides that differ only in the animal list. Over the format.
-use mathlib.Core.Path.{_≡_, sym, ap, subst, _∙_}
+use mathlib.Core.Path.{_≡_, refl, sym, ap, subst, _∙_}
 use mathlib.Core.Bool.{Bool, true, false}
 use mathlib.Core.List.{List, [], _∷_}
 use mathlib.Core.Logic.{inr}
@@ -13,6 +13,7 @@ use Rattle.answer.specs.Answer.{Answer, done, isDone}
 use Rattle.entries.specs.Entry.{means}
 use Rattle.codes.specs.Value.{float, valueOf}
 use Rattle.bed_read.specs.Reading.{fileOrder, readAnswer, readCode, valuesRead}
+use Rattle.bed_read.proofs.BufferLaws.{read-length}
 use Rattle.calls.specs.Calls.{callCode}
 use Rattle.statistics.specs.Statistics.{statsPerMarker}
 use Rattle.statistics.specs.Calls.{IsCall, FewEnough}
@@ -24,7 +25,7 @@ use Rattle.demands.specs.Demand.{IsAccepted, GoodList, meant, NamesEachO
 use Rattle.demands.proofs.ReadBackLaws.{order-length, order-good, order-means}
 use Rattle.read_standardised.proofs.JoinLaws.{as-read-is, answer-is, values-are, stats-are}
 use Rattle.demands.proofs.SumLaws.{same-sums, names-length, meant-below}
-use Rattle.read_standardised.proofs.CallsRead.{length-read, cell-read, call-read}
+use Rattle.read_standardised.proofs.CallsRead.{cell-read, call-read}
 use Rattle.demands.proofs.ReadLaws.{read-done}
 
 -- ---- a side whose file is accepted, whose lists are good, and whose buffers have the right lengths
@@ -82,23 +83,18 @@ module _ (f : Format) (file : List ℕ) (iids sids : ℕ) (flag : Bool) (il sl :
   here-cell : (k m : ℕ) → k < iids → m < length sl
       → value order iids (length sl) here k m ≡ valueOf float flag nan (callCode file iids sids (meant iids il k) (means sids (getD sl m (pos 0))))
   unfolding here readCode meant
-  here-cell k m hk hm =
-      ap (λ (n : ℕ). value order n (length sl) here k m) (sym il-long)
-      ∙ cell-read flag order file iids sids il sl k m (subst (λ (n : ℕ). k < n) (sym il-long) hk) hm
+  here-cell k m hk hm = cell-read flag order file iids sids il sl iids (length sl) il-long refl k m hk hm
 
   there-cell : (i m : ℕ) → i < iids → m < length sl
       → value order iids (length sl) there i m ≡ valueOf float flag nan (callCode file iids sids i (means sids (getD sl m (pos 0))))
   unfolding there readCode meant fo
   there-cell i m hi hm =
-      ap (λ (n : ℕ). value order n (length sl) there i m) (sym fo-long)
-      ∙ cell-read flag order file iids sids fo sl i m (subst (λ (n : ℕ). i < n) (sym fo-long) hi) hm
+      cell-read flag order file iids sids fo sl iids (length sl) fo-long refl i m hi hm
       ∙ ap (λ (a : ℕ). valueOf float flag nan (callCode file iids sids a (means sids (getD sl m (pos 0))))) (order-means iids i hi)
 
   there-call : (i m : ℕ) → i < iids → m < length sl → IsCall (value order iids (length sl) there i m)
   unfolding there
-  there-call i m hi hm =
-      subst (λ (n : ℕ). IsCall (value order n (length sl) there i m)) fo-long
-      (call-read flag order file iids sids fo sl i m (subst (λ (n : ℕ). i < n) (sym fo-long) hi) hm)
+  there-call i m hi hm = call-read flag order file iids sids fo sl iids (length sl) fo-long refl i m hi hm
 
   below : (k : ℕ) → k < iids → meant iids il k < iids
   below k h = meant-below iids il names k (subst (λ (n : ℕ). k < n) (sym il-long) h)
@@ -108,8 +104,7 @@ module _ (f : Format) (file : List ℕ) (iids sids : ℕ) (flag : Bool) (il sl :
 
   same-length : length here ≡ length there
   unfolding here there
-  same-length =
-      length-read flag order file iids sids il sl ∙ ap (λ (n : ℕ). n * length sl) (il-long ∙ sym fo-long) ∙ sym (length-read flag order file iids sids fo sl)
+  same-length = read-length float flag nan order file iids sids il sl iids (length sl) il-long refl ∙ sym (read-length float flag nan order file iids sids fo sl iids (length sl) fo-long refl)
 
   -- ---- reading and then standardising
   module _ (useStats : Bool) where

@@ -14,13 +14,13 @@ use Rattle.codes.specs.Value.{float}
 use Rattle.answer.proofs.Tests.{by-test}
 use Rattle.answer.proofs.AnswerLaws.{check-passes, check-refuses, count-passes, count-refuses, check-other, count-other, check-stage, count-stage, then-stage, Stage, lets, refuses, heard, new-if-done, old-if-not}
 use Rattle.bed_file.specs.File.{checkFile, acceptAnswer}
-use Rattle.bed_read.specs.Reading.{checkLists, readAnswer, valuesRead, readBuffer}
+use Rattle.bed_read.specs.Reading.{checkLists, readAnswer, readBuffer}
 use Rattle.bed_file.proofs.FileLaws.{accepted, file-other, file-stage}
 use Rattle.bed_read.proofs.ReadLaws.{lists-other, lists-stage}
+use Rattle.bed_read.proofs.BufferLaws.{read-length, buffer-values, buffer-kept}
 use Rattle.statistics.specs.Statistics.{statsPerMarker}
 use Rattle.standardise.specs.Standardised.{bufferChecks, lowestRefused, newStats, newValues, standardiseAnswer, laterStats, laterValues}
 use Rattle.standardise.proofs.CallLaws.{checks-pass}
-use Rattle.read_standardised.proofs.CallsRead.{length-read}
 use Rattle.read_standardised.specs.Joined.{joinedChecks, readNan, joinedAnswer, joinedStats, joinedValues, Joins}
 use Rattle.read_standardised.specs.Ways.{inTurn, asRead, answersOf, valuesLeft, statsLeft, GoesBy}
 
@@ -122,14 +122,10 @@ module _ (f : Format) (file : List ℕ) (iids sids : ℕ) (flag : Bool) (il sl :
     sym (old-if-not (joinedChecks file iids sids il sl (length val) (length stats) (done [])) _ stats (ap isDone (h (done [])) ∙ n)),
   )
 
-  read-length : length (readNan f file iids sids flag il sl order val stats) ≡ length il * length sl
-  unfolding readNan
-  read-length = length-read flag order file iids sids il sl
-
   module _ (d : isDone (readAnswer file iids sids il sl (length val)) ≡ true) where
     pub as-read-is : asRead f file iids sids flag il sl order val stats ≡ readNan f file iids sids flag il sl order val stats
-    unfolding asRead readNan readBuffer
-    as-read-is = new-if-done (readAnswer file iids sids il sl (length val)) (valuesRead float flag nan order file iids sids il sl) val d
+    unfolding asRead readNan
+    as-read-is = buffer-values float file iids sids flag il sl nan order val d
 
   -- what a reading leaves whose missing value is NaN
   pub left-as-read : (v1 : List Float) (missing : Float) → missing ≡ nan → v1 ≡ readBuffer float file iids sids flag il sl missing order val → v1 ≡ asRead f file iids sids flag il sl order val stats
@@ -159,9 +155,10 @@ module _ (f : Format) (file : List ℕ) (iids sids : ℕ) (flag : Bool) (il sl :
       read = asRead f file iids sids flag il sl order val stats
 
       standardiser-hears : (later : Answer) → bufferChecks (length il) (length sl) read stats later ≡ later
+      unfolding readNan
       standardiser-hears later =
           checks-pass (length il) (length sl) read stats later hi hs
-          (eq-eqb (length il * length sl) (length read) (sym (ap length (as-read-is d) ∙ read-length))) e
+          (eq-eqb (length il * length sl) (length read) (sym (ap length (as-read-is d) ∙ read-length float flag nan order file iids sids il sl (length il) (length sl) refl refl))) e
 
       -- the standardiser of what was read leaves what the joined call does
       pub call-made :
@@ -225,12 +222,11 @@ module _ (f : Format) (file : List ℕ) (iids sids : ℕ) (flag : Bool) (il sl :
           )
 
       pub refused-after : (t : Bool) → t ≡ isDone rd → t ≡ false → Joins f file iids sids flag il sl order val stats rd v1 stats
-      unfolding readBuffer
       refused-after t td tf =
           let d : isDone rd ≡ false = sym td ∙ tf in
           let dr : isDone (readAnswer file iids sids il sl (length val)) ≡ false = sym (ap isDone ra) ∙ d in
           let m = call-refused rd d (λ later. reading-refuses file iids sids il sl (length val) (length stats) e dr later ∙ sym ra) in
-          (m .0, rv ∙ old-if-not (readAnswer file iids sids il sl (length val)) (valuesRead float flag missing order file iids sids il sl) val dr ∙ m .1, m .2)
+          (m .0, rv ∙ sym (buffer-kept float file iids sids flag il sl missing order val dr) ∙ m .1, m .2)
 
 -- ---- the joined call whose checks find nothing
 module _ (f : Format) (file : List ℕ) (iids sids : ℕ) (flag : Bool) (il sl : List ℤ) (order : Bool) (val stats : List Float)

@@ -1,5 +1,5 @@
 -- "A message that puzzles clients": values decoded from a file have a mean, so that the joined call never gives 14.
-use mathlib.Core.Path.{_≡_, sym, ap, subst, _∙_}
+use mathlib.Core.Path.{_≡_, refl, sym, ap, subst, _∙_}
 use mathlib.Core.Bool.{Bool, true, false}
 use mathlib.Core.List.{List}
 use Prim.Native.Nat.{ℕ, _<_}
@@ -28,7 +28,7 @@ module _ (f : Format) (file : List ℕ) (iids sids : ℕ) (flag : Bool) (il sl :
   -- "Values decoded from a file are 0, 1, 2 or missing"
   pub read-calls : (k m : ℕ) → k < length il → m < length sl → IsCall (value order (length il) (length sl) read k m)
   unfolding readNan
-  read-calls k m hk hm = call-read flag order file iids sids il sl k m hk hm
+  read-calls k m hk hm = call-read flag order file iids sids il sl (length il) (length sl) refl refl k m hk hm
 
   -- "and their sum in f64 never passes 2^54, however many animals are read": the sum of every marker read
   pub read-sum-within : (m : ℕ) → m < length sl → le (accumulated f (λ k. value order (length il) (length sl) read k m) (length il) .sum) (sumLimit f) ≡ true
