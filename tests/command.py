@@ -32,7 +32,7 @@ def same(got, expected, what):
 
 
 def run(*words, fault=None, limit=None, room=None, stdin=None, ignored=None):
-    """Runs the command, with a limit on the size of files or on the memory if one is given; answers its exit status, standard output and standard error."""
+    """Runs the command, with a limit on the size of files or room in memory if given; answers its exit status, standard output and standard error."""
     env = dict(os.environ, LC_ALL="C")
     if fault:
         env.update(LD_PRELOAD=faults, FAULT=fault, ASAN_OPTIONS="verify_asan_link_order=0")
