@@ -646,7 +646,8 @@ def test_places():
     os.remove("out.npy.part")
     os.mkdir("out.d")
     same(run(*words, "out.d"), (2, "", "mungkelas: out.d: this is no plain file, and is not written over\n"), "a directory")
-    same(run(*words, "/dev/null"), (2, "", "mungkelas: /dev/null: this is no plain file, and is not written over\n"), "a device")
+    os.mkfifo("out.pipe")  # and no device, which a command that is wrong would replace for everyone
+    same(run(*words, "out.pipe"), (2, "", "mungkelas: out.pipe: this is no plain file, and is not written over\n"), "a pipe")
     same(run(*words, "nowhere/out")[::2], (2, "mungkelas: nowhere/out.part: No such file or directory\n"), "no directory")
     for own in "herd.bed", "herd.fam", "./herd.bim":
         before = get(own)

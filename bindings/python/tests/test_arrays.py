@@ -632,11 +632,13 @@ def test_refused_writing():
     raised((ValueError,), to_bed, path("k.fam"), np.zeros((3, 2)))
     unchanged()
     os.mkdir(path("directory"))
+    os.mkfifo(path("pipe"))
     for place in range(3):
-        where = [path("k.bed"), path("k.fam"), path("k.bim")]
-        where[place] = path("directory")
-        raised((OSError,), to_bed, where[0], np.zeros((3, 2)), {}, True, *where[1:])
-        unchanged()
+        for name in ("directory", "pipe"):
+            where = [path("k.bed"), path("k.fam"), path("k.bim")]
+            where[place] = path(name)
+            raised((OSError,), to_bed, where[0], np.zeros((3, 2)), {}, True, *where[1:])
+            unchanged()
     # a limit on the size of files stands for a full disk
     code = ("import resource, sys, numpy; from mungkelas import to_bed\n"
             "resource.setrlimit(resource.RLIMIT_FSIZE, (4000, 4000))\n"
