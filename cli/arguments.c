@@ -99,9 +99,11 @@ static bool second(enum option option, const char *text, const char *first, cons
     return !strcmp(text, other);
 }
 
+#define MOST_THREADS 1024
+
 static size_t processors(void) {
     long n = sysconf(_SC_NPROCESSORS_ONLN);
-    return n > 0 ? (size_t)n : 1;
+    return n < 1 ? 1 : n < MOST_THREADS ? (size_t)n : MOST_THREADS;
 }
 
 struct options read_arguments(int argc, char **argv) {
@@ -151,6 +153,6 @@ struct options read_arguments(int argc, char **argv) {
     if (given[MARKERS] && (given[EXTRACT] || given[EXCLUDE]))
         misused("%s takes names from the .bim file, which is not read with --markers", given[EXTRACT] ? "--extract" : "--exclude");
     options.threads = given[THREADS] ? number(THREADS, given[THREADS]) : processors();
-    if (options.threads < 1 || options.threads > 1024) misused("--threads: %s is not from 1 to 1024", given[THREADS]);
+    if (options.threads < 1 || options.threads > MOST_THREADS) misused("--threads: %s is not from 1 to %d", given[THREADS], MOST_THREADS);
     return options;
 }

@@ -85,7 +85,7 @@ struct herd {
 /* Ends the program if the core refuses the file or a list. Lists are made for read, standardise and freq alone. */
 struct herd open_herd(const struct options *options);
 void close_herd(struct herd *herd);
-/* Ends the program if the path is one of the files that are read. */
+/* Ends the program if the path, or path.part, is one of the files that are read. */
 void spare_own_files(const struct herd *herd, const char *path);
 
 /* ---- words.c ---- */
@@ -117,6 +117,8 @@ struct run {
 
 /* How many lines a part has. across: a line is not a block of the file, so that each part goes through all blocks. */
 size_t lines_a_part(size_t lines, size_t line_bytes, bool across, size_t threads);
+/* How many of the threads are used: no more than there are parts. The number of a part's thread is below it. */
+size_t threads_used(size_t lines, size_t lines_a_part, size_t threads);
 /* Answers what the first part that is refused does, or done. Every part is run. */
 bed_answer run_parts(const struct run *run);
 

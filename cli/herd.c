@@ -63,13 +63,20 @@ struct herd open_herd(const struct options *o) {
     return h;
 }
 
-void spare_own_files(const struct herd *h, const char *path) {
-    const struct file *own[] = {&h->bed, &h->fam, &h->bim};
+static void spare(const struct herd *h, const char *path) {
+    const struct options *o = h->options;
+    const char *own[] = {h->bed.path, h->fam.path, h->bim.path, o->keep, o->extract, o->exclude};
     struct stat here, there;
     if (stat(path, &here)) return;
     for (size_t i = 0; i < sizeof own / sizeof *own; i++)
-        if (own[i]->path && !stat(own[i]->path, &there) && here.st_dev == there.st_dev && here.st_ino == there.st_ino)
+        if (own[i] && !stat(own[i], &there) && here.st_dev == there.st_dev && here.st_ino == there.st_ino)
             fail("%s: this is read, and is not written over", path);
+}
+
+void spare_own_files(const struct herd *h, const char *path) {
+    char *part = joined(path, ".part");
+    spare(h, path), spare(h, part);
+    free(part);
 }
 
 void close_herd(struct herd *h) {

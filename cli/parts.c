@@ -17,6 +17,11 @@ size_t lines_a_part(size_t lines, size_t line_bytes, bool across, size_t threads
     return n < least ? least : n;
 }
 
+size_t threads_used(size_t lines, size_t lines_a_part, size_t threads) {
+    size_t parts = lines / lines_a_part + (lines % lines_a_part != 0);
+    return parts < threads ? parts : threads;
+}
+
 struct shared {
     const struct run *run;
     pthread_mutex_t lock;
@@ -67,7 +72,7 @@ bed_answer run_parts(const struct run *run) {
     pthread_t *threads = room_for(run->threads, sizeof *threads);
     size_t started = 1; /* this thread is the first */
     for (size_t t = 0; t < run->threads; t++) workers[t] = (struct worker){&s, t};
-    size_t parts = run->lines / run->lines_a_part + (run->lines % run->lines_a_part != 0), wanted = parts < run->threads ? parts : run->threads;
+    size_t wanted = threads_used(run->lines, run->lines_a_part, run->threads);
     /* A thread that cannot be had is done without. */
     while (started < wanted && !pthread_create(&threads[started], NULL, work, &workers[started])) started++;
     work(&workers[0]);

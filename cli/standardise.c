@@ -12,7 +12,7 @@
 struct standardising {
     const struct herd *herd;
     double *val, *stats;
-    double *room; /* for the values of a part of the markers, room_len for each thread */
+    double *room; /* for the values of a part of the markers, room_len for each thread that has one */
     size_t room_len;
 };
 
@@ -78,7 +78,7 @@ static void run(struct standardising *s, const char *doing, bool by_animals, bed
     size_t a_part = lines_a_part(lines, line * sizeof(double), h->mode_1 == by_animals, o->threads);
     if (part == find_part) {
         s->room_len = (a_part < lines ? a_part : lines) * line;
-        s->room = room_for(o->threads * s->room_len, sizeof *s->room);
+        s->room = room_for(threads_used(lines, a_part, o->threads) * s->room_len, sizeof *s->room);
     }
     bed_answer a = run_parts(&(struct run){doing, o->quiet, lines, a_part, o->threads, part, s});
     free(s->room);

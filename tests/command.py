@@ -31,8 +31,8 @@ def same(got, expected, what):
     print(f"{what}:\n  got      {got!r:.400}\n  expected {expected!r:.400}")
 
 
-def run(*words, fault=None, limit=None, stdin=None, ignored=None):
-    """Runs the command; answers its exit status, standard output and standard error."""
+def run(*words, fault=None, limit=None, room=None, stdin=None, ignored=None):
+    """Runs the command, with a limit on the size of files or room in memory if given; answers its exit status, standard output and standard error."""
     env = dict(os.environ, LC_ALL="C")
     if fault:
         env.update(LD_PRELOAD=faults, FAULT=fault, ASAN_OPTIONS="verify_asan_link_order=0")
@@ -40,6 +40,8 @@ def run(*words, fault=None, limit=None, stdin=None, ignored=None):
     def before():
         if limit is not None:
             resource.setrlimit(resource.RLIMIT_FSIZE, (limit, limit))
+        if room is not None:
+            resource.setrlimit(resource.RLIMIT_AS, (room, room))
         if ignored:
             signal.signal(ignored, signal.SIG_IGN)
 
@@ -241,6 +243,8 @@ def test_threads():
             if begun:
                 same(run(*words, fault=f"pthread_create {begun} signal {signal.SIGTERM}")[0], -signal.SIGTERM, what + ": begun")
             same(run(*words, fault=f"pthread_create {begun + 1} signal {signal.SIGTERM}")[0], 0, what + ": no more")
+    for processors in 4096, -1:
+        done(f"threads: {processors} processors", "read", "herd", "-o", "out", "--quiet", fault=f"sysconf 1 error {processors}")
 
 
 def test_at_once():
@@ -256,6 +260,27 @@ def test_at_once():
                 same(get(f"out{threads}.npy") == get("out1.npy"), True, f"at once: {subcommand} {order}: {threads} threads as one")
         for threads in 2, 3:
             same(get(f"out{threads}.stats.npy") == get("out1.stats.npy"), True, f"at once: {order}: {threads} threads, statistics")
+
+
+def test_memory():
+    """Nothing is held twice: a run does with room for the file, for what it writes, and for little more."""
+    own = 6 << 20  # of the program itself, less than the file
+    write("herd", draw(5, 3), 1)
+    if run("check", "herd", room=own)[0]:
+        print("this build takes more memory by itself: how much a run takes is not looked at")
+        return
+    animals, markers = 4000, 8000
+    file = animals * markers // 4
+    put("herd.bed", b"\x6c\x1b\1" + bytes(file))
+    for words, out in ((["check"], 0), (["read", "-o", "out"], 4 * file), (["read", "-o", "out", "--order", "C"], 4 * file), (["freq", "-o", "out"], 0),
+                       (["canonical", "-o", "out"], file)):
+        done(f"memory: {words}", *words, "herd", "--animals", animals, "--markers", markers, "--threads", 1, "--quiet", room=file + out + own)
+    # In animal order each thread that has a part needs room for its values, here 512 markers of a file of mode 0.
+    animals, markers = 1000, 1200
+    put("herd.bed", b"\x6c\x1b\0" + bytes(animals * markers // 4))
+    for order, threads, more in ("F", 1, 0), ("C", 1024, 256 << 20):
+        done(f"memory: standardise {order} {threads}", "standardise", "herd", "-o", "out", "--order", order, "--animals", animals, "--markers", markers,
+             "--threads", threads, "--quiet", room=animals * markers * 8 + more + own)
 
 
 def test_standardise():
@@ -621,19 +646,34 @@ def test_places():
     os.remove("out.npy.part")
     os.mkdir("out.d")
     same(run(*words, "out.d"), (2, "", "mungkelas: out.d: this is no plain file, and is not written over\n"), "a directory")
-    same(run(*words, "/dev/null"), (2, "", "mungkelas: /dev/null: this is no plain file, and is not written over\n"), "a device")
+    os.mkfifo("out.pipe")  # and no device, which a command that is wrong would replace for everyone
+    same(run(*words, "out.pipe"), (2, "", "mungkelas: out.pipe: this is no plain file, and is not written over\n"), "a pipe")
     same(run(*words, "nowhere/out")[::2], (2, "mungkelas: nowhere/out.part: No such file or directory\n"), "no directory")
     for own in "herd.bed", "herd.fam", "./herd.bim":
         before = get(own)
         same(run(*words, own), (2, "", f"mungkelas: {own}: this is read, and is not written over\n"), f"-o {own}")
         same(get(own), before, f"-o {own}")
+    clear()
+    put("list", "A1 A2 m1 m2")
+    for subcommand, list, out, written in (
+            ("read", "--keep", "list", "list"), ("read", "--extract", "./list", "./list"), ("freq", "--exclude", "list", "list"),
+            ("standardise", "--exclude", "list", "list"), ("standardise", "--keep", "list.npy", "list.stats.npy"),
+            ("read", "--exclude", "list", "list.part"), ("standardise", "--extract", "list", "list.stats.npy.part")):
+        os.rename("list", os.path.basename(written))
+        what = f"{subcommand} {list} {written} -o {out}"
+        message = f"mungkelas: {written}: this is read, and is not written over\n"
+        same(run(subcommand, "herd", list, os.path.basename(written), "-o", out, "--quiet"), (2, "", message), what)
+        os.rename(os.path.basename(written), "list")
+        same((get("list"), left()), (b"A1 A2 m1 m2", []), what)
     put("herd.stats.npy", "")
     os.symlink("herd.bed", "out.link")
     same(run(*words, "out.link"), (2, "", "mungkelas: out.link: this is read, and is not written over\n"), "a link to the .bed file")
     os.remove("herd.stats.npy")
-    os.symlink("herd.bed", "out.part")
-    same(run(*words, "out"), (2, "", "mungkelas: out.part: Too many levels of symbolic links\n"), "a link as .part")
-    same(get("herd.bed"), pack(codes, 1), "a link as .part")
+    for other, message in ("herd.bed", "this is read, and is not written over"), ("list", "Too many levels of symbolic links"):
+        os.symlink(other, "out.part")
+        same(run(*words, "out"), (2, "", f"mungkelas: out.part: {message}\n"), f"a link to {other} as .part")
+        os.remove("out.part")
+    same((get("herd.bed"), get("list")), (pack(codes, 1), b"A1 A2 m1 m2"), "a link as .part")
     for own in "herd.bed", "herd.fam", "herd.bim":
         same(run("freq", "herd", "-o", own), (2, "", f"mungkelas: {own}: this is read, and is not written over\n"), f"freq -o {own}")
     put("out.freq", "x" * 1000)

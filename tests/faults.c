@@ -1,5 +1,6 @@
 /* Stands before libc in the tests of the command. FAULT is "CALL N error NUMBER", "CALL N signal NUMBER", "CALL N cut FILE" or "CALL N fill FILE":
- * when CALL is made for the N-th time it fails with that error, the program gets that signal, FILE is cut to nothing, or each of its bytes is an x. */
+ * when CALL is made for the N-th time it fails with that error (sysconf: answers that number), the program gets that signal, FILE is cut to nothing,
+ * or each of its bytes is an x. */
 #define _GNU_SOURCE
 #include <dlfcn.h>
 #include <errno.h>
@@ -38,6 +39,7 @@ static int fault(const char *call, int *times) {
         return ((result(*) parameters)dlsym(RTLD_NEXT, #call))arguments;        \
     }
 
+STAND_BEFORE(long, sysconf, error, (int name), (name))
 STAND_BEFORE(int, posix_fallocate, error, (int fd, off_t start, off_t len), (fd, start, len))
 STAND_BEFORE(int, ftruncate, -1, (int fd, off_t len), (fd, len))
 STAND_BEFORE(int, flock, -1, (int fd, int how), (fd, how))

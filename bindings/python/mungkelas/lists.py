@@ -1,4 +1,5 @@
 """From an index to a list of entries."""
+import numbers
 import operator
 
 import numpy as np
@@ -24,6 +25,10 @@ def _of_slice(part, count):
     return _made(length, core.index_slice, count, start, stop, max(-_LARGEST, min(step, _LARGEST)))
 
 
+def _is_int(one):
+    return isinstance(one, numbers.Integral) and not isinstance(one, bool)
+
+
 def to_list(index, count):
     """The list of int64 entries that an index means: None (all), an int, a slice, a range, bools, or ints."""
     if index is None:
@@ -33,7 +38,7 @@ def to_list(index, count):
     if isinstance(index, range) and index.step == 1 and 0 <= index.start <= index.stop:
         return _made(len(index), core.index_range, count, index.start, index.stop)
     entries = np.asarray(index)
-    if entries.ndim == 0 and entries.dtype.kind in "iu":
+    if entries.ndim == 0 and _is_int(entries[()]):
         return _made(1, core.index_one, count, operator.index(entries[()]))
     if entries.ndim != 1:
         raise TypeError("an index is None, an int, a slice, or one row of ints or bools, not {!r}".format(index))
@@ -42,10 +47,11 @@ def to_list(index, count):
         return _made(np.count_nonzero(marks), core.index_bool, count, marks)
     if entries.size == 0:
         return np.zeros(0, np.int64)
-    if entries.dtype.kind not in "iu":
+    ints = entries.dtype.kind in "iu"
+    if not ints and (isinstance(index, np.ndarray) or not all(map(_is_int, index))):
         raise TypeError("an index of {} values".format(entries.dtype))
-    if entries.dtype.kind == "u" and int(entries.max()) > _LARGEST:
-        raise OverflowError("an index has an entry above 2^63 - 1")
+    if not ints or (entries.dtype.kind == "u" and int(entries.max()) > _LARGEST):  # NumPy has no int for all of them
+        raise OverflowError("an index has an entry that is none of -2^63 to 2^63 - 1")
     return np.ascontiguousarray(entries, np.int64)
 
 

@@ -12,7 +12,7 @@ BIM = {"chromosome": (np.str_, "0"), "sid": (np.str_, "sid{}"), "cm_position": (
 
 def path_of(bed, given, ending):
     """The path given, or the one of the .bed with another ending."""
-    return os.fspath(given) if given is not None else os.path.splitext(bed)[0] + ending
+    return os.fsdecode(given) if given is not None else os.path.splitext(bed)[0] + ending
 
 
 def count_lines(path):

@@ -68,7 +68,7 @@ class open_bed:
 
     def __init__(self, filepath, iid_count=None, sid_count=None, properties={}, count_A1=True, num_threads=None,
                  skip_format_check=False, fam_filepath=None, bim_filepath=None, *, mmap=True):
-        self.filepath = os.fspath(filepath)
+        self.filepath = os.fsdecode(filepath)
         self.count_A1 = bool(count_A1)
         self._num_threads = num_threads
         names.check_known(properties)

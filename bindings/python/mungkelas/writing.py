@@ -1,4 +1,5 @@
 """to_bed: a NumPy array, written as .bed, .fam and .bim files."""
+import errno
 import mmap as mapping
 import os
 
@@ -11,6 +12,11 @@ from .reading import flat
 def _write_all(paths_and_fills):
     """Fills PATH.part for each path, and then renames all of them; at an exception none is left."""
     paths = [path for path, _ in paths_and_fills]
+    if len({os.path.abspath(path) for path in paths}) < len(paths):
+        raise ValueError("{} are not {} files".format(", ".join(paths), len(paths)))
+    for path in paths:
+        if os.path.exists(path) and not os.path.isfile(path):  # else it is met after another file has got its name
+            raise OSError(errno.EEXIST, "this is no plain file, and is not written over", path)
     try:
         for path, fill in paths_and_fills:
             with open(path + ".part", "w+b") as file:
@@ -74,7 +80,7 @@ def to_bed(filepath, val, properties={}, count_A1=True, fam_filepath=None, bim_f
     if not (val.dtype.kind in "iu" or (val.dtype.kind == "f" and val.dtype.itemsize <= 8)):
         raise TypeError("val has values of {}".format(val.dtype))
     names.check_known(properties)
-    filepath = os.fspath(filepath)
+    filepath = os.fsdecode(filepath)
     fam = names.filled(names.given(properties, names.FAM), names.FAM, val.shape[0])
     bim = names.filled(names.given(properties, names.BIM), names.BIM, val.shape[1])
     threads = parts.thread_count(num_threads)

@@ -7,6 +7,7 @@ import re
 import subprocess
 import sys
 import tempfile
+import textwrap
 import threading
 import time
 
@@ -287,10 +288,13 @@ def test_index():
                 if not isinstance(markers, tuple):
                     alike(bed.read(markers, "int8"), calls[:, meant(markers, sids)], "index {!r}".format(markers))
         alike(bed.read(np.s_[2:5, ::-3], "int8"), calls[2:5, ::-3], "np.s_")
-        for wrong in ("sid1", 1.0, [1.0], True, np.zeros((1, 1), int), (1, 2, 3), (1,), (None, "a"), [2**64], {1}, ...):
+        for wrong in ("sid1", 1.0, [1.0], True, np.zeros((1, 1), int), (1, 2, 3), (1,), (None, "a"), [1.5, 2**64],
+                      np.array([2**63, -1]), np.array([1], object), {1}, ...):
             raised((TypeError,), bed.read, wrong)
+        for large in (2**63, 2**64, 10**30, -2**63 - 1):
+            for wrong in (large, [large], [0, large], [large, -1], [np.int8(1), large]):
+                raised((OverflowError,), bed.read, wrong)
         raised((OverflowError,), bed.read, np.array([2**64 - 1], np.uint64))
-        raised((OverflowError,), bed.read, 2**63 + 1)
         raised((ValueError,), bed.read, slice(None, None, 0))
         for marks in ([True] * 6, [True] * 8):
             e = raised((BedError, IndexError), bed.read, marks)
@@ -520,6 +524,36 @@ def test_names():
     same(open_bed(path("n.bed")).iid_count, 0, "a .fam without lines")
 
 
+def test_paths():
+    """A path is a str, bytes, or what has one."""
+    class Path:
+        def __fspath__(self):
+            return path("p.bed")
+
+    for kind in (os.fspath, os.fsencode, lambda name: Path()):
+        to_bed(kind(path("p.bed")), np.ones((3, 2)))
+        with open_bed(kind(path("p.bed"))) as bed:
+            got = bed.filepath, bed.shape, bed.read().sum()
+            same(got, (path("p.bed"), (3, 2), 6), "what is written and read at a path")
+    other = {"fam_filepath": os.fsencode(path("q.fam")), "bim_filepath": os.fsencode(path("q.bim"))}
+    to_bed(path("q.bed"), np.ones((4, 5)), **other)
+    same(open_bed(path("p.bed"), **other).shape, (4, 5), "names elsewhere, by bytes")
+
+
+def test_mapped():
+    """The file is mapped, or read whole when it is opened."""
+    file = drawn(1, 4, 1)
+    other = file[:3] + bytes([file[3] ^ 0xFF])
+    for mmap in (True, False):
+        with open_bed(saved("drawn.bed", file), 4, 1, mmap=mmap) as bed:
+            with open(path("drawn.bed"), "r+b") as opened:
+                opened.write(other)
+            alike(bed.read(dtype="int8"), unpacked(other if mmap else file, 4, 1), "a file that is changed meanwhile")
+            if not mmap:
+                saved("drawn.bed", b"")
+                alike(bed.read(dtype="int8"), unpacked(file, 4, 1), "a file that is cut short meanwhile")
+
+
 def packed(calls, flag=True):
     """The file of mode 1, in NumPy alone."""
     codes = np.array([3, 2, 0] if flag else [0, 2, 3])[np.where(calls == MISSING, 0, calls)]
@@ -592,6 +626,19 @@ def test_refused_writing():
         raised((ValueError,), to_bed, path("k.bed"), np.zeros((3, 2)), wrong)
         unchanged()
     raised((FileNotFoundError,), to_bed, path("nowhere/k.bed"), np.zeros((3, 2)))
+    for wrong in ({"fam_filepath": path("k.bed")}, {"bim_filepath": path("./k.fam")}):
+        raised((ValueError,), to_bed, path("k.bed"), np.zeros((3, 2)), **wrong)
+        unchanged()
+    raised((ValueError,), to_bed, path("k.fam"), np.zeros((3, 2)))
+    unchanged()
+    os.mkdir(path("directory"))
+    os.mkfifo(path("pipe"))
+    for place in range(3):
+        for name in ("directory", "pipe"):
+            where = [path("k.bed"), path("k.fam"), path("k.bim")]
+            where[place] = path(name)
+            raised((OSError,), to_bed, where[0], np.zeros((3, 2)), {}, True, *where[1:])
+            unchanged()
     # a limit on the size of files stands for a full disk
     code = ("import resource, sys, numpy; from mungkelas import to_bed\n"
             "resource.setrlimit(resource.RLIMIT_FSIZE, (4000, 4000))\n"
@@ -623,17 +670,18 @@ def test_thread_count():
 
 
 def test_readme():
-    """The example of the README prints what stands below it."""
-    here = os.path.dirname(os.path.abspath(__file__))
-    with open(os.path.join(here, "..", "README.md"), encoding="utf-8") as file:
-        code, printed = re.search("```python\n(.*?)```\n\nprints\n\n```\n(.*?)```", file.read(), re.S).groups()
-    said = io.StringIO()
+    """The example of each README prints what stands below it."""
     before = os.getcwd()
-    os.chdir(os.path.join(here, "..", "..", ".."))
-    with contextlib.redirect_stdout(said):
-        exec(code, {})
+    os.chdir(os.path.join(os.path.dirname(os.path.abspath(__file__)), "..", "..", ".."))
+    for readme, below in (("README.md", "prints [^\n]*\n\n((?:    [^\n]*\n)+)"),
+                          ("bindings/python/README.md", "prints\n\n```\n(.*?)```")):
+        with open(readme, encoding="utf-8") as file:
+            code, printed = re.search("```python\n(.*?)```\n\n" + below, file.read(), re.S).groups()
+        said = io.StringIO()
+        with contextlib.redirect_stdout(said):
+            exec(code, {})
+        same(said.getvalue(), textwrap.dedent(printed), "the example of " + readme)
     os.chdir(before)
-    same(said.getvalue(), printed, "the example of the README")
 
 
 test_readme()
@@ -648,6 +696,8 @@ test_progress()
 test_out()
 test_refusals()
 test_names()
+test_paths()
+test_mapped()
 test_writing()
 test_refused_writing()
 test_thread_count()
