@@ -2,7 +2,7 @@
 use mathlib.Core.Path.{_≡_, refl, sym, ap, _∙_}
 use mathlib.Core.List.{List}
 use Prim.Native.Nat.{ℕ, zero, suc, _+_, _-_, _*_, _/_, _%_, _^_, _<_, _≤_}
-use native.Mathlib.Nat.{add-zero, add-suc, div-one}
+use native.Mathlib.Nat.{add-zero, add-suc}
 use native.Mathlib.Omega.{arith}
 use lib.Bits.{bitAnd}
 use lib.ListN.{getD}
@@ -82,30 +82,17 @@ unfolding inByte codeAt
 none-in-zero h b = let n = b .none in omega arith
 
 -- ---- three bytes
--- a byte by its four codes
-low-4 : (x a b : ℕ) → x ≡ a + 4 * b → a < 4 → x % 4 ≡ a
-low-4 x a b e h = omega arith
+-- the sum of four codes put together
+module _ (a b c d : ℕ) (ha : a < 4) (hb : b < 4) (hc : c < 4) (hd : d < 4) where
+  abbrev four-put : ℕ
+  four-put = a + 4 * b + 16 * c + 64 * d
 
-above-2 : (x a b : ℕ) → x ≡ a + 4 * b → a < 4 → x / 4 ≡ b
-above-2 x a b e h = omega arith
+  each-code : (four-put / 1 % 4 ≡ a) × (four-put / 4 % 4 ≡ b) × (four-put / 16 % 4 ≡ c) × (four-put / 64 % 4 ≡ d)
+  each-code = (omega arith, omega arith, omega arith, omega arith)
 
-above-4 : (x a b : ℕ) → x ≡ a + 16 * b → a < 16 → x / 16 ≡ b
-above-4 x a b e h = omega arith
-
-above-6 : (x a b : ℕ) → x ≡ a + 64 * b → a < 64 → x / 64 ≡ b
-above-6 x a b e h = omega arith
-
-sums : (x y z w a b c d : ℕ) → x ≡ a → y ≡ b → z ≡ c → w ≡ d → x + y + z + w ≡ a + b + c + d
-sums x y z w a b c d p q r s = cc
-
-four-codes : (t a b c d : ℕ) → t ≡ a + 4 * b + 16 * c + 64 * d → a < 4 → b < 4 → c < 4 → d < 4 → inByte (λ code. code) t ≡ a + b + c + d
-unfolding inByte codeAt
-four-codes t a b c d e ha hb hc hd =
-    let w = low-4 (t / 1) a (b + 4 * c + 16 * d) (div-one t ∙ e ∙ omega arith) ha in
-    let x = low-4 (t / 4) b (c + 4 * d) (above-2 t a (b + 4 * c + 16 * d) (e ∙ omega arith) ha ∙ omega arith) hb in
-    let y = low-4 (t / 16) c d (above-4 t (a + 4 * b) (c + 4 * d) (e ∙ omega arith) (omega arith)) hc in
-    let z = low-4 (t / 64) d 0 (above-6 t (a + 4 * b + 16 * c) d e (omega arith) ∙ omega arith) hd in
-    sums (t / 1 % 4) (t / 4 % 4) (t / 16 % 4) (t / 64 % 4) a b c d w x y z
+  four-codes : inByte (λ code. code) four-put ≡ a + b + c + d
+  unfolding inByte codeAt
+  four-codes = cc (each-code .0, each-code .1, each-code .2, each-code .3)
 
 module _ (x y z : ℕ) (hx : x < 256) (hy : y < 256) (hz : z < 256) where
   abbrev lows : ℕ → ℕ
@@ -123,7 +110,7 @@ module _ (x y z : ℕ) (hx : x < 256) (hy : y < 256) (hz : z < 256) where
   pub three-low : inByte (λ code. code) (bitAnd x 85 + bitAnd y 85 + bitAnd z 85) ≡ inByte lowBit x + inByte lowBit y + inByte lowBit z
   unfolding inByte
   three-low =
-      four-codes _ (lows 0) (lows 1) (lows 2) (lows 3) three-placed (lows-most 0) (lows-most 1) (lows-most 2) (lows-most 3) ∙ omega arith
+      ap (inByte (λ code. code)) three-placed ∙ four-codes (lows 0) (lows 1) (lows 2) (lows 3) (lows-most 0) (lows-most 1) (lows-most 2) (lows-most 3) ∙ omega arith
 
 -- ---- sums over codes
 total-most : (h code : ℕ → ℕ) → ((x : ℕ) → h x ≤ 1) → (n : ℕ) → total h code n ≤ n
