@@ -1,5 +1,4 @@
 /* freq: the counts of each marker's calls, and the first allele's frequency, as a table of text. */
-#include <inttypes.h>
 #include <stdio.h>
 #include <stdlib.h>
 #include <string.h>
@@ -38,9 +37,23 @@ static void add_field(struct table *t, struct bytes field, const char *absent) {
     add(t, "\t", 1);
 }
 
+/* Writes n in decimal digits from `to` on, and answers where they end. */
+static char *put_number(char *to, uint64_t n) {
+    char digits[20]; /* the last one first */
+    size_t len = 0;
+    do digits[len++] = (char)('0' + n % 10);
+    while (n /= 10);
+    while (len) *to++ = digits[--len];
+    return to;
+}
+
 /* The counts and the frequency, as text in `line`; answers its length. */
 static size_t numbers(char line[128], const uint64_t *n, const char *frequency) {
-    return (size_t)snprintf(line, 128, "%" PRIu64 "\t%" PRIu64 "\t%" PRIu64 "\t%" PRIu64 "\t%s\n", n[2], n[1], n[0], n[3], frequency);
+    static const size_t order[BED_COUNTS_PER_MARKER] = {2, 1, 0, 3};
+    char *to = line;
+    for (size_t i = 0; i < BED_COUNTS_PER_MARKER; i++) to = put_number(to, n[order[i]]), *to++ = '\t';
+    to = stpcpy(to, frequency), *to++ = '\n';
+    return (size_t)(to - line);
 }
 
 static void add_numbers(struct table *t, const uint64_t *n) {
@@ -61,9 +74,9 @@ static size_t lay_out(const struct herd *h, const uint64_t *counts, uint8_t *at,
     add(&t, head, sizeof head - 1);
     for (size_t m = 0; m < h->sid_len; m++) {
         size_t marker = (size_t)h->sids[m];
-        char number[32];
+        char number[32] = "";
         while (h->bim.path && line <= marker) next_fields(&bim, fields), line++;
-        snprintf(number, sizeof number, "%zu", marker);
+        if (!fields[1].len) *put_number(number, marker) = 0;
         add_field(&t, fields[0], "."), add_field(&t, fields[1], number), add_field(&t, fields[4], "."), add_field(&t, fields[5], ".");
         if (counts) add_numbers(&t, counts + m * BED_COUNTS_PER_MARKER);
         else add(&t, longest, longest_len);

@@ -498,6 +498,14 @@ static void counting(void) {
         same_counts(file, 259, iids, 256, iid_index, iids, sid_index, 256, 1024, answer(0, 0, 0));
     }
 
+    /* every number of animals up to seven rows of 16 bytes, in file order: rows, then bytes, then items */
+    for (size_t iids = 1; iids < 460; iids++) {
+        size_t len = 3 + 3 * width_of(iids);
+        for (size_t k = 3; k < len; k++) file[k] = (uint8_t)draw(256);
+        file[2] = 1, list_by(FILE_ORDER, iids, iid_index), list_by(FILE_ORDER, 3, sid_index);
+        same_counts(file, len, iids, 3, iid_index, iids, sid_index, 3, 12, answer(0, 0, 0));
+    }
+
     /* many animals: all of one code, and of any */
     for (int mode = 0; mode < 2; mode++)
         for (int code = 0; code < 5; code++)

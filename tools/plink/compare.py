@@ -1,12 +1,12 @@
 """The command beside PLINK: canonical files, the animals and markers that lists of names choose, and the counts of calls, on drawn prefixes of
 both modes whose pads are any bits; or the times of whole programs. Exit 1 if anything differs.
 
-    compare.py MUNGKELAS [times] [files=300] [seed=1] [plink1=plink1.9] [plink2=plink2] [animals=10000] [markers=50000] [repetitions=5]
+    compare.py MUNGKELAS [times] [files=300] [seed=1] [plink1=plink1.9] [plink2=plink2] [animals=10000] [markers=50000] [repetitions=5] [only=]
 """
 import os, random, shutil, subprocess, sys, tempfile, time
 
 ours = os.path.abspath(sys.argv[1])
-words = dict(files="300", seed="1", plink1="plink1.9", plink2="plink2", animals="10000", markers="50000", repetitions="5")
+words = dict(files="300", seed="1", plink1="plink1.9", plink2="plink2", animals="10000", markers="50000", repetitions="5", only="")
 timed = "times" in sys.argv[2:]
 words.update(word.split("=", 1) for word in sys.argv[2:] if word != "times")
 programs = [(version, shutil.which(words[version])) for version in ("plink1", "plink2")]
@@ -176,6 +176,8 @@ def times():
             ("standardise", ["standardise", "-o", "ours.npy"], None, None),
             ("freq (freqx, geno-counts)", ["freq", "-o", "ours.freq"], ["--freqx"], ["--geno-counts"]),
             ("canonical (make-bed)", ["canonical", "-o", "ours.bed"], ["--make-bed"], ["--make-bed"])):
+        if not name.startswith(words["only"]):
+            continue
         theirs = {"plink1": plink1 and plink1 + ["--keep-allele-order", "--allow-no-sex"], "plink2": plink2 and plink2 + ["--threads", "1"]}
         lines = [("ours", [ours, *command, "drawn", "--threads", "1", "--quiet"])]
         lines += [(v, [p, "--bfile", "drawn", "--out", "theirs", *theirs[v]]) for v, p in programs if p and theirs[v]]

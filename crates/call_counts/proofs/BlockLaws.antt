@@ -20,23 +20,23 @@ use Rattle.calls.specs.Places.{Shaped, isBlock, partByte, inWord}
 use Rattle.calls.proofs.CallLaws.{call-at, byte-inside}
 use Rattle.calls.proofs.PlaceLaws.{sid-byte}
 use Rattle.call_counts.specs.Counts.{codeNamed}
-use Rattle.call_counts.specs.Private.{InOrder, weight, tally, byteTally, byteTallies, tallyItems, tallyNamed}
-use Rattle.call_counts.proofs.TallyLaws.{weight-most, tally-most, tally-ext}
+use Rattle.call_counts.specs.Private.{InOrder, total, totalItems, inByte, weight, byteTallies, tallyItems, tallyNamed}
+use Rattle.call_counts.proofs.TallyLaws.{tally-most, total-ext}
 
 -- ---- four items at a time
 four-more :
-    (code : ℕ → ℕ) (n : ℕ)
-    → tally code (4 * (n + 1)) ≡ tally code (4 * n) + weight (code (4 * n)) + weight (code (4 * n + 1)) + weight (code (4 * n + 2)) + weight (code (4 * n + 3))
-unfolding tally
-four-more code n =
+    (h code : ℕ → ℕ) (n : ℕ)
+    → total h code (4 * (n + 1)) ≡ total h code (4 * n) + h (code (4 * n)) + h (code (4 * n + 1)) + h (code (4 * n + 2)) + h (code (4 * n + 3))
+unfolding total
+four-more h code n =
     let e : 4 * (n + 1) ≡ suc (suc (suc (suc (4 * n)))) = omega arith in
     let b : suc (4 * n) ≡ 4 * n + 1 = omega arith in
     let c : suc (suc (4 * n)) ≡ 4 * n + 2 = omega arith in
     let d : suc (suc (suc (4 * n))) ≡ 4 * n + 3 = omega arith in
-    let u = ap (λ (k : ℕ). weight (code k)) b in
-    let v = ap (λ (k : ℕ). weight (code k)) c in
-    let w = ap (λ (k : ℕ). weight (code k)) d in
-    ap (tally code) e ∙ omega (arith, u, v, w)
+    let u = ap (λ (k : ℕ). h (code k)) b in
+    let v = ap (λ (k : ℕ). h (code k)) c in
+    let w = ap (λ (k : ℕ). h (code k)) d in
+    ap (total h code) e ∙ omega (arith, u, v, w)
 
 module _ (file : List ℕ) (start : ℕ) where
   -- item 4b + p stands at place p of byte b
@@ -46,34 +46,32 @@ module _ (file : List ℕ) (start : ℕ) where
       let y : k % 4 ≡ p = omega arith in
       ap (λ (z : ℕ). codeAt (getD file (start + z) 0) (k % 4)) x ∙ ap (codeAt (getD file (start + b) 0)) y
 
-  -- the byte b, by the table
+  -- byte b
+  pub byte-more : (h : ℕ → ℕ) (b byte : ℕ) → byte ≡ getD file (start + b) 0 → totalItems h file start (4 * (b + 1)) ≡ totalItems h file start (4 * b) + inByte h byte
+  unfolding inByte
+  byte-more h b byte e =
+      let w0 = ap h (item-at b 0 (4 * b) (omega arith) (omega arith) ∙ ap (λ (x : ℕ). codeAt x 0) (sym e)) in
+      let w1 = ap h (item-at b 1 (4 * b + 1) (omega arith) (omega arith) ∙ ap (λ (x : ℕ). codeAt x 1) (sym e)) in
+      let w2 = ap h (item-at b 2 (4 * b + 2) (omega arith) (omega arith) ∙ ap (λ (x : ℕ). codeAt x 2) (sym e)) in
+      let w3 = ap h (item-at b 3 (4 * b + 3) (omega arith) (omega arith) ∙ ap (λ (x : ℕ). codeAt x 3) (sym e)) in
+      let f = four-more h (λ i. codeAt (getD file (start + i / 4) 0) (i % 4)) b in
+      omega (arith, f, w0, w1, w2, w3)
+
+  -- by the table
   module _ (b byte sum : ℕ) (table : List ℕ) (t : table ≡ byteTallies) (eb : byte ≡ getD file (start + b) 0) (h : byte < 256)
       (e : sum ≡ tallyItems file start (4 * b)) where
-    there : getD table byte 0 ≡ byteTally byte
-    unfolding byteTallies
-    there = ap (λ (l : List ℕ). getD l byte 0) t ∙ getD-tabulate 256 byteTally byte 0 h
-
     pub block-more : sum + getD table byte 0 ≡ tallyItems file start (4 * (b + 1))
-    unfolding byteTally
+    unfolding byteTallies
     block-more =
-        let w0 = ap weight (item-at b 0 (4 * b) (omega arith) (omega arith) ∙ ap (λ (x : ℕ). codeAt x 0) (sym eb)) in
-        let w1 = ap weight (item-at b 1 (4 * b + 1) (omega arith) (omega arith) ∙ ap (λ (x : ℕ). codeAt x 1) (sym eb)) in
-        let w2 = ap weight (item-at b 2 (4 * b + 2) (omega arith) (omega arith) ∙ ap (λ (x : ℕ). codeAt x 2) (sym eb)) in
-        let w3 = ap weight (item-at b 3 (4 * b + 3) (omega arith) (omega arith) ∙ ap (λ (x : ℕ). codeAt x 3) (sym eb)) in
-        let f = four-more (λ i. codeAt (getD file (start + i / 4) 0) (i % 4)) b in
-        let g = there in
-        omega (arith, e, f, g, w0, w1, w2, w3)
+        let there = ap (λ (l : List ℕ). getD l byte 0) t ∙ getD-tabulate 256 (inByte weight) byte 0 h in
+        let f = byte-more weight b byte eb in
+        omega (arith, e, f, there)
 
     pub block-room : 4 * b + 4 < 65536 → sum + getD table byte 0 < 2 ^ 64
-    unfolding byteTally
     block-room l =
-        let m = tally-most (λ i. codeAt (getD file (start + i / 4) 0) (i % 4)) (4 * b) in
-        let w0 = weight-most (codeAt byte 0) in
-        let w1 = weight-most (codeAt byte 1) in
-        let w2 = weight-most (codeAt byte 2) in
-        let w3 = weight-most (codeAt byte 3) in
-        let g = there in
-        omega (arith, e, m, g, w0, w1, w2, w3)
+        let m = tally-most (λ i. codeAt (getD file (start + i / 4) 0) (i % 4)) (4 * (b + 1)) in
+        let g = block-more in
+        omega (arith, m, g)
 
 -- ---- entries in file order, in mode 1: n of them from `from` on are items of the marker's block
 module _ (file : List ℕ) (shape : Shape) (sh : Shaped file shape) (il : List ℤ) (gi : firstBad (shape .iids) il ≡ none) (mode : shape .mode1 ≡ true)
@@ -107,7 +105,7 @@ module _ (file : List ℕ) (shape : Shape) (sh : Shaped file shape) (il : List �
       ∙ ap (codeAt (getD file (start + from / 4 + i / 4) 0)) q
 
   pub block-tally : (r : ℕ) → r ≡ tallyItems file (start + from / 4) n → r ≡ tallyNamed file (shape .iids) (shape .sids) il m from n
-  block-tally r e = e ∙ sym (tally-ext _ _ n named-item)
+  block-tally r e = e ∙ sym (total-ext weight _ _ n named-item)
 
   -- and stand in the file
   pub block-inside : n ≤ 4 * (length file - (start + from / 4))

@@ -1,6 +1,7 @@
 pub mod CheckLaws
 pub mod TallyLaws
 pub mod BlockLaws
+pub mod BitLaws
 pub mod PartLaws
 pub mod CountLaws
 pub mod Theorems

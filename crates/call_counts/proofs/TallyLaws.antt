@@ -12,7 +12,7 @@ use Rattle.answer.specs.Lists.{howMany}
 use Rattle.answer.proofs.Tests.{by-lt}
 use Rattle.codes.specs.Code.{copies, codeAt}
 use Rattle.call_counts.specs.Counts.{sameCopies, counted}
-use Rattle.call_counts.specs.Private.{weight, codeWeights, tally, inTally, Added}
+use Rattle.call_counts.specs.Private.{total, weight, codeWeights, tally, inTally, Added}
 
 -- ---- the weight of the code at a place of a byte, as the code tells it
 four-weights : (code : ℕ) → code < 4 → getD codeWeights code 0 ≡ weight code
@@ -67,7 +67,7 @@ weight-hits (suc (suc (suc n))) = refl
 tally-counts :
     (code : ℕ → ℕ) (n : ℕ)
     → tally code n ≡ valued code 0 n + 65536 * valued code 1 n + 4294967296 * valued code 2 n + 281474976710656 * valued code 3 n
-unfolding tally howMany
+unfolding total howMany
 tally-counts code zero = refl
 tally-counts code (suc n) = let r = tally-counts code n in let w = weight-hits (code n) in omega arith
 
@@ -120,24 +120,24 @@ weight-most (suc (suc zero)) = omega arith
 weight-most (suc (suc (suc n))) = omega arith
 
 pub tally-most : (code : ℕ → ℕ) (n : ℕ) → tally code n ≤ n * 281474976710656
-unfolding tally
+unfolding total
 tally-most code zero = omega arith
 tally-most code (suc n) = let r = tally-most code n in let w = weight-most (code n) in omega arith
 
 pub tally-room : (code : ℕ → ℕ) (n sum w x : ℕ) → n < 65535 → sum ≡ tally code n → w ≡ weight x → sum + w < 2 ^ 64
 tally-room code n sum w x h e f = let r = tally-most code n in let m = weight-most x in omega arith
 
-pub tally-ext : (f g : ℕ → ℕ) (n : ℕ) → ((k : ℕ) → k < n → f k ≡ g k) → tally f n ≡ tally g n
-unfolding tally
-tally-ext f g zero e = refl
-tally-ext f g (suc n) e = ap (λ (x : ℕ). x + weight (f n)) (tally-ext f g n (λ k h. e k (omega arith))) ∙ ap (λ (x : ℕ). tally g n + weight x) (e n (omega arith))
+pub total-ext : (h f g : ℕ → ℕ) (n : ℕ) → ((k : ℕ) → k < n → f k ≡ g k) → total h f n ≡ total h g n
+unfolding total
+total-ext h f g zero e = refl
+total-ext h f g (suc n) e = ap (λ (x : ℕ). x + h (f n)) (total-ext h f g n (λ k l. e k (omega arith))) ∙ ap (λ (x : ℕ). total h g n + h x) (e n (omega arith))
 
 pub tally-none : (code : ℕ → ℕ) → 0 ≡ tally code 0
-unfolding tally
+unfolding total
 tally-none code = refl
 
 pub tally-more : (code : ℕ → ℕ) (n sum w x : ℕ) → sum ≡ tally code n → w ≡ weight x → x ≡ code n → sum + w ≡ tally code (n + 1)
-unfolding tally
+unfolding total
 tally-more code n sum w x e f g =
     ap (λ (s : ℕ). s + w) e ∙ ap (λ (v : ℕ). tally code n + v) (f ∙ ap weight g) ∙ sym (ap (tally code) (add-one n))
 

@@ -3,7 +3,7 @@ use mathlib.Core.Path.{_≡_}
 use mathlib.Core.Bool.{true}
 use mathlib.Core.List.{List, [], _∷_}
 use mathlib.Core.Option.{none}
-use Prim.Native.Nat.{ℕ, zero, suc, _+_, _/_, _%_, _<_, _≤_}
+use Prim.Native.Nat.{ℕ, zero, suc, _+_, _*_, _/_, _%_, _<_, _≤_}
 use lib.IntN.{ℤ, pos}
 use lib.ListN.{length, getD}
 use Rattle.answer.specs.Lists.{tabulate, howMany}
@@ -42,6 +42,20 @@ pub record Inside (file : List ℕ) (part : Part) (bytes places : List ℕ) (n :
   pub byte-in : (k : ℕ) → k < n → part .byte + getD bytes k 0 < length file
   pub place-in : (k : ℕ) → k < n → part .place + getD places k 0 < 4
 
+-- ---- a number of each code, added up
+-- the sum of h over n codes
+unfoldable pub total : (ℕ → ℕ) → (ℕ → ℕ) → ℕ → ℕ
+total h code zero = 0
+total h code (suc n) = total h code n + h (code n)
+
+-- over n items of the block that starts at a byte
+abbrev pub totalItems : (ℕ → ℕ) → List ℕ → ℕ → ℕ → ℕ
+totalItems h file start n = total h (λ i. codeAt (getD file (start + i / 4) 0) (i % 4)) n
+
+-- over the four codes of a byte
+unfoldable pub inByte : (ℕ → ℕ) → ℕ → ℕ
+inByte h byte = h (codeAt byte 0) + h (codeAt byte 1) + h (codeAt byte 2) + h (codeAt byte 3)
+
 -- ---- tallies: the four counts of up to 65,535 codes in one number, 16 bits each, in the order of a marker's places
 -- the weight of a code
 unfoldable pub weight : ℕ → ℕ
@@ -51,9 +65,8 @@ weight (suc (suc zero)) = 65536
 weight (suc (suc (suc n))) = 1
 
 -- the tally of n codes: the sum of their weights
-unfoldable pub tally : (ℕ → ℕ) → ℕ → ℕ
-tally code zero = 0
-tally code (suc n) = tally code n + weight (code n)
+abbrev pub tally : (ℕ → ℕ) → ℕ → ℕ
+tally = total weight
 
 -- the tally of n entries of the animal list, from `from` on, at marker m
 abbrev pub tallyNamed : List ℕ → ℕ → ℕ → List ℤ → ℕ → ℕ → ℕ → ℕ
@@ -69,14 +82,41 @@ tallyParts file part bytes places n = tally (λ k. codeAt (getD file (part .byte
 
 -- the tally of n items of the block that starts at a byte
 abbrev pub tallyItems : List ℕ → ℕ → ℕ → ℕ
-tallyItems file start n = tally (λ i. codeAt (getD file (start + i / 4) 0) (i % 4)) n
+tallyItems = totalItems weight
 
--- the tally of the four codes of a byte, and the table of those of every byte
-unfoldable pub byteTally : ℕ → ℕ
-byteTally byte = weight (codeAt byte 0) + weight (codeAt byte 1) + weight (codeAt byte 2) + weight (codeAt byte 3)
-
+-- the table of the tallies of every byte
 unfoldable pub byteTallies : List ℕ
-byteTallies = tabulate 256 byteTally
+byteTallies = tabulate 256 (inByte weight)
+
+-- ---- the two bits of a code
+-- the low one, the high one, and whether both are 1
+unfoldable pub lowBit : ℕ → ℕ
+lowBit zero = 0
+lowBit (suc zero) = 1
+lowBit (suc (suc zero)) = 0
+lowBit (suc (suc (suc n))) = 1
+
+unfoldable pub highBit : ℕ → ℕ
+highBit zero = 0
+highBit (suc zero) = 0
+highBit (suc (suc n)) = 1
+
+unfoldable pub bothBits : ℕ → ℕ
+bothBits zero = 0
+bothBits (suc zero) = 0
+bothBits (suc (suc zero)) = 0
+bothBits (suc (suc (suc n))) = 1
+
+-- how many of n items of the block that starts at a byte have each
+pub record BitsCounted (file : List ℕ) (start n low high both : ℕ) : Type 0 where
+  pub low-is : low ≡ totalItems lowBit file start n
+  pub high-is : high ≡ totalItems highBit file start n
+  pub both-is : both ≡ totalItems bothBits file start n
+
+-- t is the tally of n codes of which so many have each: code 1 has the low bit alone, code 2 the high one alone, code 3 both, code 0 neither
+abbrev pub TallyOf : ℕ → ℕ → ℕ → ℕ → ℕ → Type 0
+TallyOf n low high both t =
+    t + weight 0 * (low + high) + (weight 1 + weight 2) * both ≡ weight 0 * (n + both) + weight 1 * low + weight 2 * high + weight 3 * both
 
 -- count j of a tally
 unfoldable pub inTally : ℕ → ℕ → ℕ

@@ -7,6 +7,7 @@ ghost use Rattle.call_counts.specs.Counts.{CountsCalls};
 ghost use Rattle.call_counts.specs.Private.{Ready, InOrder, Along, EntryParts, codeWeights, byteTallies, countAt, CountedTo};
 ghost use Rattle.bed_read.specs.Says.{readSays};
 
+mod bits;
 mod checks;
 mod table;
 mod tallies;

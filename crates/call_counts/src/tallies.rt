@@ -5,6 +5,7 @@ ghost use Prim.Native.Nat.{ℕ, _+_, _-_, _*_, _^_, _<_, _≤_};
 ghost use lib.ListN.{length, getD};
 ghost use Rattle.codes.specs.Code.{codeAt};
 ghost use Rattle.call_counts.specs.Private.{Inside, weight, codeWeights, byteTallies, tallyItems, tallyParts, inTally, Added};
+use crate::bits;
 use calls::Part;
 
 fn wide(byte: u8) -> usize
@@ -29,14 +30,15 @@ fn weight_at(file: &[u8], byte: usize, place: usize, weights: &[u64; 4]) -> u64
     weights[code]
 }
 
-// The tally of the first n items of the block that starts at a byte: byte by byte, then the items of the last one; pads are not counted.
+// The tally of the first n items of the block that starts at a byte: by rows of 16 bytes, then byte by byte, then the items of the last one; pads are not counted.
 fn tally_block(file: &[u8], start: usize, n: usize, table: &[u64; 256], weights: &[u64; 4]) -> u64
     requires { ⌜ (n ≤ 4 * (length (now file) - start)) × (n < 65536) × (now table ≡ byteTallies) × (now weights ≡ codeWeights) ⌝ }
     ensures { λ r. ⌜ r ≡ tallyItems (now (file .entry)) start n ⌝ }
 {
     let whole = n / 4;
-    let mut sum: u64 = 0;
-    let mut b = 0;
+    let rows = whole / 16;
+    let mut sum = bits::tally_rows(file, start, rows);
+    let mut b = 16 * rows;
     while b < whole {
         let byte = wide(file[start + b]);
         sum = sum + table[byte];

@@ -2,12 +2,12 @@
 use mathlib.Core.Path.{refl}
 use Rattle.answer.specs.Lists.{tabulate}
 use Rattle.codes.specs.Code.{codeAt}
-use Rattle.call_counts.specs.Private.{weight, byteTally, byteTallies}
+use Rattle.call_counts.specs.Private.{inByte, weight, byteTallies}
 use Rattle.call_counts.proofs.table.byte_tallies.Statement.{statement}
 use Rattle.call_counts.proofs.table.byte_tallies.Tie as tie
 
 returns : tie.Need-returns
-unfolding byteTallies byteTally weight codeAt tabulate
+unfolding byteTallies inByte weight codeAt tabulate
 returns c = refl
 
 pub byte-tallies-spec : {M : Type 1} → statement M
