@@ -9,6 +9,7 @@ use lib.ListN.{getD}
 use Rattle.answer.specs.Lists.{tabulate}
 use Rattle.answer.proofs.Tabulate.{getD-tabulate}
 use Rattle.codes.specs.Code.{codeAt}
+use Rattle.codes.proofs.CodeLaws.{place-code}
 use Rattle.call_counts.specs.Private.{total, totalItems, inByte, weight, tally, tallyItems, lowBit, highBit, bothBits, BitsCounted, TallyOf}
 use Rattle.call_counts.proofs.TallyLaws.{total-ext}
 use Rattle.call_counts.proofs.BlockLaws.{byte-more}
@@ -87,12 +88,9 @@ module _ (a b c d : ℕ) (ha : a < 4) (hb : b < 4) (hc : c < 4) (hd : d < 4) whe
   abbrev four-put : ℕ
   four-put = a + 4 * b + 16 * c + 64 * d
 
-  each-code : (four-put / 1 % 4 ≡ a) × (four-put / 4 % 4 ≡ b) × (four-put / 16 % 4 ≡ c) × (four-put / 64 % 4 ≡ d)
-  each-code = (omega arith, omega arith, omega arith, omega arith)
-
   four-codes : inByte (λ code. code) four-put ≡ a + b + c + d
-  unfolding inByte codeAt
-  four-codes = cc (each-code .0, each-code .1, each-code .2, each-code .3)
+  unfolding inByte
+  four-codes = let p = place-code a b c d ha hb hc hd in cc (p .0, p .1, p .2, p .3)
 
 module _ (x y z : ℕ) (hx : x < 256) (hy : y < 256) (hz : z < 256) where
   abbrev lows : ℕ → ℕ

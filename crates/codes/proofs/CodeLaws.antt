@@ -36,7 +36,7 @@ unfolding itemCode
 item-below block i = code-below (getD block (i / 4) 0) (i % 4)
 
 -- the code at a place of four codes put together
-place-code :
+pub place-code :
     (c0 c1 c2 c3 : ℕ) → c0 < 4 → c1 < 4 → c2 < 4 → c3 < 4
     → (codeAt (c0 + 4 * c1 + 16 * c2 + 64 * c3) 0 ≡ c0)
     × (codeAt (c0 + 4 * c1 + 16 * c2 + 64 * c3) 1 ≡ c1)

@@ -25,3 +25,4 @@ pub mod Examples
 pub mod Sides
 pub mod ObservedExamples
 pub mod Never14Examples
+pub mod Composed

@@ -5,3 +5,4 @@ pub mod Alike
 pub mod SmallHerds
 pub mod PlinkFile
 pub mod ReadBack
+pub mod Composed
