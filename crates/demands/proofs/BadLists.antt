@@ -11,7 +11,7 @@ use lib.Dec.{eqb}
 use lib.IntN.{ℤ, pos}
 use lib.ListN.{length, getD}
 use lib.Ieee.{Float, Format}
-use Rattle.answer.specs.Answer.{Answer, done, refused, check, checkEntry, isDone, ifDone}
+use Rattle.answer.specs.Answer.{Answer, done, refused, checkEntry, isDone, ifDone}
 use Rattle.entries.specs.Entry.{isGood, firstBad}
 use Rattle.answer.proofs.AnswerLaws.{check-passes, entry-passes, entry-refuses, number, check-other, count-other, entry-other}
 use Rattle.bed_read.specs.Reading.{checkLists, readAnswer}

@@ -4,7 +4,7 @@ use mathlib.Core.Bool.{Bool, true, false}
 use lib.Dec.{lit≤}
 use lib.IntN.{pos}
 use lib.Ieee.{fin, binary64, add, mul, le, isNan}
-use Rattle.answer.specs.Answer.{isDone, GivesNo}
+use Rattle.answer.specs.Answer.{GivesNo}
 use Rattle.answer.specs.Lists.{tabulate}
 use Rattle.answer.specs.Matrix.{matrixPlace, matrix}
 use Rattle.blocks.specs.Block.{blockWidth}
