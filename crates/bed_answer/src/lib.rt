@@ -1,4 +1,6 @@
 // What a call of the C interface answers, as document 01's number with its values: from each answer of the core.
+#![tactic(auto)]
+
 ghost use Rattle.std.specs.Prelude.{◌≡◌, pos};
 ghost use Rattle.blocks.specs.Says.{div_says};
 ghost use Rattle.entries.specs.Says.{span_says};
@@ -26,7 +28,7 @@ use standardise::StandardiseAnswer;
 
 // What every call answers: document 01's number, or 0, and what goes with it, or 0.
 #[repr(C)]
-#[derive(Drop)]
+#[derive(Clone, Copy)]
 pub struct BedAnswer {
     pub number: u64,
     pub first: i64,

@@ -1,4 +1,6 @@
 // Header and length.
+#![tactic(auto)]
+
 ghost use Rattle.std.specs.Prelude.{◌≡◌};
 ghost use Rattle.bed_file.specs.File.{open_answer, length_answer, accept_answer};
 ghost use Rattle.bed_file.specs.Says.{open_says, fault_number, accept_says};
@@ -6,7 +8,7 @@ ghost use Rattle.bed_file.specs.Says.{open_says, fault_number, accept_says};
 use blocks::DivAnswer;
 
 // Byte 2, or 1, or 2.
-#[derive(Drop)]
+#[derive(Clone, Copy)]
 pub enum OpenAnswer {
     Mode(u8),
     ReadError,
@@ -29,7 +31,7 @@ pub fn open_and_check(file: &[u8]) -> OpenAnswer
 }
 
 // What a file is refused by, for two counts: 18, 1, 2, 3, 4.
-#[derive(Drop)]
+#[derive(Clone, Copy)]
 pub enum FileFault {
     CountTooLarge,
     ReadError,
@@ -51,7 +53,7 @@ pub fn fault_number(fault: FileFault) -> u64
     }
 }
 
-#[derive(Drop)]
+#[derive(Clone, Copy)]
 pub enum AcceptAnswer {
     Accepted,
     Refused(FileFault),

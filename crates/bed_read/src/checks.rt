@@ -7,7 +7,7 @@ ghost use Rattle.bed_read.specs.Says.{read_says};
 use bed_file::{AcceptAnswer, FileFault};
 use entries::FirstBad;
 
-#[derive(Drop)]
+#[derive(Clone, Copy)]
 pub enum ReadAnswer {
     Done,
     IndexMismatch,

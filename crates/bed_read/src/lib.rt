@@ -1,4 +1,6 @@
 // Reading a .bed file from lent bytes into a lent matrix.
+#![tactic(auto)]
+
 ghost use Rattle.std.specs.Prelude.{◌≡◌, ◌<◌};
 
 mod checks;

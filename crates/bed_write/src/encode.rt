@@ -4,7 +4,7 @@ pub mod encode_i8;
 
 use entries::IidIndex;
 
-#[derive(Drop)]
+#[derive(Clone, Copy)]
 pub enum EncodeAnswer {
     Done,
     EncodingLength,

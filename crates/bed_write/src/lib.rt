@@ -1,4 +1,6 @@
 // Packing values into blocks, and writing a .bed file into lent bytes.
+#![tactic(auto)]
+
 mod encode;
 mod group;
 mod matrix;

@@ -5,7 +5,7 @@ pub(crate) mod search_i8;
 use entries::{IidIndex, SidIndex};
 
 // The animal and the marker that are found, if any.
-#[derive(Drop)]
+#[derive(Clone, Copy)]
 pub enum BadCall {
     At(IidIndex, SidIndex),
     Nothing,

@@ -10,7 +10,7 @@ pub mod write_i8;
 use blocks::DivAnswer;
 use entries::{IidIndex, SidIndex};
 
-#[derive(Drop)]
+#[derive(Clone, Copy)]
 pub enum WriteAnswer {
     Done,
     CountTooLarge,

@@ -11,7 +11,7 @@ ghost use Rattle.block.specs.Says.{code_says, decode_says};
 
 use entries::IidIndex;
 
-#[derive(Drop)]
+#[derive(Clone, Copy)]
 pub enum CodeAnswer {
     Code(u8),
     CountTooLarge,
@@ -19,7 +19,7 @@ pub enum CodeAnswer {
     IidIndexTooBig(IidIndex),
 }
 
-#[derive(Drop)]
+#[derive(Clone, Copy)]
 pub enum DecodeAnswer {
     Done,
     CountTooLarge,

@@ -1,5 +1,7 @@
 // One marker's block: its bytes together with its animal count. Each method takes the block apart and calls a function with plain parameters,
 // which does the work.
+#![tactic(auto)]
+
 ghost use Rattle.std.specs.Prelude.{◌≡◌, length};
 ghost use Rattle.codes.specs.Value.{i8, float};
 ghost use Rattle.block.specs.Blocks.{code_answer, Decodes, Packs};
@@ -13,7 +15,7 @@ use entries::IidIndex;
 pub use pack::PackAnswer;
 
 // A block to be decoded.
-#[derive(Drop)]
+#[derive(Clone, Copy)]
 pub struct MarkerBlock<'a> {
     pub bytes: &'a [u8],
     pub iid_count: usize,

@@ -6,7 +6,7 @@ ghost use Rattle.block.specs.Says.{pack_says};
 use bed_write::EncodeAnswer;
 use entries::IidIndex;
 
-#[derive(Drop)]
+#[derive(Clone, Copy)]
 pub enum PackAnswer {
     Done,
     CountTooLarge,

@@ -1,10 +1,12 @@
 // Block widths, and products tested in exact arithmetic.
+#![tactic(auto)]
+
 ghost use Rattle.std.specs.Prelude.{◌≡◌, ◌*◌, eqb, leb};
 ghost use Rattle.blocks.specs.Block.{block_width, div_answer};
 ghost use Rattle.blocks.specs.Says.{div_says};
 
 // What `try_div_4` answers: the block width, or 18, or 4.
-#[derive(Drop)]
+#[derive(Clone, Copy)]
 pub enum DivAnswer {
     Width(usize),
     CountTooLarge,

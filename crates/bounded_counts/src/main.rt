@@ -1,5 +1,7 @@
 // Calls whose counts nothing lent backs: each returns at once. A line says where it comes from and what that asks for, then the number of the answer,
 // 0 for done; the file `stdout` beside src/ has them all.
+#![tactic(auto)]
+
 use bed_file::AcceptAnswer;
 use index::{Bound, Index, RangeAny};
 

@@ -3,7 +3,7 @@ ghost use Rattle.std.specs.Prelude.{◌≡◌, ◌+◌, ◌-◌, ◌*◌, ◌<�
 ghost use Rattle.call_counts.specs.Private.{in_byte, low_bit, high_bit, both_bits, BitsCounted, TallyOf, tally_items};
 
 // How many codes have the low bit, the high bit, and both.
-#[derive(Drop)]
+#[derive(Clone, Copy)]
 struct BitCounts {
     low: u64,
     high: u64,

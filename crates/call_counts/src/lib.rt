@@ -1,4 +1,6 @@
 // How many calls of each marker are 0, 1, 2 and missing.
+#![tactic(auto)]
+
 ghost use Rattle.std.specs.Prelude.{◌≡◌, true, false, ℕ, ◌+◌, ◌*◌, ◌%◌, ◌<◌, ◌≤◌, length, get_or};
 ghost use Rattle.call_counts.specs.Counts.{CountsCalls};
 ghost use Rattle.call_counts.specs.Private.{Ready, InOrder, Along, EntryParts, code_weights, byte_tallies, count_at, CountedTo};

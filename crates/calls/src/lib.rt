@@ -1,4 +1,6 @@
 // Where the calls of a file stand.
+#![tactic(auto)]
+
 ghost use Rattle.std.specs.Prelude.{◌≡◌, true, false, ◌+◌, ◌*◌, ◌/◌, ◌%◌, leb, take, drop};
 ghost use Rattle.codes.specs.Code.{item_code};
 ghost use Rattle.bed_file.specs.File.{is_mode1};
@@ -8,7 +10,7 @@ ghost use Rattle.calls.specs.Places.{IsShape, is_block, IsPart};
 use entries::{IidIndex, SidIndex};
 
 // How a file holds its calls: its mode, the width of a block, the counts of animals and markers.
-#[derive(Drop)]
+#[derive(Clone, Copy)]
 pub struct Shape {
     pub mode1: bool,
     pub width: usize,
@@ -17,7 +19,7 @@ pub struct Shape {
 }
 
 // What an animal or a marker adds to where a call stands: to the byte, and to the place in it.
-#[derive(Drop)]
+#[derive(Clone, Copy)]
 pub struct Part {
     pub byte: usize,
     pub place: usize,

@@ -8,7 +8,7 @@ ghost use Rattle.canonical.specs.Says.{canonical_says};
 use bed_file::{AcceptAnswer, FileFault};
 use blocks::DivAnswer;
 
-#[derive(Drop)]
+#[derive(Clone, Copy)]
 pub enum CanonicalAnswer {
     Done,
     Refused(FileFault),

@@ -1,4 +1,6 @@
 // The canonical file.
+#![tactic(auto)]
+
 ghost use Rattle.std.specs.Prelude.{◌≡◌, ◌+◌, ◌*◌, length};
 ghost use Rattle.blocks.specs.Block.{block_width};
 ghost use Rattle.codes.specs.Code.{code_table};

@@ -2,7 +2,7 @@
 ghost use Rattle.std.specs.Prelude.{◌≡◌};
 ghost use Rattle.codes.specs.Code.{group_byte};
 
-#[derive(Drop)]
+#[derive(Clone, Copy)]
 pub struct Group {
     pub c0: u8,
     pub c1: u8,

@@ -1,4 +1,6 @@
 // The code of an item in a byte, four codes as a byte, and the value of a code.
+#![tactic(auto)]
+
 mod group;
 mod table;
 mod values;

@@ -1,4 +1,6 @@
 // Entries of a list: what they mean for a count.
+#![tactic(auto)]
+
 ghost use Rattle.std.specs.Prelude.{◌≡◌, ℕ, min, max, true, List, [], ◌∷◌, ◌++◌, ℤ, nat_lt};
 ghost use Rattle.answer.specs.Answer.{done, check_entry};
 ghost use Rattle.entries.specs.Entry.{is_good, means, first_bad, entry_answer, span_answer};
@@ -6,19 +8,19 @@ ghost use Rattle.entries.specs.Says.{iid_says, sid_says, first_bad_says, span_sa
 ghost use Rattle.entries.specs.Private.{IsSpan};
 
 // An animal's number and a marker's number, never one for the other.
-#[derive(Drop)]
+#[derive(Clone, Copy)]
 pub struct IidIndex(pub usize);
 
-#[derive(Drop)]
+#[derive(Clone, Copy)]
 pub struct SidIndex(pub usize);
 
-#[derive(Drop)]
+#[derive(Clone, Copy)]
 pub enum IidEntry {
     Iid(IidIndex),
     IidIndexTooBig(i64),
 }
 
-#[derive(Drop)]
+#[derive(Clone, Copy)]
 pub enum SidEntry {
     Sid(SidIndex),
     SidIndexTooBig(i64),
@@ -91,7 +93,7 @@ pub fn sid_of(sid_count: usize, entry: i64) -> SidIndex
     SidIndex(number(sid_count, entry))
 }
 
-#[derive(Drop)]
+#[derive(Clone, Copy)]
 pub enum FirstBad {
     Entry(i64),
     Nothing,
@@ -113,7 +115,7 @@ pub fn first_bad(count: usize, list: &[i64]) -> FirstBad
     FirstBad::Nothing
 }
 
-#[derive(Drop)]
+#[derive(Clone, Copy)]
 pub enum SpanAnswer {
     Span(usize, usize),
     CountTooLarge,
@@ -133,7 +135,7 @@ fn larger(a: usize, b: usize) -> usize
 }
 
 // A span so far: of nothing, or its lowest and its highest byte.
-#[derive(Drop)]
+#[derive(Clone, Copy)]
 enum Span {
     Nothing,
     Bytes(usize, usize),

@@ -1,4 +1,6 @@
 // What an index chooses among `count` items, as a list of numbers in a lent buffer.
+#![tactic(auto)]
+
 ghost use Rattle.std.specs.Prelude.{◌≡◌, [], ◌∷◌, length};
 ghost use Rattle.index.specs.Checks.{index_answer, index_buffer};
 ghost use Rattle.index.specs.Says.{list_says};
@@ -12,7 +14,7 @@ pub use range::{Bound, RangeAnswer, RangeAny};
 pub use slice::{SliceEnd, SliceInfo1};
 
 // The kinds of an index. An enum holds no slice: the list of `Vec` and the marks of `VecBool` stand beside it.
-#[derive(Drop)]
+#[derive(Clone, Copy)]
 pub enum Index {
     All,
     One(i64),
@@ -23,7 +25,7 @@ pub enum Index {
 }
 
 // What `Index::to_vec` answers: the list's length, or 18, 8, 9, 10, 11, 12, 19.
-#[derive(Drop)]
+#[derive(Clone, Copy)]
 pub enum ListAnswer {
     Length(usize),
     CountTooLarge,

@@ -9,20 +9,20 @@ ghost use Rattle.index.specs.Private.{Checked};
 use crate::{ListAnswer, slice};
 
 // A bound of a range.
-#[derive(Drop)]
+#[derive(Clone, Copy)]
 pub enum Bound {
     Absent,
     At(usize),
 }
 
-#[derive(Drop)]
+#[derive(Clone, Copy)]
 pub struct RangeAny {
     pub start: Bound,
     pub end: Bound,
 }
 
 // What `RangeAny::to_range` answers: start and end, or 18, or 12.
-#[derive(Drop)]
+#[derive(Clone, Copy)]
 pub enum RangeAnswer {
     Range { start: usize, end: usize },
     CountTooLarge,

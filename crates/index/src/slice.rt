@@ -9,13 +9,13 @@ ghost use Rattle.index.specs.Private.{walk_of, slice_number, steps_below, number
 use crate::ListAnswer;
 
 // The end of a slice.
-#[derive(Drop)]
+#[derive(Clone, Copy)]
 pub enum SliceEnd {
     Absent,
     At(i64),
 }
 
-#[derive(Drop)]
+#[derive(Clone, Copy)]
 pub struct SliceInfo1 {
     pub start: i64,
     pub end: SliceEnd,
@@ -43,7 +43,7 @@ fn from_count(e: i64, count: usize) -> usize
 }
 
 // A slice whose start and end are counted from 0, and the direction of its step.
-#[derive(Drop)]
+#[derive(Clone, Copy)]
 pub(crate) struct RangeNdSlice {
     start: usize,
     end: usize,
@@ -52,7 +52,7 @@ pub(crate) struct RangeNdSlice {
 }
 
 // What `RangeNdSlice::new` makes: a slice, or 9, 10, 11.
-#[derive(Drop)]
+#[derive(Clone, Copy)]
 enum NewSlice {
     Made(RangeNdSlice),
     StepZero,

@@ -1,4 +1,6 @@
 // The C interface. Each call is a thin function over the core's; bed_answer tells what it answers.
+#![tactic(auto)]
+
 mod lists;
 mod numbers;
 mod products;

@@ -5,7 +5,7 @@ ghost use Rattle.product.specs.Piece.{piece_answer, good_piece, enough_bytes};
 ghost use Rattle.product.specs.Says.{piece_says};
 
 // What a product call answers: done, or 18, 20, 15, 1.
-#[derive(Drop)]
+#[derive(Clone, Copy)]
 pub enum PieceAnswer {
     Done,
     CountTooLarge,

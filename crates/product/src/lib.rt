@@ -1,4 +1,6 @@
 // The pieces of A'A and AA', from a matrix of f64 in lent bytes.
+#![tactic(auto)]
+
 ghost use Rattle.std.specs.Prelude.{◌≡◌};
 ghost use Rattle.product.specs.Piece.{ata_answer, ata_leaves, aat_answer, aat_leaves};
 ghost use Rattle.product.specs.Says.{piece_says};

@@ -10,7 +10,7 @@ use bed_read::ReadAnswer;
 use standardise::StandardiseAnswer;
 
 // What the joined call answers; 5 and 6 carry the entry, 13 the place in the marker list.
-#[derive(Drop)]
+#[derive(Clone, Copy)]
 pub enum JoinedAnswer {
     Done,
     IndexMismatch,

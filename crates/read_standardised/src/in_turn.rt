@@ -7,7 +7,7 @@ use bed_read::ReadAnswer;
 use standardise::StandardiseAnswer;
 
 // What the two calls answer.
-#[derive(Drop)]
+#[derive(Clone, Copy)]
 pub struct AnswersInTurn {
     pub reading: ReadAnswer,
     pub standardising: StandardiseAnswer,

@@ -1,4 +1,6 @@
 // Document 01's joined call: reads with missing NaN, computes statistics and applies.
+#![tactic(auto)]
+
 ghost use Rattle.std.specs.Float.{binary64};
 ghost use Rattle.read_standardised.specs.Says.{joined_says};
 ghost use Rattle.read_standardised.specs.Joined.{Joins};

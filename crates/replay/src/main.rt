@@ -1,6 +1,8 @@
 // Replays the stored list of answers, data/answers.txt: a line is a call with its lent buffers, the answer, and the buffers afterwards.
 // tools/differential says how the list was made, and its form. A line that breaks the form, and a call that is not known, differ. A line whose
 // first word is 2 is a control, wrong on purpose: it must differ.
+#![tactic(auto)]
+
 mod calls;
 
 use stored_list::line::Line;

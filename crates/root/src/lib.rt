@@ -1,4 +1,6 @@
 // The root of an f64, worked out from its bits and correctly rounded.
+#![tactic(auto)]
+
 ghost use Rattle.std.specs.Prelude.{◌≡◌, ◌+◌, ◌*◌, ◌≤◌, ◌<◌};
 ghost use Rattle.std.specs.Float.{binary64};
 ghost use Rattle.std.specs.Float.Ieee.{hid, ones, of_bits};
@@ -12,14 +14,14 @@ const LEADING: u64 = 4503599627370496;
 const INFINITY_BITS: u64 = 9218868437227405312;
 
 // A whole number's root, and what the root's square leaves of the number.
-#[derive(Drop)]
+#[derive(Clone, Copy)]
 struct WholeRoot {
     root: u64,
     rest: u64,
 }
 
 // digits * 2 ^ exponent.
-#[derive(Drop)]
+#[derive(Clone, Copy)]
 struct Scaled {
     digits: u64,
     exponent: u64,

@@ -7,7 +7,7 @@ ghost use Rattle.standardise.specs.Says.{standardise_says};
 use statistics::MarkerStats;
 
 // What standardising answers; 13 and 14 carry the marker's place.
-#[derive(Drop)]
+#[derive(Clone, Copy)]
 pub enum StandardiseAnswer {
     Done,
     CountTooLarge,

@@ -1,4 +1,6 @@
 // Standardising the markers of a matrix of f64: `impute_and_zero_mean_snps` with Unit.
+#![tactic(auto)]
+
 ghost use Rattle.std.specs.Float.{binary64};
 ghost use Rattle.standardise.specs.Standardised.{Standardises};
 ghost use Rattle.standardise.specs.Says.{standardise_says};

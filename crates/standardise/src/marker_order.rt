@@ -10,7 +10,7 @@ use crate::{answers, stats_buffer};
 use statistics::{Accumulator, MarkerStats, Stats};
 
 // An accumulator and how many animals it has passed.
-#[derive(Drop)]
+#[derive(Clone, Copy)]
 struct Passed {
     a: Accumulator,
     i: usize,

@@ -1,11 +1,13 @@
 // The statistics of a marker of f64, and a value standardised by them.
+#![tactic(auto)]
+
 ghost use Rattle.std.specs.Prelude.{◌≡◌};
 ghost use Rattle.std.specs.Float.Ieee.{div};
 ghost use Rattle.std.specs.Float.{binary64};
 ghost use Rattle.statistics.specs.Statistics.{one, counted, stats_from, is_infinite, scaled_by};
 
 // Count, sum and sum of squares over a marker's values that are no NaN.
-#[derive(Drop)]
+#[derive(Clone, Copy)]
 pub struct Accumulator {
     pub count: f64,
     pub sum: f64,
@@ -13,14 +15,14 @@ pub struct Accumulator {
 }
 
 // The pair of mean and deviation found for a marker.
-#[derive(Drop)]
+#[derive(Clone, Copy)]
 pub struct Stats {
     pub mean: f64,
     pub deviation: f64,
 }
 
 // What there is for a marker: lent statistics, or those found, with how many values were observed.
-#[derive(Drop)]
+#[derive(Clone, Copy)]
 pub enum MarkerStats {
     Lent(Stats),
     Found(Stats, f64),

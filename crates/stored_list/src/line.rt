@@ -4,7 +4,7 @@ ghost use Rattle.stored_list.specs.Lines.{new_line, broken, digit_of, digit_read
 ghost use Rattle.stored_list.specs.Lines.{closed, closed_words, hashed, line_after, words_after};
 
 // How far a line was read: the sections before, the words of this section, the word so far; whether it is a comment, and whether it breaks the form.
-#[derive(Drop)]
+#[derive(Clone, Copy)]
 pub struct Line {
     pub sections: usize,
     pub count: usize,

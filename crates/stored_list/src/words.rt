@@ -33,7 +33,7 @@ pub fn word(words: &[usize; 715], section: usize, i: usize) -> usize
 }
 
 // The numbers of a call.
-#[derive(Drop)]
+#[derive(Clone, Copy)]
 pub struct Numbers {
     pub a: usize,
     pub b: usize,

@@ -1,6 +1,8 @@
 // The worked examples of document 01 that are not marked P, PLINK's published example, bad entries for a file of mode 0, single codes,
 // and one marker's block.
 // Each line says where it comes from and what that asks for, then what was seen; the file `stdout` beside src/ has them all.
+#![tactic(auto)]
+
 use bed_read::ReadAnswer;
 use bed_write::WriteAnswer;
 use block::{CodeAnswer, DecodeAnswer, PackAnswer};
