@@ -1,0 +1,13 @@
+-- `first_bad`: what is left of the list says what the whole list says.
+use Rattle.std.proofs.Common.{◌≡◌, ◌-◌, ◌≤◌, [], length, drop, ℤ, refl, ap, arith, rules}
+use mathlib.Core.Option.{Option}
+use Rattle.answer.specs.Answer.{done, check_entry}
+use Rattle.entries.specs.Entry.{first_bad}
+use Rattle.entries.proofs.EntryLaws.{bad_here, bad_later, bad_none}
+use Rattle.entries.proofs.first_bad.Given as goal
+
+abbrev pub invariant-loop-i : goal.invariant-loop-i
+invariant-loop-i l = (l.i ≤ length l.list) × (first_bad l.count (drop l.i l.list) ≡ first_bad l.count l.list)
+
+abbrev pub decreases-loop-i : goal.decreases-loop-i
+decreases-loop-i l = length l.list - l.i

@@ -1,0 +1,7 @@
+-- `iid_of` is `means`.
+use Rattle.entries.proofs.EntryLaws.{means_back}
+use Rattle.std.proofs.Common.{rules}
+use Rattle.entries.proofs.iid_of.Goals as goal
+
+pub returns : goal.returns
+returns c = means_back _ _ c.ranges.entry _ c.number.ensures
