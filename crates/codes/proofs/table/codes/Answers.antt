@@ -2,12 +2,8 @@
 use mathlib.Core.Path.{refl}
 use Rattle.answer.specs.Lists.{tabulate}
 use Rattle.codes.specs.Code.{code_at, code_table}
-use Rattle.codes.proofs.table.codes.Statement.{statement}
-use Rattle.codes.proofs.table.codes.Tie as tie
+use Rattle.codes.proofs.table.codes.Goals as goal
 
-returns : tie.Need-returns
+pub returns : goal.returns
 unfolding code_table code_at tabulate
 returns c = refl
-
-pub codes-spec : {M : Type 1} → statement M
-codes-spec = tie.close (tie.spec returns)

@@ -1,0 +1,14 @@
+-- `count_marked`: after i turns n is the number of places marked before i.
+use mathlib.Core.Path.{◌≡◌, refl, sym, ap, ◌∙◌}
+use Prim.Native.Nat.{◌≤◌, ◌-◌}
+use native.Mathlib.Omega.{arith}
+use lib.ListN.{length}
+use Rattle.index.specs.Numbers.{numbers_below}
+use Rattle.index.proofs.MarkLaws.{marked_before, unmarked, one_more, all_marked}
+use Rattle.index.proofs.marks.count_marked.Given as goal
+
+abbrev pub invariant-loop-i : goal.invariant-loop-i
+invariant-loop-i l = (l.i ≤ length l.marks) × (l.n ≤ l.i) × (l.n ≡ length (marked_before l.marks l.i))
+
+abbrev pub decreases-loop-i : goal.decreases-loop-i
+decreases-loop-i l = length l.marks - l.i
