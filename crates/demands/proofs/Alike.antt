@@ -11,11 +11,11 @@ use lib.Ieee.{Float, nan, inf, fin, Format, fits, is_nan, to_bits, of_bits}
 use lib.Ieee.Bits.{of_bits-to_bits}
 use Rattle.demands.specs.Alike.{Alike, AlikeBuffers, OfFormat}
 
-is_nan : (x : Float) → is_nan x ≡ true → x ≡ nan
+is_nan_law : (x : Float) → is_nan x ≡ true → x ≡ nan
 unfolding is_nan
-is_nan nan e = refl
-is_nan (inf s) e = absurd (true≢false (sym e))
-is_nan (fin s m k) e = absurd (true≢false (sym e))
+is_nan_law nan e = refl
+is_nan_law (inf s) e = absurd (true≢false (sym e))
+is_nan_law (fin s m k) e = absurd (true≢false (sym e))
 
 pub same_is_alike : (f : Format) (x y : Float) → x ≡ y → Alike f x y
 same_is_alike f x y e = inl (ap (to_bits f) e)
@@ -25,7 +25,7 @@ alike_is_same f x y fx fy = (go, same_is_alike f x y)
   where
     go : Alike f x y → x ≡ y
     go (inl e) = sym (of_bits-to_bits f x fx) ∙ ap (of_bits f) e ∙ of_bits-to_bits f y fy
-    go (inr (a, b)) = is_nan x a ∙ sym (is_nan y b)
+    go (inr (a, b)) = is_nan_law x a ∙ sym (is_nan_law y b)
 
 -- so are two buffers of values of a format
 pub same_buffers_alike : (f : Format) (xs ys : List Float) → xs ≡ ys → AlikeBuffers f xs ys

@@ -8,7 +8,7 @@ use native.Mathlib.Omega.{arith}
 use mathlib.Core.Logic.{◌⊎◌, inl, inr}
 use lib.Dec.{lit≤, ltb, eqb}
 use lib.IntN.{pos}
-use lib.Ieee.{Float, fin, Format, binary32, binary64, prec, up, down, round, of_int, add, mul, is_nan}
+use lib.Ieee.{Float, nan, inf, fin, Format, binary32, binary64, prec, up, down, round, of_int, add, mul, is_nan}
 use lib.Ieee.Fits.{down_pos}
 use lib.Ieee.Exact.{HasValue}
 use lib.Ieee.Back.{round_whole}
@@ -30,6 +30,10 @@ cross x y p q a b e g =
 
 pub add_values : (f : Format) (x y : Float) (a b : ℕ) → HasValue x false a 1 → HasValue y false b 1 → add f x y ≡ round f false (a + b) 1
 unfolding add
+add_values f nan y a b v w = elim v [ ]
+add_values f (inf _) y a b v w = elim v [ ]
+add_values f (fin false m e) nan a b v w = elim w [ ]
+add_values f (fin false m e) (inf _) a b v w = elim w [ ]
 add_values f (fin true m e) y a b v w = absurd (true≢false v.0)
 add_values f (fin false m e) (fin true n d) a b v w = absurd (true≢false w.0)
 add_values f (fin false m e) (fin false n d) a b v w =

@@ -19,17 +19,17 @@ differs (inf false) = refl
 differs (fin true m e) = rw (eq-eqb (m * up e * down e) (m * up e * down e) refl)
 differs (fin false m e) = rw (eq-eqb (m * up e * down e) (m * up e * down e) refl)
 
-is_nan : (x : Float) {b : Bool} → ne x x ≡ b → is_nan x ≡ b
-is_nan x e = sym (differs x) ∙ e
+is_nan_law : (x : Float) {b : Bool} → ne x x ≡ b → is_nan x ≡ b
+is_nan_law x e = sym (differs x) ∙ e
 
 module _ (f : Format) (a : Accumulator) (v : Float) where
   pub nan_counted : ne v v ≡ true → a ≡ counted f a v
   unfolding counted
-  nan_counted e = let n = is_nan v e in rw n
+  nan_counted e = let n = is_nan_law v e in rw n
 
   pub number_counted : ne v v ≡ false → record { count = add f a.count one; sum = add f a.sum v; squares = add f a.squares (mul f v v) } ≡ counted f a v
   unfolding counted
-  number_counted e = let n = is_nan v e in rw n
+  number_counted e = let n = is_nan_law v e in rw n
 
 -- what an accumulator says, test by test
 module _ (f : Format) (a : Accumulator) where
@@ -40,7 +40,7 @@ module _ (f : Format) (a : Accumulator) where
   module _ (e : lt a.count one ≡ false) where
     pub mean_nan : ne (div f a.sum a.count) (div f a.sum a.count) ≡ true → IllegalSnpMean ≡ stats_from f a
     unfolding stats_from mean
-    mean_nan g = simp (e, is_nan (div f a.sum a.count) g)
+    mean_nan g = simp (e, is_nan_law (div f a.sum a.count) g)
 
     module _
         (g : ne (div f a.sum a.count) (div f a.sum a.count) ≡ false) (d : Float)
@@ -48,17 +48,17 @@ module _ (f : Format) (a : Accumulator) where
       where
         found_is : stats_from f a ≡ Found (record { mean = div f a.sum a.count; deviation = cond (is_nan d || le d plus_zero) (inf false) d }) a.count
         unfolding stats_from mean stats_of deviation variance
-        found_is = simp (e, is_nan (div f a.sum a.count) g, r)
+        found_is = simp (e, is_nan_law (div f a.sum a.count) g, r)
 
         pub deviation_nan : ne d d ≡ true → Found (record { mean = div f a.sum a.count; deviation = inf false }) a.count ≡ stats_from f a
-        deviation_nan h = sym (found_is ∙ simp (is_nan d h))
+        deviation_nan h = sym (found_is ∙ simp (is_nan_law d h))
 
         module _ (h : ne d d ≡ false) where
           pub deviation_low : le d plus_zero ≡ true → Found (record { mean = div f a.sum a.count; deviation = inf false }) a.count ≡ stats_from f a
-          deviation_low k = sym (found_is ∙ simp (is_nan d h, k))
+          deviation_low k = sym (found_is ∙ simp (is_nan_law d h, k))
 
           pub deviation_found : le d plus_zero ≡ false → Found (record { mean = div f a.sum a.count; deviation = d }) a.count ≡ stats_from f a
-          deviation_found k = sym (found_is ∙ simp (is_nan d h, k))
+          deviation_found k = sym (found_is ∙ simp (is_nan_law d h, k))
 
 pub infinity_above : (x : Float) → eq x (inf false) ≡ true → true ≡ is_infinite x
 unfolding eq is_infinite
@@ -85,8 +85,8 @@ module _ (f : Format) (mean factor : Float) (infinite : Bool) (v : Float) where
 
   pub scaled_nan : ne v v ≡ true → plus_zero ≡ scaled_by f mean factor infinite v
   unfolding scaled_by
-  scaled_nan e = simp (is_nan v e)
+  scaled_nan e = simp (is_nan_law v e)
 
   pub scaled_number : infinite ≡ false → ne v v ≡ false → mul f (sub f v mean) factor ≡ scaled_by f mean factor infinite v
   unfolding scaled_by
-  scaled_number i e = simp (i, is_nan v e)
+  scaled_number i e = simp (i, is_nan_law v e)
