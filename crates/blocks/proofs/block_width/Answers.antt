@@ -1,7 +1,6 @@
 -- `block_width` is `block_width`, case by case.
 use mathlib.Core.Path.{sym}
 use Rattle.blocks.proofs.Widths.{width_none, width_some}
-use borrow.Author.Rules.{rules}
 use Rattle.blocks.proofs.block_width.Goals as goal
 
 pub returns-then-count-eq0 : goal.returns-then-count-eq0

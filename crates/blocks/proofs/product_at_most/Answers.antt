@@ -1,7 +1,4 @@
 use Rattle.blocks.proofs.Products.{zero_most, quotient_most}
-use borrow.Author.Rules.{rules}
-use Rattle.blocks.proofs.product_at_most.Reads as reads
-use Rattle.blocks.proofs.product_at_most.Lts as lts
 use Rattle.blocks.proofs.product_at_most.Goals as goal
 
 -- src/lib.rt:53:9

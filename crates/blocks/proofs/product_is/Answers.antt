@@ -1,7 +1,4 @@
 use Rattle.blocks.proofs.Products.{zero_is, uneven_not, even_is}
-use borrow.Author.Rules.{rules}
-use Rattle.blocks.proofs.product_is.Reads as reads
-use Rattle.blocks.proofs.product_is.Lts as lts
 use Rattle.blocks.proofs.product_is.Goals as goal
 
 -- src/lib.rt:40:9

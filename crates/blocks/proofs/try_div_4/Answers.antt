@@ -2,7 +2,6 @@
 use mathlib.Core.Path.{sym}
 use native.Mathlib.Nat.{pos_of_ne-zero}
 use Rattle.blocks.proofs.Widths.{first_too_large, second_too_large, no_width, quotient_below, quotient_enough}
-use borrow.Author.Rules.{rules}
 use Rattle.blocks.proofs.try_div_4.Goals as goal
 
 pub returns-then-in_iid_count-gt-COUNT_LIMIT : goal.returns-then-in_iid_count-gt-COUNT_LIMIT
