@@ -1,5 +1,5 @@
 -- Signed numbers as the machine holds them, over plain numbers.
-use Rattle.std.proofs.Common.{◌≡◌, ℕ, suc, ◌-◌, ◌^◌, ◌<◌, Bool, true, false, T, ℤ, pos, negsuc, ◌-ℤ◌, nat_abs, sym, refl, ap, ◌∙◌, subst, arith, w64, Fits, SFits, to_z, of_z, ltb-true, le-ltb}
+use Rattle.std.proofs.Common.{◌≡◌, ℕ, suc, ◌^◌, ◌<◌, Bool, true, false, T, ℤ, pos, negsuc, ◌-ℤ◌, nat_abs, sym, refl, ap, ◌∙◌, subst, arith, w64, Fits, SFits, to_z, of_z, ltb-true, le-ltb}
 use lib.Signed.{mag, lt_z, non_neg}
 use mir.ValLaws.{to_z-of_z}
 

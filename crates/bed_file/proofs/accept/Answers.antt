@@ -2,7 +2,6 @@
 use mathlib.Core.Path.{sym, ap, ◌∙◌}
 use Rattle.bed_file.specs.Says.{open_says}
 use Rattle.bed_file.proofs.FileLaws.{accept_first, accept_second, accept_not_open, accept_bad_mode, accept_mode_1, accept_mode_0}
-use borrow.Author.Rules.{rules}
 use Rattle.bed_file.proofs.accept.Goals as goal
 
 pub returns-then-iid_count-gt-COUNT_LIMIT : goal.returns-then-iid_count-gt-COUNT_LIMIT

@@ -3,7 +3,6 @@ use mathlib.Core.Path.{sym, ap, ◌∙◌}
 use native.Mathlib.Omega.{arith}
 use Rattle.blocks.specs.Says.{div_says}
 use Rattle.bed_file.proofs.FileLaws.{length_refused, product_fits, length_right, length_wrong}
-use borrow.Author.Rules.{rules}
 use Rattle.bed_file.proofs.check_length.Goals as goal
 
 pub overflow_mul-width : goal.overflow_mul-width

@@ -1,6 +1,5 @@
 -- `open_and_check`: each test is one of the first two checks.
 use Rattle.bed_file.proofs.FileLaws.{opens_short, opens_first, opens_second, opens_good}
-use borrow.Author.Rules.{rules}
 use Rattle.bed_file.proofs.open_and_check.Goals as goal
 
 pub returns-then-file-lt3 : goal.returns-then-file-lt3

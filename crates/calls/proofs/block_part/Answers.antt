@@ -1,7 +1,6 @@
 -- `block_part`: a block's first byte, if 64 bits hold it.
 use Prim.Native.Nat.{◌+◌, ◌*◌, ◌^◌, ◌<◌}
 use native.Mathlib.Omega.{arith}
-use borrow.Author.Rules.{rules}
 use Rattle.calls.proofs.PlaceLaws.{block_fits, block_adds, block_past}
 use Rattle.calls.proofs.block_part.Goals as goal
 use Rattle.calls.proofs.block_part.Goals.{Then-start_fits}

@@ -1,6 +1,5 @@
 -- `call_code`, by the mode.
 use mathlib.Core.Bool.{true, false}
-use borrow.Author.Rules.{rules}
 use Rattle.calls.proofs.CallLaws.{call_found}
 use Rattle.calls.proofs.call_code.Goals as goal
 

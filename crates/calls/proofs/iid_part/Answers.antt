@@ -2,7 +2,6 @@
 use mathlib.Core.Path.{sym, ap}
 use mathlib.Core.Bool.{not}
 use native.Mathlib.Omega.{arith}
-use borrow.Author.Rules.{rules}
 use Rattle.calls.proofs.PlaceLaws.{item_adds, part_of}
 use Rattle.calls.proofs.iid_part.Goals as goal
 

@@ -1,5 +1,4 @@
 -- `is_mode_1`, by byte 2.
-use mathlib.Core.Path.{refl}
 use borrow.Author.Rules.{rules}
 use Rattle.bed_file.specs.File.{is_mode1}
 use Rattle.calls.proofs.PlaceLaws.{mode_short}

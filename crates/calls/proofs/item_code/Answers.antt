@@ -1,7 +1,6 @@
 -- `item_code`: the code at the item's byte, if the block and the file have it.
 use mathlib.Core.Path.{refl, ◌∙◌}
 use native.Mathlib.Omega.{arith}
-use borrow.Author.Rules.{rules}
 use Rattle.calls.proofs.PlaceLaws.{item_found, item_none}
 use Rattle.calls.proofs.item_code.Goals as goal
 

@@ -1,7 +1,6 @@
 -- `shape_of`: the mode by byte 2, the width by the items of that mode.
 use mathlib.Core.Path.{refl, sym, ◌∙◌}
 use mathlib.Core.Bool.{true, false}
-use borrow.Author.Rules.{rules}
 use Rattle.bed_file.specs.File.{items}
 use Rattle.calls.proofs.PlaceLaws.{mode_width}
 use Rattle.calls.proofs.shape_of.Goals as goal

@@ -1,7 +1,6 @@
 -- `sid_part`: a block in mode 1, an item in mode 0.
 use mathlib.Core.Path.{sym}
 use native.Mathlib.Omega.{arith}
-use borrow.Author.Rules.{rules}
 use Rattle.calls.proofs.PlaceLaws.{item_adds, part_of}
 use Rattle.calls.proofs.sid_part.Goals as goal
 

@@ -1,5 +1,4 @@
 -- `start_fits`: of two numbers below 2^32, or by the exact product.
-use borrow.Author.Rules.{rules}
 use Rattle.calls.proofs.PlaceLaws.{small_product}
 use Rattle.calls.proofs.start_fits.Goals as goal
 

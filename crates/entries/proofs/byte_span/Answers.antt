@@ -1,11 +1,11 @@
-use Rattle.std.proofs.Common.{◌≡◌, ℕ, ◌+◌, ◌-◌, ◌<◌, ◌≤◌, List, [], ◌∷◌, length, drop, ℤ, pos, sym, refl, ap, ◌∙◌, arith, rules}
+use Rattle.std.proofs.Common.{◌≡◌, ℕ, ◌+◌, ◌-◌, ◌<◌, ◌≤◌, List, [], ◌∷◌, ℤ, pos, sym, refl, ap, ◌∙◌, arith}
 use mathlib.Core.Option.{none}
 use borrow.Author.Tests.{not-true, not-false}
 use Rattle.answer.specs.Answer.{count_limit}
 use Rattle.entries.specs.Entry.{first_bad}
 use Rattle.entries.specs.Private.{span_numbers, IsSpan}
 use Rattle.entries.proofs.EntryLaws.{bad_here, bad_later, bad_none}
-use Rattle.entries.proofs.SpanLaws.{Walked, walked_none, walked_more, walked_all, bytes_ordered, span_too_large, span_bad, span_good}
+use Rattle.entries.proofs.SpanLaws.{walked_none, walked_more, walked_all, bytes_ordered, span_too_large, span_bad, span_good}
 use Rattle.entries.proofs.byte_span.Goals as goal
 use Rattle.entries.proofs.byte_span.Goals.{After-loop-met, In-Bytes}
 

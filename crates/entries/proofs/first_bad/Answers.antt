@@ -1,7 +1,6 @@
-use Rattle.std.proofs.Common.{◌≡◌, ◌-◌, ◌≤◌, [], length, drop, ℤ, refl, ap, arith, rules}
+use Rattle.std.proofs.Common.{[], ℤ, refl, ap, arith}
 use mathlib.Core.Option.{Option}
 use Rattle.answer.specs.Answer.{done, check_entry}
-use Rattle.entries.specs.Entry.{first_bad}
 use Rattle.entries.proofs.EntryLaws.{bad_here, bad_later, bad_none}
 use Rattle.entries.proofs.first_bad.Goals as goal
 

@@ -1,9 +1,6 @@
 -- `first_bad`: what is left of the list says what the whole list says.
-use Rattle.std.proofs.Common.{◌≡◌, ◌-◌, ◌≤◌, [], length, drop, ℤ, refl, ap, arith, rules}
-use mathlib.Core.Option.{Option}
-use Rattle.answer.specs.Answer.{done, check_entry}
+use Rattle.std.proofs.Common.{◌≡◌, ◌-◌, ◌≤◌, length, drop}
 use Rattle.entries.specs.Entry.{first_bad}
-use Rattle.entries.proofs.EntryLaws.{bad_here, bad_later, bad_none}
 use Rattle.entries.proofs.first_bad.Given as goal
 
 abbrev pub invariant-loop-i : goal.invariant-loop-i

@@ -1,6 +1,5 @@
 -- `iid_index` is `entry_answer`.
 use Rattle.entries.proofs.EntryLaws.{entry_good, entry_bad}
-use Rattle.std.proofs.Common.{rules}
 use Rattle.entries.proofs.iid_index.Goals as goal
 
 pub returns-then-is_good : goal.returns-then-is_good

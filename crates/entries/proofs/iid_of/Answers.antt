@@ -1,6 +1,5 @@
 -- `iid_of` is `means`.
 use Rattle.entries.proofs.EntryLaws.{means_back}
-use Rattle.std.proofs.Common.{rules}
 use Rattle.entries.proofs.iid_of.Goals as goal
 
 pub returns : goal.returns

@@ -1,5 +1,4 @@
 -- `is_good` is `is_good`, by the place.
-use Rattle.std.proofs.Common.{rules}
 use Rattle.entries.proofs.EntryLaws.{tests_good}
 use Rattle.entries.proofs.is_good.Goals as goal
 

@@ -1,5 +1,4 @@
 -- `number` is `means`: a good entry's place; a bad one means 0 from the back, and itself from the front.
-use Rattle.std.proofs.Common.{rules}
 use Rattle.entries.proofs.SignedLaws.{fronted, casts, cast_is}
 use Rattle.entries.proofs.EntryLaws.{number_good, number_none, number_front}
 use Rattle.entries.proofs.number.Goals as goal

@@ -1,5 +1,5 @@
 -- `place`: −1 − e does not wrap, neither cast loses anything, and the difference from the count is the machine's.
-use Rattle.std.proofs.Common.{◌≡◌, ℕ, arith, rules}
+use Rattle.std.proofs.Common.{arith}
 use Rattle.entries.proofs.SignedLaws.{turned, turned_fits, fronted, casts, cast_is}
 use Rattle.entries.proofs.EntryLaws.{distance_below, place_back, place_front}
 use Rattle.entries.proofs.place.Goals as goal

@@ -1,5 +1,5 @@
 -- `widened`: the first entry, or one more.
-use Rattle.std.proofs.Common.{◌≡◌, sym, ap, ◌∙◌, rules}
+use Rattle.std.proofs.Common.{sym, ap, ◌∙◌}
 use Rattle.entries.specs.Private.{span_numbers}
 use Rattle.entries.proofs.EntryLaws.{means_back}
 use Rattle.entries.proofs.SpanLaws.{span_first, span_next}

@@ -1,7 +1,6 @@
-use Prim.Native.Nat.{◌-◌}
 use native.Mathlib.Omega.{arith}
 use lib.Ieee.{binary64}
-use Rattle.root.proofs.RoundedLaws.{Lifted, lifted_start, lifted_more, lifted_step, lifted_end, scaled_normal}
+use Rattle.root.proofs.RoundedLaws.{lifted_start, lifted_more, lifted_step, lifted_end, scaled_normal}
 use Rattle.root.proofs.digits_of.Goals as goal
 
 pub overflow_add-all : goal.overflow_add-all

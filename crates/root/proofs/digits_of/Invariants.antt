@@ -1,8 +1,7 @@
 -- `root::digits_of` meets its contract. The loop's invariant is `Lifted` of `RoundedLaws`. The measure is what the digits lack of 2 ^ 53. Assumes nothing.
 use Prim.Native.Nat.{◌-◌}
-use native.Mathlib.Omega.{arith}
 use lib.Ieee.{binary64}
-use Rattle.root.proofs.RoundedLaws.{Lifted, lifted_start, lifted_more, lifted_step, lifted_end, scaled_normal}
+use Rattle.root.proofs.RoundedLaws.{Lifted}
 use Rattle.root.proofs.digits_of.Given as goal
 
 abbrev pub invariant-loop-digits : goal.invariant-loop-digits

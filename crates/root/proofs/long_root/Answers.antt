@@ -1,7 +1,6 @@
 -- `root::long_root` meets its contract: 7, 14, 27 and 54 binary digits of the root, each found from the ones before. Assumes nothing.
 use Prim.Native.Nat.{◌*◌, ◌/◌, ◌%◌, ◌+◌}
 use native.Mathlib.Omega.{arith}
-use borrow.Author.Rules.{rules}
 use Rattle.root.specs.Private.{IsWholeRoot}
 use Rattle.root.proofs.WholeLaws.{root_within, same_number}
 use Rattle.root.proofs.long_root.Goals as goal

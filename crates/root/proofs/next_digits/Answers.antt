@@ -1,5 +1,4 @@
 -- `root::next_digits` meets its contract: the steps fit a u64, and either way out is a law of `WholeLaws`. Assumes nothing.
-use borrow.Author.Rules.{rules}
 use native.Mathlib.Omega.{arith}
 use Rattle.root.proofs.WholeLaws.{Room, room, square_lt, one_less, as_it_is}
 use Rattle.root.proofs.next_digits.Goals as goal

@@ -2,7 +2,6 @@
 use Prim.Native.Nat.{◌*◌, ◌%◌, ◌+◌, ◌≤◌}
 use native.Mathlib.Nat.{mod-lt}
 use native.Mathlib.Omega.{arith}
-use borrow.Author.Rules.{rules}
 use lib.Dec.{lit<}
 use lib.Ieee.{binary64, of_bits}
 use Rattle.root.proofs.PatternLaws.{positive_at}

@@ -1,6 +1,5 @@
-use Prim.Native.Nat.{◌≤◌, ◌*◌, ◌/◌, ◌^◌}
+use Prim.Native.Nat.{◌*◌, ◌^◌}
 use native.Mathlib.Omega.{arith}
-use Rattle.root.specs.Private.{IsWholeRoot}
 use Rattle.root.proofs.WholeLaws.{short_start, short_under, short_turn, short_end}
 use Rattle.root.proofs.short_root.Goals as goal
 

@@ -1,9 +1,7 @@
 -- `root::short_root` meets its contract. The invariant: the root so far is that of the number without its last `left` pairs of binary digits.
 -- The measure is the pairs left. Assumes nothing.
 use Prim.Native.Nat.{◌≤◌, ◌*◌, ◌/◌, ◌^◌}
-use native.Mathlib.Omega.{arith}
 use Rattle.root.specs.Private.{IsWholeRoot}
-use Rattle.root.proofs.WholeLaws.{short_start, short_under, short_turn, short_end}
 use Rattle.root.proofs.short_root.Given as goal
 
 abbrev pub invariant-loop-left : goal.invariant-loop-left

@@ -1,7 +1,6 @@
 -- `find_stats` is `stats_from`, test by test.
 use lib.Ieee.{binary64, of_bits, div}
 use Rattle.statistics.proofs.FloatLaws.{few_none, mean_nan, deviation_nan, deviation_low, deviation_found}
-use borrow.Author.Rules.{rules}
 use Rattle.statistics.proofs.find_stats.Goals as goal
 
 pub returns-then-a : goal.returns-then-a
