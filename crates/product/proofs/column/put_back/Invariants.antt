@@ -1,0 +1,13 @@
+-- `put_back`: the first i values are in their places, and the other places are as they were.
+use mathlib.Core.Path.{◌≡◌, refl}
+use Prim.Native.Nat.{◌-◌, ◌≤◌}
+use native.Mathlib.Omega.{arith}
+use lib.ListN.{length, length-set}
+use Rattle.product.proofs.ColumnLaws.{PutTo, put_none, put_more}
+use Rattle.product.proofs.column.put_back.Given as goal
+
+abbrev pub invariant-loop-i : goal.invariant-loop-i
+invariant-loop-i l = (l.i ≤ length l.src) × (length l.piece ≡ length l.initial.piece) × PutTo l.src l.from l.width l.initial.piece l.piece l.i
+
+abbrev pub decreases-loop-i : goal.decreases-loop-i
+decreases-loop-i l = length l.src - l.i
