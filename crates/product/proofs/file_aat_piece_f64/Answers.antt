@@ -12,20 +12,20 @@ unfolding aat_leaves
 returns-in_default c =
     let a = c.args in
     let q = c.check_piece-answer in
-    leaves_old q.result (aat_answer a.bytes.now a.offset a.row_count a.col_count a.row_start a.height a.width a.piece-1.now) _ a.piece-1.now c.in_default.keys2 (aat_says a.bytes.now a.offset a.row_count a.col_count a.row_start a.height a.width a.piece-1.now (piece_says q.result) q.ensures)
+    leaves_old q.result (aat_answer a.bytes.now a.offset a.row_count a.col_count a.row_start a.height a.width a.piece.now) _ a.piece.now c.in_default.keys2 (aat_says a.bytes.now a.offset a.row_count a.col_count a.row_start a.height a.width a.piece.now (piece_says q.result) q.ensures)
 
 pub lower_piece-requires : goal.lower_piece-requires
 lower_piece-requires c =
     let check-piece = c.check_piece-answer in
     let a = c.args in
-    let k = accepted 0 a.row_count (length a.bytes.now) a.offset a.row_count a.col_count a.row_start a.height a.width (length a.piece-1.now) check-piece.result check-piece.ensures c.in-Done.is in
-    (omega arith, k.narrow, k.size, rows_in (length a.bytes.now) a.offset a.row_count a.col_count a.row_start a.height a.width (length a.piece-1.now) k)
+    let k = accepted 0 a.row_count (length a.bytes.now) a.offset a.row_count a.col_count a.row_start a.height a.width (length a.piece.now) check-piece.result check-piece.ensures c.in-Done.is in
+    (omega arith, k.narrow, k.size, rows_in (length a.bytes.now) a.offset a.row_count a.col_count a.row_start a.height a.width (length a.piece.now) k)
 
 pub returns : goal.returns
 unfolding aat_leaves
 returns c =
     let enum_told = c.enum_told-1 in
     let a = c.args in
-    let k = accepted 0 a.row_count (length a.bytes.now) a.offset a.row_count a.col_count a.row_start a.height a.width (length a.piece-1.now) c.check_piece-answer.result c.check_piece-answer.ensures enum_told.given.1 in
+    let k = accepted 0 a.row_count (length a.bytes.now) a.offset a.row_count a.col_count a.row_start a.height a.width (length a.piece.now) c.check_piece-answer.result c.check_piece-answer.ensures enum_told.given.1 in
     let q = c.check_piece-answer in
-    leaves_new q.result (aat_answer a.bytes.now a.offset a.row_count a.col_count a.row_start a.height a.width a.piece-1.now) c.lower_piece.new.1.1.1.1.1.1.1.1.0 _ a.piece-1.now enum_told.given.1 (aat_says a.bytes.now a.offset a.row_count a.col_count a.row_start a.height a.width a.piece-1.now (piece_says q.result) q.ensures) (aat_piece a.bytes.now a.offset a.row_count a.col_count a.row_start a.height a.width c.lower_piece.new.1.1.1.1.1.1.1.1.0 k.narrow k.ends c.lower_piece.ensures)
+    leaves_new q.result (aat_answer a.bytes.now a.offset a.row_count a.col_count a.row_start a.height a.width a.piece.now) c.lower_piece.new.piece _ a.piece.now enum_told.given.1 (aat_says a.bytes.now a.offset a.row_count a.col_count a.row_start a.height a.width a.piece.now (piece_says q.result) q.ensures) (aat_piece a.bytes.now a.offset a.row_count a.col_count a.row_start a.height a.width c.lower_piece.new.piece k.narrow k.ends c.lower_piece.ensures)

@@ -13,29 +13,29 @@ unfolding ata_leaves
 returns-in_default c =
     let a = c.args in
     let q = c.check_piece-answer in
-    leaves_old q.result (ata_answer a.bytes.now a.offset a.row_count a.col_count a.col_start a.height a.width a.piece-1.now) _ a.piece-1.now c.in_default.keys2 (ata_says a.bytes.now a.offset a.row_count a.col_count a.col_start a.height a.width a.piece-1.now (piece_says q.result) q.ensures)
+    leaves_old q.result (ata_answer a.bytes.now a.offset a.row_count a.col_count a.col_start a.height a.width a.piece.now) _ a.piece.now c.in_default.keys2 (ata_says a.bytes.now a.offset a.row_count a.col_count a.col_start a.height a.width a.piece.now (piece_says q.result) q.ensures)
 
 pub overflow_mul-col_start : goal.overflow_mul-col_start
 overflow_mul-col_start c =
     let a = c.args in
-    let k = accepted 1 a.col_count (length a.bytes.now) a.offset a.row_count a.col_count a.col_start a.height a.width (length a.piece-1.now) c.check_piece-answer.result c.check_piece-answer.ensures c.in-Done.is in
-    omega (arith, first_in (length a.bytes.now) a.offset a.row_count a.col_count a.col_start a.height a.width (length a.piece-1.now) k)
+    let k = accepted 1 a.col_count (length a.bytes.now) a.offset a.row_count a.col_count a.col_start a.height a.width (length a.piece.now) c.check_piece-answer.result c.check_piece-answer.ensures c.in-Done.is in
+    omega (arith, first_in (length a.bytes.now) a.offset a.row_count a.col_count a.col_start a.height a.width (length a.piece.now) k)
 
 pub lower_piece-requires : goal.lower_piece-requires
 lower_piece-requires c =
     let check-piece = c.check_piece-answer in
     let a = c.args in
-    let k = accepted 1 a.col_count (length a.bytes.now) a.offset a.row_count a.col_count a.col_start a.height a.width (length a.piece-1.now) check-piece.result check-piece.ensures c.in-Done.is in
-    (omega arith, k.narrow, k.size, columns_in (length a.bytes.now) a.offset a.row_count a.col_count a.col_start a.height a.width (length a.piece-1.now) k)
+    let k = accepted 1 a.col_count (length a.bytes.now) a.offset a.row_count a.col_count a.col_start a.height a.width (length a.piece.now) check-piece.result check-piece.ensures c.in-Done.is in
+    (omega arith, k.narrow, k.size, columns_in (length a.bytes.now) a.offset a.row_count a.col_count a.col_start a.height a.width (length a.piece.now) k)
 
 pub mirror-requires : goal.mirror-requires
 mirror-requires c =
     let check-piece = c.check_piece-answer in
     let lower-piece = c.lower_piece in
     let a = c.args in
-    let k = accepted 1 a.col_count (length a.bytes.now) a.offset a.row_count a.col_count a.col_start a.height a.width (length a.piece-1.now) check-piece.result check-piece.ensures c.in-Done.is in
-    let l : length lower-piece.new.1.1.1.1.1.1.1.1.0 ≡ length a.piece-1.now = lower-piece.auto.1.1.1.1.1.1.1.1.0 in
-    (omega arith, omega (arith, square_in (length a.bytes.now) a.offset a.row_count a.col_count a.col_start a.height a.width (length a.piece-1.now) k))
+    let k = accepted 1 a.col_count (length a.bytes.now) a.offset a.row_count a.col_count a.col_start a.height a.width (length a.piece.now) check-piece.result check-piece.ensures c.in-Done.is in
+    let l : length lower-piece.new.piece ≡ length a.piece.now = lower-piece.auto.piece in
+    (omega arith, omega (arith, square_in (length a.bytes.now) a.offset a.row_count a.col_count a.col_start a.height a.width (length a.piece.now) k))
 
 pub returns : goal.returns
 unfolding ata_leaves
@@ -43,6 +43,6 @@ returns c =
     let enum_told = c.enum_told-1 in
     let lower-piece = c.lower_piece in
     let a = c.args in
-    let k = accepted 1 a.col_count (length a.bytes.now) a.offset a.row_count a.col_count a.col_start a.height a.width (length a.piece-1.now) c.check_piece-answer.result c.check_piece-answer.ensures enum_told.given.1 in
+    let k = accepted 1 a.col_count (length a.bytes.now) a.offset a.row_count a.col_count a.col_start a.height a.width (length a.piece.now) c.check_piece-answer.result c.check_piece-answer.ensures enum_told.given.1 in
     let q = c.check_piece-answer in
-    leaves_new q.result (ata_answer a.bytes.now a.offset a.row_count a.col_count a.col_start a.height a.width a.piece-1.now) c.mirror.new.1.0 _ a.piece-1.now enum_told.given.1 (ata_says a.bytes.now a.offset a.row_count a.col_count a.col_start a.height a.width a.piece-1.now (piece_says q.result) q.ensures) (ata_piece a.bytes.now a.offset a.row_count a.col_count a.col_start a.height a.width lower-piece.new.1.1.1.1.1.1.1.1.0 c.mirror.new.1.0 (omega arith) k.narrow k.ends lower-piece.ensures c.mirror.ensures)
+    leaves_new q.result (ata_answer a.bytes.now a.offset a.row_count a.col_count a.col_start a.height a.width a.piece.now) c.mirror.new.piece _ a.piece.now enum_told.given.1 (ata_says a.bytes.now a.offset a.row_count a.col_count a.col_start a.height a.width a.piece.now (piece_says q.result) q.ensures) (ata_piece a.bytes.now a.offset a.row_count a.col_count a.col_start a.height a.width lower-piece.new.piece c.mirror.new.piece (omega arith) k.narrow k.ends lower-piece.ensures c.mirror.ensures)

@@ -47,7 +47,7 @@ pub load_lines-requires : goal.load_lines-requires
 load_lines-requires c =
     let a = c.args in
     let w = c.loop-i in
-    let e : length (take (w.i * a.g + a.m - w.i * a.g) (drop (w.i * a.g) w.x-1)) ≡ w.i * a.g + a.m - w.i * a.g = length_part (w.i * a.g) (w.i * a.g + a.m - w.i * a.g) w.x-1 (omega (arith, row_in a.n a.g w.i c.loop-i-test.true)) in
+    let e : length (take (w.i * a.g + a.m - w.i * a.g) (drop (w.i * a.g) w.x)) ≡ w.i * a.g + a.m - w.i * a.g = length_part (w.i * a.g) (w.i * a.g + a.m - w.i * a.g) w.x (omega (arith, row_in a.n a.g w.i c.loop-i-test.true)) in
     (omega arith, λ j h. omega (arith, c.place-at.ensures, c.requires.3 (a.r + j) w.i (omega arith) (omega arith)))
 
 pub overflow_add-i : goal.overflow_add-i
@@ -62,7 +62,7 @@ loop-i-preserved c =
     let a = c.args in
     let w = c.loop-i in
     let q = c.load_lines in
-    (omega arith, same_len_mid (w.i * a.g) (w.i * a.g + a.m - w.i * a.g) w.x-1 q.new.1.1.1.0 q.auto.1.1.1.0 ∙ w.invariant.1, tile_more a.bytes.now a.base a.line a.step a.r a.m a.g w.i (w.i * a.g + a.m - w.i * a.g) place.result w.x-1 q.new.1.1.1.0 place.ensures (add-sub_cancel_left (w.i * a.g) a.m) c.requires.1 (omega (arith, row_in a.n a.g w.i c.loop-i-test.true)) q.ensures w.invariant.2)
+    (omega arith, same_len_mid (w.i * a.g) (w.i * a.g + a.m - w.i * a.g) w.x q.new.dst q.auto.dst ∙ w.invariant.1, tile_more a.bytes.now a.base a.line a.step a.r a.m a.g w.i (w.i * a.g + a.m - w.i * a.g) place.result w.x q.new.dst place.ensures (add-sub_cancel_left (w.i * a.g) a.m) c.requires.1 (omega (arith, row_in a.n a.g w.i c.loop-i-test.true)) q.ensures w.invariant.2)
 
 pub shape_of-x : goal.shape_of-x
 shape_of-x c = c.loop-i.invariant.1

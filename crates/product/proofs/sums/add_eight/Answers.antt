@@ -23,11 +23,11 @@ pub take_out-requires : goal.take_out-requires
 take_out-requires c =
     let a = c.args in
     λ i h.
-    let e : length (take (length a.sums-1.now - 0) (replicate 8 (of_bits binary64 0))) ≡ length a.sums-1.now - 0 = length-take-le (length a.sums-1.now - 0) (replicate 8 (of_bits binary64 0)) (omega arith) in
+    let e : length (take (length a.sums.now - 0) (replicate 8 (of_bits binary64 0))) ≡ length a.sums.now - 0 = length-take-le (length a.sums.now - 0) (replicate 8 (of_bits binary64 0)) (omega arith) in
     omega arith
 
 pub loop-i-init : goal.loop-i-init
-loop-i-init c = (omega arith, length_front (replicate 8 (of_bits binary64 0)) c.take_out.new.1.1.1.0 (length c.args.sums.now - 0) c.take_out.auto.1.1.1.0, row_none binary64 _ _ _)
+loop-i-init c = (omega arith, length_front (replicate 8 (of_bits binary64 0)) c.take_out.new.dst (length c.args.sums.now - 0) c.take_out.auto.dst, row_none binary64 _ _ _)
 
 pub overflow_mul-i : goal.overflow_mul-i
 overflow_mul-i c =
@@ -58,7 +58,7 @@ loop-i-preserved c =
     let a = c.args in
     let w = c.loop-i in
     let q = c.add_one in
-    (omega arith, q.auto.1.1.1.0 ∙ w.invariant.1, row_step binary64 (tile_value a.x.now a.g) (spaced_value a.bytes.now a.at a.step) w.i (c.take_out.new.1.1.1.0 ++ drop (length a.sums-1.now - 0) (replicate 8 (of_bits binary64 0))) w.s-1 q.new.1.1.1.0 (λ j. get_or a.x.now (w.i * a.g + j) nan) term.result w.invariant.2 (λ j b. refl) term.ensures q.ensures)
+    (omega arith, q.auto.sums ∙ w.invariant.1, row_step binary64 (tile_value a.x.now a.g) (spaced_value a.bytes.now a.at a.step) w.i (c.take_out.new.dst ++ drop (length a.sums.now - 0) (replicate 8 (of_bits binary64 0))) w.s q.new.sums (λ j. get_or a.x.now (w.i * a.g + j) nan) term.result w.invariant.2 (λ j b. refl) term.ensures q.ensures)
 
 pub slice_bounds-put_back-count : goal.slice_bounds-put_back-count
 slice_bounds-put_back-count c = omega arith
@@ -72,16 +72,16 @@ slice_bounds-put_back-end c = omega arith
 pub put_back-requires : goal.put_back-requires
 put_back-requires c =
     let a = c.args in
-    let w = c.loop in
-    let e : length (take (length a.sums-1.now - 0) w.s-1) ≡ length a.sums-1.now - 0 = length-take-le (length a.sums-1.now - 0) w.s-1 (omega (arith, w.invariant.1, c.requires.0)) in
+    let w = c.loop-i in
+    let e : length (take (length a.sums.now - 0) w.s) ≡ length a.sums.now - 0 = length-take-le (length a.sums.now - 0) w.s (omega (arith, w.invariant.1, c.requires.0)) in
     (omega arith, λ i h. omega arith)
 
 pub shape_of-sums : goal.shape_of-sums
-shape_of-sums c = c.put_back.auto.1.1.1.0
+shape_of-sums c = c.put_back.auto.piece
 
 pub returns : goal.returns
 returns c =
     let take_out = c.take_out in
     let a = c.args in
-    let w = c.loop in
-    row_back binary64 (tile_value a.x.now a.g) (spaced_value a.bytes.now a.at a.step) a.n (length a.sums-1.now) a.sums-1.now (replicate 8 (of_bits binary64 0)) take_out.new.1.1.1.0 w.s-1 c.put_back.new.1.1.1.0 refl (omega arith) take_out.ensures (w.invariant.2 ∙ ap (λ (t : ℕ). row_more binary64 (tile_value a.x.now a.g) (spaced_value a.bytes.now a.at a.step) t (take_out.new.1.1.1.0 ++ drop (length a.sums-1.now - 0) (replicate 8 (of_bits binary64 0)))) (let u : w.i ≡ a.n = omega arith in u)) w.invariant.1 c.put_back.auto.1.1.1.0 c.put_back.ensures
+    let w = c.loop-i in
+    row_back binary64 (tile_value a.x.now a.g) (spaced_value a.bytes.now a.at a.step) a.n (length a.sums.now) a.sums.now (replicate 8 (of_bits binary64 0)) take_out.new.dst w.s c.put_back.new.piece refl (omega arith) take_out.ensures (w.invariant.2 ∙ ap (λ (t : ℕ). row_more binary64 (tile_value a.x.now a.g) (spaced_value a.bytes.now a.at a.step) t (take_out.new.dst ++ drop (length a.sums.now - 0) (replicate 8 (of_bits binary64 0)))) (let u : w.i ≡ a.n = omega arith in u)) w.invariant.1 c.put_back.auto.piece c.put_back.ensures

@@ -87,7 +87,7 @@ loop-j-preserved c =
     let bits2 = c.bits-b1 in
     let a = c.args in
     let w = c.loop-j in
-    (omega arith, simp length-set (omega arith), four_step binary64 (run_value a.bytes.now a.at a.step) (spaced_value a.bytes.now a.own_val a.step) a.sums.now w.sums w.j (of_bits binary64 bits.result) (of_bits binary64 bits2.result) (of_bits binary64 c.bits-b2.result) (of_bits binary64 c.bits-b3.result) term.result term2.result term3.result term4.result (float_of a.bytes.now (a.at + 8 * (0 * a.step) + 8 * w.j) bits.result bits.ensures) (float_of a.bytes.now (a.at + 8 * (1 * a.step) + 8 * w.j) bits2.result bits2.ensures) (float_of a.bytes.now (a.at + 8 * (2 * a.step) + 8 * w.j) c.bits-b2.result c.bits-b2.ensures) (float_of a.bytes.now (a.at + 8 * (3 * a.step) + 8 * w.j) c.bits-b3.result c.bits-b3.ensures) term.ensures term2.ensures term3.ensures term4.ensures (omega arith) w.invariant.2)
+    (omega arith, simp length-set (omega arith), four_step binary64 (run_value a.bytes.now a.at a.step) (spaced_value a.bytes.now a.own a.step) a.sums.now w.sums w.j (of_bits binary64 bits.result) (of_bits binary64 bits2.result) (of_bits binary64 c.bits-b2.result) (of_bits binary64 c.bits-b3.result) term.result term2.result term3.result term4.result (float_of a.bytes.now (a.at + 8 * (0 * a.step) + 8 * w.j) bits.result bits.ensures) (float_of a.bytes.now (a.at + 8 * (1 * a.step) + 8 * w.j) bits2.result bits2.ensures) (float_of a.bytes.now (a.at + 8 * (2 * a.step) + 8 * w.j) c.bits-b2.result c.bits-b2.ensures) (float_of a.bytes.now (a.at + 8 * (3 * a.step) + 8 * w.j) c.bits-b3.result c.bits-b3.ensures) term.ensures term2.ensures term3.ensures term4.ensures (omega arith) w.invariant.2)
 
 pub shape_of-sums : goal.shape_of-sums
 shape_of-sums c = c.loop-j.invariant.1

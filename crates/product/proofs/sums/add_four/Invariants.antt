@@ -12,7 +12,7 @@ use Rattle.product.proofs.RowLaws.{by_four, four_step}
 use Rattle.product.proofs.sums.add_four.Given as goal
 
 abbrev pub invariant-loop-j : goal.invariant-loop-j
-invariant-loop-j l = (l.j ≤ length l.initial.sums) × (length l.sums ≡ length l.initial.sums) × (l.sums ≡ filled (by_four binary64 (λ l.j t. tile_value l.x l.g l.j (l.i + t)) (λ t. spaced_value l.bytes l.at l.step (l.i + t)) l.initial.sums) l.j l.initial.sums)
+invariant-loop-j l = (l.j ≤ length l.initial.sums) × (length l.sums ≡ length l.initial.sums) × (l.sums ≡ filled (by_four binary64 (λ j t. tile_value l.x l.g j (l.i + t)) (λ t. spaced_value l.bytes l.at l.step (l.i + t)) l.initial.sums) l.j l.initial.sums)
 
 abbrev pub decreases-loop-j : goal.decreases-loop-j
 decreases-loop-j l = length l.initial.sums - l.j

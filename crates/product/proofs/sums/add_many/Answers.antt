@@ -33,7 +33,7 @@ loop-i-preserved c =
     let a = c.args in
     let w = c.loop-i in
     let q = c.add_four in
-    (omega arith, q.auto.1.1.1.1.1.1.0 ∙ w.invariant.1, rest_step binary64 (tile_value a.x.now a.g) (spaced_value a.bytes.now a.at a.step) a.n w.i 4 w.sums-1 q.new.1.1.1.1.1.1.0 (omega arith) q.ensures ∙ w.invariant.2)
+    (omega arith, q.auto.sums ∙ w.invariant.1, rest_step binary64 (tile_value a.x.now a.g) (spaced_value a.bytes.now a.at a.step) a.n w.i 4 w.sums q.new.sums (omega arith) q.ensures ∙ w.invariant.2)
 
 pub loop-i-2-init : goal.loop-i-2-init
 loop-i-2-init c = (search rules, refl, refl)
@@ -65,7 +65,7 @@ loop-i-2-preserved c =
     let a = c.args in
     let w = c.loop-i-2 in
     let q = c.add_one in
-    (omega arith, q.auto.1.1.1.0 ∙ w.invariant.1, rest_one binary64 (tile_value a.x.now a.g) (spaced_value a.bytes.now a.at a.step) a.n w.i w.sums-1 q.new.1.1.1.0 (λ j. get_or a.x.now (w.i * a.g + j) nan) term.result (omega arith) (λ j b. refl) term.ensures q.ensures ∙ w.invariant.2)
+    (omega arith, q.auto.sums ∙ w.invariant.1, rest_one binary64 (tile_value a.x.now a.g) (spaced_value a.bytes.now a.at a.step) a.n w.i w.sums q.new.sums (λ j. get_or a.x.now (w.i * a.g + j) nan) term.result (omega arith) (λ j b. refl) term.ensures q.ensures ∙ w.invariant.2)
 
 pub shape_of-sums : goal.shape_of-sums
 shape_of-sums c = c.loop-i-2.invariant.1 ∙ c.loop-i.invariant.1
@@ -74,7 +74,7 @@ pub returns : goal.returns
 returns c =
     let a = c.args in
     let w = c.loop-i-2 in
-    sym (rest_none binary64 (tile_value a.x.now a.g) (spaced_value a.bytes.now a.at a.step) a.n w.i w.sums-1 (omega arith))
+    sym (rest_none binary64 (tile_value a.x.now a.g) (spaced_value a.bytes.now a.at a.step) a.n w.i w.sums (omega arith))
     ∙ w.invariant.2
     ∙ c.loop-i.invariant.2
-    ∙ rest_all binary64 (tile_value a.x.now a.g) (spaced_value a.bytes.now a.at a.step) a.n a.sums-1.now
+    ∙ rest_all binary64 (tile_value a.x.now a.g) (spaced_value a.bytes.now a.at a.step) a.n a.sums.now

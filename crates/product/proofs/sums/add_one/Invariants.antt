@@ -10,7 +10,7 @@ use Rattle.product.proofs.RowLaws.{with_term, term_step}
 use Rattle.product.proofs.sums.add_one.Given as goal
 
 abbrev pub invariant-loop-j : goal.invariant-loop-j
-invariant-loop-j l = (l.j ≤ length l.initial.sums) × (length l.sums ≡ length l.initial.sums) × (l.sums ≡ filled (with_term binary64 (λ l.j. get_or l.x (l.from + l.j) nan) l.y l.initial.sums) l.j l.initial.sums)
+invariant-loop-j l = (l.j ≤ length l.initial.sums) × (length l.sums ≡ length l.initial.sums) × (l.sums ≡ filled (with_term binary64 (λ j. get_or l.x (l.from + j) nan) l.y l.initial.sums) l.j l.initial.sums)
 
 abbrev pub decreases-loop-j : goal.decreases-loop-j
 decreases-loop-j l = length l.initial.sums - l.j

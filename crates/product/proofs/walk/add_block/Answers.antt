@@ -23,22 +23,22 @@ loop-c-init c = (omega arith, refl, refl, block_none binary64 _ _ _ _ _ _ _ _ (�
 
 within : (c : In-loop-c) →
     let a = c.args in
-    (c.loop-c.c < a.width) × (c.loop-c.c < a.r + length a.room-1.now)
+    (c.loop-c.c < a.width) × (c.loop-c.c < a.r + length a.room.now)
 within c =
     let a = c.args in
-    let l = least_above a.width (a.r + length a.room-1.now) c.least-end.result c.requires.0 (omega arith) c.least-end.ensures in (omega (arith, l, c.loop-c-test.true), omega (arith, l, c.loop-c-test.true))
+    let l = least_above a.width (a.r + length a.room.now) c.least-end.result c.requires.0 (omega arith) c.least-end.ensures in (omega (arith, l, c.loop-c-test.true), omega (arith, l, c.loop-c-test.true))
 
 below : (c : After-least) →
     let a = c.args in
-    let w = c.loop in
-    (w.c - c.least.result < length a.room-1.now) × (((w.c - c.least.result) * a.width ≤ length w.piece-1) × (a.r * a.width + w.c + (w.c - c.least.result) * a.width < length w.piece-1) × ((i : ℕ) → i < length a.room-1.now - (w.c - c.least.result) → a.r * a.width + w.c + (w.c - c.least.result) * a.width + i * a.width < length w.piece-1))
+    let w = c.loop-c in
+    (w.c - c.least.result < length a.room.now) × (((w.c - c.least.result) * a.width ≤ length w.piece) × (a.r * a.width + w.c + (w.c - c.least.result) * a.width < length w.piece) × ((i : ℕ) → i < length a.room.now - (w.c - c.least.result) → a.r * a.width + w.c + (w.c - c.least.result) * a.width + i * a.width < length w.piece))
 below c =
     let a = c.args in
     let s = c.requires in
-    let w = c.loop in
+    let w = c.loop-c in
     let i = within c.before.before.before.before.before.before.before.before.before.before.before in
     let e = ap (λ (z : ℕ). w.c - z) c.least.ensures in
-    (some_below a.r w.c (w.c - c.least.result) e (length a.room-1.now) s.2.some_lines i.1, below_places a.r w.c (w.c - c.least.result) e (length a.room-1.now) a.width (length w.piece-1) s.2.some_lines i.0 i.1 (omega (arith, s.1, w.invariant.2)))
+    (some_below a.r w.c (w.c - c.least.result) e (length a.room.now) s.2.some_lines i.1, below_places a.r w.c (w.c - c.least.result) e (length a.room.now) a.width (length w.piece) s.2.some_lines i.0 i.1 (omega (arith, s.1, w.invariant.2)))
 
 pub overflow_mul-from : goal.overflow_mul-from
 overflow_mul-from c = omega (arith, c.requires.1)
@@ -46,20 +46,20 @@ overflow_mul-from c = omega (arith, c.requires.1)
 pub overflow_add-from : goal.overflow_add-from
 overflow_add-from c =
     let a = c.args in
-    omega (arith, c.requires.1, row_in (a.r + length a.room-1.now) a.width a.r (omega arith), within c)
+    omega (arith, c.requires.1, row_in (a.r + length a.room.now) a.width a.r (omega arith), within c)
 
 pub take_out-requires : goal.take_out-requires
 take_out-requires c =
     let a = c.args in
-    let w = c.loop in
-    λ i h. omega (arith, c.requires.1, w.invariant.1, w.invariant.2, within c.before.before.before, row_in (a.r + length a.room-1.now) a.width (a.r + i) (omega (arith, w.invariant.1)))
+    let w = c.loop-c in
+    λ i h. omega (arith, c.requires.1, w.invariant.1, w.invariant.2, within c.before.before.before, row_in (a.r + length a.room.now) a.width (a.r + i) (omega (arith, w.invariant.1)))
 
 pub add_products-requires : goal.add_products-requires
 add_products-requires c =
     let a = c.args in
     let s = c.requires.2 in
-    let w = c.loop in
-    let e = c.take_out.auto.1.1.1.0 in (
+    let w = c.loop-c in
+    let e = c.take_out.auto.dst in (
       omega (arith, w.invariant.1, within c.before.before.before.before.before.before.before),
       record {
         some_lines = omega (arith, w.invariant.1);
@@ -69,7 +69,7 @@ add_products-requires c =
         tile_room = s.tile_room;
         lines_in = λ r' i h h'. s.lines_in r' i (omega (arith, w.invariant.1)) h';
         tile_has = λ i j h h'. s.tile_has i j h (omega (arith, w.invariant.1));
-        else_straight = λ d. straight_part a.bytes.now a.base a.line a.step a.n a.r (a.r + length a.room-1.now) a.r _ (omega arith) (omega (arith, w.invariant.1)) (omega arith) (s.else_straight d);
+        else_straight = λ d. straight_part a.bytes.now a.base a.line a.step a.n a.r (a.r + length a.room.now) a.r _ (omega arith) (omega (arith, w.invariant.1)) (omega arith) (s.else_straight d);
       },
     )
 
@@ -78,7 +78,7 @@ least-requires c = omega arith
 
 pub overflow_sub-above : goal.overflow_sub-above
 overflow_sub-above c =
-    let w = c.loop in
+    let w = c.loop-c in
     omega (arith, c.least.ensures, min-le_left w.c c.args.r, min-le_left w.c w.c)
 
 pub offset_bounds-room-above : goal.offset_bounds-room-above
@@ -88,24 +88,24 @@ pub slice_bounds-put_back-count : goal.slice_bounds-put_back-count
 slice_bounds-put_back-count c = omega arith
 
 pub slice_bounds-put_back-start : goal.slice_bounds-put_back-start
-slice_bounds-put_back-start c = omega (arith, (below c.before.before).0, c.add_products.auto.1.1.1.1.1.1.1.1.1.1.0, c.take_out.auto.1.1.1.0, c.loop.invariant.1)
+slice_bounds-put_back-start c = omega (arith, (below c.before.before).0, c.add_products.auto.sums, c.take_out.auto.dst, c.loop-c.invariant.1)
 
 pub slice_bounds-put_back-end : goal.slice_bounds-put_back-end
 slice_bounds-put_back-end c = omega arith
 
 pub overflow_mul-above : goal.overflow_mul-above
-overflow_mul-above c = omega (arith, c.well_formed.1.1.1.1.1.1.1.1.1.1.1.0.0, c.loop.invariant.2, (below c.before.before.before).1.0)
+overflow_mul-above c = omega (arith, c.well_formed.1.1.1.1.1.1.1.1.1.1.1.0.0, c.loop-c.invariant.2, (below c.before.before.before).1.0)
 
 pub overflow_add-from-in-loop-c : goal.overflow_add-from-in-loop-c
-overflow_add-from-in-loop-c c = omega (arith, c.well_formed.1.1.1.1.1.1.1.1.1.1.1.0.0, c.loop.invariant.2, (below c.before.before.before).1.1)
+overflow_add-from-in-loop-c c = omega (arith, c.well_formed.1.1.1.1.1.1.1.1.1.1.1.0.0, c.loop-c.invariant.2, (below c.before.before.before).1.1)
 
 pub put_back-requires : goal.put_back-requires
 put_back-requires c =
-    let w = c.loop in
+    let w = c.loop-c in
     let add-products = c.add_products in
-    let R = add-products.new.1.1.1.1.1.1.1.1.1.1.0 in
+    let R = add-products.new.sums in
     let d = w.c - c.least2.result in
-    let e : length R ≡ length c.args.room.now = add-products.auto.1.1.1.1.1.1.1.1.1.1.0 ∙ c.take_out.auto.1.1.1.0 ∙ w.invariant.1 in
+    let e : length R ≡ length c.args.room.now = add-products.auto.sums ∙ c.take_out.auto.dst ∙ w.invariant.1 in
     let e' : length (take (length R - d) (drop d R)) ≡ length R - d = length_part d (length R - d) R (omega (arith, (below c.before.before.before.before).0)) in
     (c.requires.0, λ i h. (below c.before.before.before.before).1.2 i (omega arith))
 
@@ -122,10 +122,10 @@ loop-c-preserved c =
     let add-products = c.add_products in
     let least2 = c.least2 in
     let a = c.args in
-    let w = c.loop in
+    let w = c.loop-c in
     let p = c.put_back in
     let b = within c.before.before.before.before.before.before.before.before.before.before.before.before.before.before.before.before.before in
-    (omega (arith, c.loop_test.true), add-products.auto.1.1.1.1.1.1.1.1.1.1.0 ∙ take_out.auto.1.1.1.0 ∙ w.invariant.1, p.auto.1.1.1.0 ∙ w.invariant.2, column_turn binary64 a.width (value_of_line a.bytes.now a.base a.line a.step) a.n a.r (length a.room-1.now) w.c least2.result a.piece-1.now w.piece-1 w.room-1 take_out.new.1.1.1.0 add-products.new.1.1.1.1.1.1.1.1.1.1.0 p.new.1.1.1.0 s.2.some_lines (omega (arith, b)) (omega (arith, b)) least2.ensures (omega (arith, w.invariant.2, s.1)) w.invariant.1 take_out.ensures add-products.ensures p.auto.1.1.1.0 p.ensures w.invariant.3)
+    (omega (arith, c.loop-c-test.true), add-products.auto.sums ∙ take_out.auto.dst ∙ w.invariant.1, p.auto.piece ∙ w.invariant.2, column_turn binary64 a.width (value_of_line a.bytes.now a.base a.line a.step) a.n a.r (length a.room.now) w.c least2.result a.piece.now w.piece w.room take_out.new.dst add-products.new.sums p.new.piece s.2.some_lines (omega (arith, b)) (omega (arith, b)) least2.ensures (omega (arith, w.invariant.2, s.1)) w.invariant.1 take_out.ensures add-products.ensures p.auto.piece p.ensures w.invariant.3)
 
 pub shape_of-room : goal.shape_of-room
 shape_of-room c = c.loop-c.invariant.1
@@ -137,4 +137,4 @@ pub returns : goal.returns
 returns c =
     let a = c.args in
     let w = c.loop-c in
-    columns_all binary64 a.width (value_of_line a.bytes.now a.base a.line a.step) a.n a.r (a.r + length a.room-1.now) w.c a.piece-1.now w.piece-1 c.requires.0 (let u : w.c ≡ c.least-end.result = omega arith in u ∙ c.least-end.ensures) w.invariant.3
+    columns_all binary64 a.width (value_of_line a.bytes.now a.base a.line a.step) a.n a.r (a.r + length a.room.now) w.c a.piece.now w.piece c.requires.0 (let u : w.c ≡ c.least-end.result = omega arith in u ∙ c.least-end.ensures) w.invariant.3

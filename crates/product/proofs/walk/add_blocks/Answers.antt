@@ -56,7 +56,7 @@ pub slice_bounds-room-start : goal.slice_bounds-room-start
 slice_bounds-room-start c = omega arith
 
 pub slice_bounds-room-end : goal.slice_bounds-room-end
-slice_bounds-room-end c = omega (arith, c.loop.invariant.3, c.requires.1, sized c.before.before.before.before.before.before.before)
+slice_bounds-room-end c = omega (arith, c.loop-r.invariant.3, c.requires.1, sized c.before.before.before.before.before.before.before)
 
 pub add_block-requires : goal.add_block-requires
 add_block-requires c =
@@ -65,10 +65,10 @@ add_block-requires c =
     let least = tile.before in
     let s = c.requires in
     let a = c.args in
-    let w = c.loop in
+    let w = c.loop-r in
     let m = least.least.result in
     let l = sized least in
-    let e : length (take (m - 0) w.room-1) ≡ m = length-take-le (m - 0) w.room-1 (omega (arith, w.invariant.3, l, s.1)) ∙ (let z : m - 0 ≡ m = omega arith in z) in (
+    let e : length (take (m - 0) w.room) ≡ m = length-take-le (m - 0) w.room (omega (arith, w.invariant.3, l, s.1)) ∙ (let z : m - 0 ≡ m = omega arith in z) in (
       s.4,
       omega (arith, s.6, w.invariant.4, ap (λ (z : ℕ). (w.r + z) * a.width) e, mul-le-mul_right a.width (fits least)),
       record {
@@ -76,7 +76,7 @@ add_block-requires c =
         not_wide = omega (arith, l);
         some_terms = s.2;
         ends = omega (arith, fits least);
-        tile_room = omega (arith, tile_room tile, load-tile.auto.1.1.1.1.1.1.1.1.0);
+        tile_room = omega (arith, tile_room tile, load-tile.auto.x);
         lines_in = λ r' i h h'. s.7 r' i (omega (arith, fits least)) h';
         tile_has = λ i j h h'. load-tile.ensures i j h (omega (arith, l));
         else_straight = subst (λ (z : ℕ). LoadedOrStraight a.bytes.now a.base a.line a.step a.n tile.tile_terms.result w.r (w.r + z)) (sym e) tile.tile_terms.ensures.1;
@@ -94,17 +94,17 @@ loop-r-preserved c =
     let least = c.before.before.before.before.before.before.before.before.before.before.before.before.before in
     let s = c.requires in
     let a = c.args in
-    let w = c.loop in
+    let w = c.loop-r in
     let m = least.least.result in
     let q = c.add_block in
     let l = sized least in
-    let e : length (take (m - 0) w.room-1) ≡ m = length-take-le (m - 0) w.room-1 (omega (arith, w.invariant.3, l, s.1)) ∙ (let z : m - 0 ≡ m = omega arith in z) in (
+    let e : length (take (m - 0) w.room) ≡ m = length-take-le (m - 0) w.room (omega (arith, w.invariant.3, l, s.1)) ∙ (let z : m - 0 ≡ m = omega arith in z) in (
       omega (arith, w.invariant.0),
       fits least,
-      c.load_tile.auto.1.1.1.1.1.1.1.1.0 ∙ w.invariant.2,
-      length_front w.room-1 q.new.1.1.1.1.1.1.1.1.1.1.0 (m - 0) q.auto.1.1.1.1.1.1.1.1.1.1.0 ∙ w.invariant.3,
-      q.auto.1.1.1.1.1.1.1.1.1.1.1.0 ∙ w.invariant.4,
-      rows_more_law binary64 a.width (value_of_line a.bytes.now a.base a.line a.step) a.n a.top w.r (w.r + m) a.piece-1.now w.piece-1 q.new.1.1.1.1.1.1.1.1.1.1.1.0 s.4 w.invariant.0 (omega arith) w.invariant.5 (q.ensures ∙ ap (λ (z : ℕ). block_more binary64 a.width (value_of_line a.bytes.now a.base a.line a.step) a.n w.r (w.r + z) 0 a.width w.piece-1) e),
+      c.load_tile.auto.x ∙ w.invariant.2,
+      length_front w.room q.new.room (m - 0) q.auto.room ∙ w.invariant.3,
+      q.auto.piece ∙ w.invariant.4,
+      rows_more_law binary64 a.width (value_of_line a.bytes.now a.base a.line a.step) a.n a.top w.r (w.r + m) a.piece.now w.piece q.new.piece s.4 w.invariant.0 (omega arith) w.invariant.5 (q.ensures ∙ ap (λ (z : ℕ). block_more binary64 a.width (value_of_line a.bytes.now a.base a.line a.step) a.n w.r (w.r + z) 0 a.width w.piece) e),
     )
 
 pub shape_of-x : goal.shape_of-x
@@ -117,4 +117,4 @@ pub returns : goal.returns
 returns c =
     let a = c.args in
     let w = c.loop-r in
-    w.invariant.5 ∙ ap (λ (z : ℕ). block_more binary64 a.width (value_of_line a.bytes.now a.base a.line a.step) a.n a.top z 0 a.width a.piece-1.now) (let u : w.r ≡ a.bottom = omega arith in u)
+    w.invariant.5 ∙ ap (λ (z : ℕ). block_more binary64 a.width (value_of_line a.bytes.now a.base a.line a.step) a.n a.top z 0 a.width a.piece.now) (let u : w.r ≡ a.bottom = omega arith in u)

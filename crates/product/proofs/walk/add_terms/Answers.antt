@@ -66,9 +66,9 @@ loop-k-preserved c =
     let q = c.add_blocks in
     let l = sized c.before.before.before.before.before.before.before.before.before in (
       omega (arith, l),
-      q.auto.1.1.1.1.1.1.1.1.1.0 ∙ w.invariant.1,
-      q.auto.1.1.1.1.1.1.1.1.1.1.0 ∙ w.invariant.2,
-      block_terms binary64 a.width (value_of_line a.bytes.now a.base a.line a.step) (value_of_line a.bytes.now place.result a.line a.step) w.k c.least-n.result a.top a.bottom 0 a.width a.piece-1.now w.piece-1 q.new.1.1.1.1.1.1.1.1.1.1.0 (line_from a.bytes.now a.base a.line a.step w.k place.result place.ensures) w.invariant.3 q.ensures,
+      q.auto.x ∙ w.invariant.1,
+      q.auto.piece ∙ w.invariant.2,
+      block_terms binary64 a.width (value_of_line a.bytes.now a.base a.line a.step) (value_of_line a.bytes.now place.result a.line a.step) w.k c.least-n.result a.top a.bottom 0 a.width a.piece.now w.piece q.new.piece (line_from a.bytes.now a.base a.line a.step w.k place.result place.ensures) w.invariant.3 q.ensures,
     )
 
 pub shape_of-x : goal.shape_of-x
@@ -80,4 +80,4 @@ shape_of-piece c = c.loop-k.invariant.2
 pub returns : goal.returns
 returns c =
     let a = c.args in
-    c.loop-k.invariant.3 ∙ ap (λ (z : ℕ). block_more binary64 a.width (value_of_line a.bytes.now a.base a.line a.step) z a.top a.bottom 0 a.width a.piece-1.now) (let u : c.loop-k.k ≡ a.count = omega arith in u)
+    c.loop-k.invariant.3 ∙ ap (λ (z : ℕ). block_more binary64 a.width (value_of_line a.bytes.now a.base a.line a.step) z a.top a.bottom 0 a.width a.piece.now) (let u : c.loop-k.k ≡ a.count = omega arith in u)

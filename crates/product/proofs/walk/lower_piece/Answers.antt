@@ -15,13 +15,13 @@ pub clear-requires : goal.clear-requires
 clear-requires c = tt
 
 pub shape_of-piece-then-width-eq0 : goal.shape_of-piece-then-width-eq0
-shape_of-piece-then-width-eq0 c = c.clear.auto.0
+shape_of-piece-then-width-eq0 c = c.clear.auto.piece
 
 pub returns-then-width-eq0 : goal.returns-then-width-eq0
 returns-then-width-eq0 c =
     let clear = c.clear in
     let a = c.args in
-    lower_none binary64 a.height a.width (value_of_line a.bytes.now (a.offset + 8 * a.first) a.line a.step) (length a.piece-1.now) clear.new.0 c.requires.2 clear.ensures
+    lower_none binary64 a.height a.width (value_of_line a.bytes.now (a.offset + 8 * a.first) a.line a.step) (length a.piece.now) clear.new.piece c.requires.2 clear.ensures
     ∙ lower_empty binary64 a.height a.width (value_of_line a.bytes.now (a.offset + 8 * a.first) a.line a.step) a.count 0 c.if-width-eq0.true
 
 pub overflow_mul-base : goal.overflow_mul-base
@@ -59,7 +59,7 @@ add_terms-requires c =
     let s = c.requires in
     let w = c.loop-r in
     let l = sized c.before.before.before in
-    (omega (arith, w.invariant.1), omega (arith, c.if-width-eq0.false), omega (arith, l), omega (arith, s.2, w.invariant.2, c.clear.auto.0, mul-le-mul_right a.width (let u : w.r + c.least.result ≤ a.height = omega (arith, l) in u)), λ r i h h'. s.3 r i (omega (arith, l)) h')
+    (omega (arith, w.invariant.1), omega (arith, c.if-width-eq0.false), omega (arith, l), omega (arith, s.2, w.invariant.2, c.clear.auto.piece, mul-le-mul_right a.width (let u : w.r + c.least.result ≤ a.height = omega (arith, l) in u)), λ r i h h'. s.3 r i (omega (arith, l)) h')
 
 pub loop-r-smaller : goal.loop-r-smaller
 loop-r-smaller c = omega (arith, sized c.before.before.before.before.before.before.before)
@@ -70,24 +70,24 @@ loop-r-preserved c =
     let w = c.loop-r in
     let q = c.add_terms in
     let l = sized c.before.before.before.before.before.before.before in
-    (omega (arith, l), q.auto.1.1.1.1.1.1.1.1.0 ∙ w.invariant.1, q.auto.1.1.1.1.1.1.1.1.1.0 ∙ w.invariant.2, rows_more_law binary64 a.width (value_of_line a.bytes.now (a.offset + 8 * a.first) a.line a.step) a.count 0 w.r (w.r + c.least.result) c.clear.new.0 w.piece-1 q.new.1.1.1.1.1.1.1.1.1.0 (omega (arith, c.if-width-eq0.false)) (omega arith) (omega arith) w.invariant.3 q.ensures)
+    (omega (arith, l), q.auto.x ∙ w.invariant.1, q.auto.piece ∙ w.invariant.2, rows_more_law binary64 a.width (value_of_line a.bytes.now (a.offset + 8 * a.first) a.line a.step) a.count 0 w.r (w.r + c.least.result) c.clear.new.piece w.piece q.new.piece (omega (arith, c.if-width-eq0.false)) (omega arith) (omega arith) w.invariant.3 q.ensures)
 
 pub shape_of-piece-after-loop-r : goal.shape_of-piece-after-loop-r
-shape_of-piece-after-loop-r c = c.loop-r.invariant.2 ∙ c.clear.auto.0
+shape_of-piece-after-loop-r c = c.loop-r.invariant.2 ∙ c.clear.auto.piece
 
 pub returns-after-loop-r : goal.returns-after-loop-r
 returns-after-loop-r c =
     let clear = c.clear in
     let a = c.args in
     let w = c.loop-r in
-    lower_all binary64 a.height a.width (value_of_line a.bytes.now (a.offset + 8 * a.first) a.line a.step) a.count clear.new.0 w.piece-1 (omega (arith, c.if-width-eq0.false)) (lower_none binary64 a.height a.width (value_of_line a.bytes.now (a.offset + 8 * a.first) a.line a.step) (length a.piece-1.now) clear.new.0 c.requires.2 clear.ensures) (w.invariant.3 ∙ ap (λ (z : ℕ). block_more binary64 a.width (value_of_line a.bytes.now (a.offset + 8 * a.first) a.line a.step) a.count 0 z 0 a.width clear.new.0) (let u : w.r ≡ a.height = omega arith in u))
+    lower_all binary64 a.height a.width (value_of_line a.bytes.now (a.offset + 8 * a.first) a.line a.step) a.count clear.new.piece w.piece (omega (arith, c.if-width-eq0.false)) (lower_none binary64 a.height a.width (value_of_line a.bytes.now (a.offset + 8 * a.first) a.line a.step) (length a.piece.now) clear.new.piece c.requires.2 clear.ensures) (w.invariant.3 ∙ ap (λ (z : ℕ). block_more binary64 a.width (value_of_line a.bytes.now (a.offset + 8 * a.first) a.line a.step) a.count 0 z 0 a.width clear.new.piece) (let u : w.r ≡ a.height = omega arith in u))
 
 pub shape_of-piece-else-count-gt0 : goal.shape_of-piece-else-count-gt0
-shape_of-piece-else-count-gt0 c = c.clear.auto.0
+shape_of-piece-else-count-gt0 c = c.clear.auto.piece
 
 pub returns-else-count-gt0 : goal.returns-else-count-gt0
 returns-else-count-gt0 c =
     let clear = c.clear in
     let a = c.args in
-    lower_none binary64 a.height a.width (value_of_line a.bytes.now (a.offset + 8 * a.first) a.line a.step) (length a.piece-1.now) clear.new.0 c.requires.2 clear.ensures
+    lower_none binary64 a.height a.width (value_of_line a.bytes.now (a.offset + 8 * a.first) a.line a.step) (length a.piece.now) clear.new.piece c.requires.2 clear.ensures
     ∙ ap (lower_piece binary64 a.height a.width (value_of_line a.bytes.now (a.offset + 8 * a.first) a.line a.step)) (let u : 0 ≡ a.count = omega arith in u)
