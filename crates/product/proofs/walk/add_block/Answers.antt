@@ -36,7 +36,8 @@ below c =
     let a = c.args in
     let s = c.requires in
     let w = c.loop-c in
-    let i = within c.before.before.before.before.before.before.before.before.before.before.before in
+    let l = least_above a.width (a.r + length a.room.now) c.least-end.result c.requires.0 (omega arith) c.least-end.ensures in
+    let i : (w.c < a.width) × (w.c < a.r + length a.room.now) = (omega (arith, l, c.loop-c-test.true), omega (arith, l, c.loop-c-test.true)) in
     let e = ap (λ (z : ℕ). w.c - z) c.least.ensures in
     (some_below a.r w.c (w.c - c.least.result) e (length a.room.now) s.2.some_lines i.1, below_places a.r w.c (w.c - c.least.result) e (length a.room.now) a.width (length w.piece) s.2.some_lines i.0 i.1 (omega (arith, s.1, w.invariant.2)))
 
@@ -46,13 +47,13 @@ overflow_mul-from c = omega (arith, c.requires.1)
 pub overflow_add-from : goal.overflow_add-from
 overflow_add-from c =
     let a = c.args in
-    omega (arith, c.requires.1, row_in (a.r + length a.room.now) a.width a.r (omega arith), within c)
+    omega (arith, c.requires.1, row_in (a.r + length a.room.now) a.width a.r (omega arith), within (goal.at.overflow_add-from c).In-loop-c)
 
 pub take_out-requires : goal.take_out-requires
 take_out-requires c =
     let a = c.args in
     let w = c.loop-c in
-    λ i h. omega (arith, c.requires.1, w.invariant.1, w.invariant.2, within c.before.before.before, row_in (a.r + length a.room.now) a.width (a.r + i) (omega (arith, w.invariant.1)))
+    λ i h. omega (arith, c.requires.1, w.invariant.1, w.invariant.2, within (goal.at.take_out-requires c).In-loop-c, row_in (a.r + length a.room.now) a.width (a.r + i) (omega (arith, w.invariant.1)))
 
 pub add_products-requires : goal.add_products-requires
 add_products-requires c =
@@ -60,7 +61,7 @@ add_products-requires c =
     let s = c.requires.2 in
     let w = c.loop-c in
     let e = c.take_out.auto.dst in (
-      omega (arith, w.invariant.1, within c.before.before.before.before.before.before.before),
+      omega (arith, w.invariant.1, within (goal.at.add_products-requires c).In-loop-c),
       record {
         some_lines = omega (arith, w.invariant.1);
         not_wide = omega (arith, w.invariant.1);
@@ -88,26 +89,26 @@ pub slice_bounds-put_back-count : goal.slice_bounds-put_back-count
 slice_bounds-put_back-count c = omega arith
 
 pub slice_bounds-put_back-start : goal.slice_bounds-put_back-start
-slice_bounds-put_back-start c = omega (arith, (below c.before.before).0, c.add_products.auto.sums, c.take_out.auto.dst, c.loop-c.invariant.1)
+slice_bounds-put_back-start c = omega (arith, (below (goal.at.slice_bounds-put_back-start c).After-least).0, c.add_products.auto.sums, c.take_out.auto.dst, c.loop-c.invariant.1)
 
 pub slice_bounds-put_back-end : goal.slice_bounds-put_back-end
 slice_bounds-put_back-end c = omega arith
 
 pub overflow_mul-above : goal.overflow_mul-above
-overflow_mul-above c = omega (arith, c.well_formed.1.1.1.1.1.1.1.1.1.1.1.0.0, c.loop-c.invariant.2, (below c.before.before.before).1.0)
+overflow_mul-above c = omega (arith, c.well_formed.1.1.1.1.1.1.1.1.1.1.1.0.0, c.loop-c.invariant.2, (below (goal.at.overflow_mul-above c).After-least).1.0)
 
 pub overflow_add-from-in-loop-c : goal.overflow_add-from-in-loop-c
-overflow_add-from-in-loop-c c = omega (arith, c.well_formed.1.1.1.1.1.1.1.1.1.1.1.0.0, c.loop-c.invariant.2, (below c.before.before.before).1.1)
+overflow_add-from-in-loop-c c = omega (arith, c.well_formed.1.1.1.1.1.1.1.1.1.1.1.0.0, c.loop-c.invariant.2, (below (goal.at.overflow_add-from-in-loop-c c).After-least).1.1)
 
 pub put_back-requires : goal.put_back-requires
 put_back-requires c =
     let w = c.loop-c in
     let add-products = c.add_products in
     let R = add-products.new.sums in
-    let d = w.c - c.least2.result in
+    let d = w.c - c.least.result in
     let e : length R ≡ length c.args.room.now = add-products.auto.sums ∙ c.take_out.auto.dst ∙ w.invariant.1 in
-    let e' : length (take (length R - d) (drop d R)) ≡ length R - d = length_part d (length R - d) R (omega (arith, (below c.before.before.before.before).0)) in
-    (c.requires.0, λ i h. (below c.before.before.before.before).1.2 i (omega arith))
+    let e' : length (take (length R - d) (drop d R)) ≡ length R - d = length_part d (length R - d) R (omega (arith, (below (goal.at.put_back-requires c).After-least).0)) in
+    (c.requires.0, λ i h. (below (goal.at.put_back-requires c).After-least).1.2 i (omega arith))
 
 pub overflow_add-c : goal.overflow_add-c
 overflow_add-c c = omega arith
@@ -120,12 +121,11 @@ loop-c-preserved c =
     let s = c.requires in
     let take_out = c.take_out in
     let add-products = c.add_products in
-    let least2 = c.least2 in
     let a = c.args in
     let w = c.loop-c in
     let p = c.put_back in
-    let b = within c.before.before.before.before.before.before.before.before.before.before.before.before.before.before.before.before.before in
-    (omega (arith, c.loop-c-test.true), add-products.auto.sums ∙ take_out.auto.dst ∙ w.invariant.1, p.auto.piece ∙ w.invariant.2, column_turn binary64 a.width (value_of_line a.bytes.now a.base a.line a.step) a.n a.r (length a.room.now) w.c least2.result a.piece.now w.piece w.room take_out.new.dst add-products.new.sums p.new.piece s.2.some_lines (omega (arith, b)) (omega (arith, b)) least2.ensures (omega (arith, w.invariant.2, s.1)) w.invariant.1 take_out.ensures add-products.ensures p.auto.piece p.ensures w.invariant.3)
+    let b = within (goal.at.loop-c-preserved c).In-loop-c in
+    (omega (arith, c.loop-c-test.true), add-products.auto.sums ∙ take_out.auto.dst ∙ w.invariant.1, p.auto.piece ∙ w.invariant.2, column_turn binary64 a.width (value_of_line a.bytes.now a.base a.line a.step) a.n a.r (length a.room.now) w.c c.least.result a.piece.now w.piece w.room take_out.new.dst add-products.new.sums p.new.piece s.2.some_lines (omega (arith, b)) (omega (arith, b)) c.least.ensures (omega (arith, w.invariant.2, s.1)) w.invariant.1 take_out.ensures add-products.ensures p.auto.piece p.ensures w.invariant.3)
 
 pub shape_of-room : goal.shape_of-room
 shape_of-room c = c.loop-c.invariant.1
