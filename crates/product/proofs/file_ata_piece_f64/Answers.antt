@@ -5,7 +5,6 @@ use Rattle.product.specs.Piece.{ata_answer, ata_leaves}
 use Rattle.product.specs.Says.{piece_says}
 use Rattle.product.proofs.AnswerLaws.{accepted, columns_in, first_in, square_in, leaves_old, leaves_new, ata_says}
 use Rattle.product.proofs.PieceLaws.{ata_piece}
-use borrow.Author.Rules.{rules}
 use Rattle.product.proofs.file_ata_piece_f64.Goals as goal
 
 pub returns-in_default : goal.returns-in_default
@@ -13,7 +12,8 @@ unfolding ata_leaves
 returns-in_default c =
     let a = c.args in
     let q = c.check_piece-answer in
-    leaves_old q.result (ata_answer a.bytes.now a.offset a.row_count a.col_count a.col_start a.height a.width a.piece.now) _ a.piece.now c.in_default.keys2 (ata_says a.bytes.now a.offset a.row_count a.col_count a.col_start a.height a.width a.piece.now (piece_says q.result) q.ensures)
+    let says : piece_says q.result ≡ ata_answer a.bytes.now a.offset a.row_count a.col_count a.col_start a.height a.width a.piece.now = ata_says a.bytes.now a.offset a.row_count a.col_count a.col_start a.height a.width a.piece.now (piece_says q.result) q.ensures in
+    record { result_value = says; piece_after = (leaves_old q.result (ata_answer a.bytes.now a.offset a.row_count a.col_count a.col_start a.height a.width a.piece.now) _ a.piece.now c.in_default.not-Done says).1 }
 
 pub overflow_mul-col_start : goal.overflow_mul-col_start
 overflow_mul-col_start c =
@@ -40,9 +40,9 @@ mirror-requires c =
 pub returns : goal.returns
 unfolding ata_leaves
 returns c =
-    let enum_told = c.enum_told-1 in
     let lower-piece = c.lower_piece in
     let a = c.args in
-    let k = accepted 1 a.col_count (length a.bytes.now) a.offset a.row_count a.col_count a.col_start a.height a.width (length a.piece.now) c.check_piece-answer.result c.check_piece-answer.ensures enum_told.given.1 in
+    let k = accepted 1 a.col_count (length a.bytes.now) a.offset a.row_count a.col_count a.col_start a.height a.width (length a.piece.now) c.check_piece-answer.result c.check_piece-answer.ensures c.in-Done.is in
     let q = c.check_piece-answer in
-    leaves_new q.result (ata_answer a.bytes.now a.offset a.row_count a.col_count a.col_start a.height a.width a.piece.now) c.mirror.new.piece _ a.piece.now enum_told.given.1 (ata_says a.bytes.now a.offset a.row_count a.col_count a.col_start a.height a.width a.piece.now (piece_says q.result) q.ensures) (ata_piece a.bytes.now a.offset a.row_count a.col_count a.col_start a.height a.width lower-piece.new.piece c.mirror.new.piece (omega arith) k.narrow k.ends lower-piece.ensures c.mirror.ensures)
+    let z = leaves_new q.result (ata_answer a.bytes.now a.offset a.row_count a.col_count a.col_start a.height a.width a.piece.now) c.mirror.new.piece _ a.piece.now c.in-Done.is (ata_says a.bytes.now a.offset a.row_count a.col_count a.col_start a.height a.width a.piece.now (piece_says q.result) q.ensures) (ata_piece a.bytes.now a.offset a.row_count a.col_count a.col_start a.height a.width lower-piece.new.piece c.mirror.new.piece (omega arith) k.narrow k.ends lower-piece.ensures c.mirror.ensures) in
+    record { result_value = z.0; piece_after = z.1 }

@@ -1,7 +1,6 @@
 use mathlib.Core.Path.{sym}
 use borrow.Author.Tests.{not-true, not-false}
 use Rattle.product.proofs.CheckLaws.{answer_18, answer_20, answer_15, answer_1, answer_done}
-use borrow.Author.Rules.{rules}
 use Rattle.product.proofs.checks.check_piece.Goals as goal
 
 pub returns-then-not-counts_fit : goal.returns-then-not-counts_fit

@@ -1,6 +1,5 @@
 use mathlib.Core.Path.{◌∙◌}
 use Rattle.product.proofs.CheckLaws.{no_rows, no_columns, offset_past, bytes_by_eight}
-use borrow.Author.Rules.{rules}
 use Rattle.product.proofs.checks.enough_bytes.Goals as goal
 
 pub returns-then-row_count-eq0 : goal.returns-then-row_count-eq0

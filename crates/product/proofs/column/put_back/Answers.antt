@@ -1,8 +1,7 @@
-use mathlib.Core.Path.{◌≡◌, refl}
-use Prim.Native.Nat.{◌-◌, ◌≤◌}
+use mathlib.Core.Path.{refl}
 use native.Mathlib.Omega.{arith}
-use lib.ListN.{length, length-set}
-use Rattle.product.proofs.ColumnLaws.{PutTo, put_none, put_more}
+use lib.ListN.{length-set}
+use Rattle.product.proofs.ColumnLaws.{put_none, put_more}
 use Rattle.product.proofs.column.put_back.Goals as goal
 
 pub loop-i-init : goal.loop-i-init

@@ -1,9 +1,8 @@
 -- `put_back`: the first i values are in their places, and the other places are as they were.
-use mathlib.Core.Path.{◌≡◌, refl}
+use mathlib.Core.Path.{◌≡◌}
 use Prim.Native.Nat.{◌-◌, ◌≤◌}
-use native.Mathlib.Omega.{arith}
-use lib.ListN.{length, length-set}
-use Rattle.product.proofs.ColumnLaws.{PutTo, put_none, put_more}
+use lib.ListN.{length}
+use Rattle.product.proofs.ColumnLaws.{PutTo}
 use Rattle.product.proofs.column.put_back.Given as goal
 
 abbrev pub invariant-loop-i : goal.invariant-loop-i

@@ -1,10 +1,8 @@
-use mathlib.Core.Path.{◌≡◌, refl, ◌∙◌}
-use Prim.Native.Nat.{◌+◌, ◌-◌, ◌*◌, ◌≤◌}
+use mathlib.Core.Path.{refl, ◌∙◌}
 use native.Mathlib.Omega.{arith}
 use borrow.Author.Rules.{rules}
-use lib.ListN.{length, get_or, length-set}
-use lib.Ieee.{nan}
-use Rattle.product.proofs.InPlaceLaws.{filled, filled_none, filled_step, filled_all}
+use lib.ListN.{length-set}
+use Rattle.product.proofs.InPlaceLaws.{filled_none, filled_step, filled_all}
 use Rattle.product.proofs.column.take_out.Goals as goal
 
 pub loop-i-init : goal.loop-i-init

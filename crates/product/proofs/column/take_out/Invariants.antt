@@ -1,11 +1,9 @@
 -- `take_out`: the places before i are filled.
-use mathlib.Core.Path.{◌≡◌, refl, ◌∙◌}
+use mathlib.Core.Path.{◌≡◌}
 use Prim.Native.Nat.{◌+◌, ◌-◌, ◌*◌, ◌≤◌}
-use native.Mathlib.Omega.{arith}
-use borrow.Author.Rules.{rules}
-use lib.ListN.{length, get_or, length-set}
+use lib.ListN.{length, get_or}
 use lib.Ieee.{nan}
-use Rattle.product.proofs.InPlaceLaws.{filled, filled_none, filled_step, filled_all}
+use Rattle.product.proofs.InPlaceLaws.{filled}
 use Rattle.product.proofs.column.take_out.Given as goal
 
 abbrev pub invariant-loop-i : goal.invariant-loop-i

@@ -1,9 +1,6 @@
-use mathlib.Core.Path.{◌≡◌}
-use Prim.Native.Nat.{◌-◌, ◌≤◌}
 use native.Mathlib.Nat.{not-suc-le-zero}
 use native.Mathlib.Omega.{arith}
 use borrow.Author.Tests.{eqb-true}
-use Rattle.product.specs.Private.{NoNan}
 use Rattle.product.proofs.ByteLaws.{no_nan_more}
 use Rattle.product.proofs.floats.all_finite.Goals as goal
 

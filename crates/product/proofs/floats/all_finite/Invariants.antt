@@ -1,11 +1,7 @@
 -- `all_finite`: if no one was counted, every value so far is finite.
 use mathlib.Core.Path.{◌≡◌}
 use Prim.Native.Nat.{◌-◌, ◌≤◌}
-use native.Mathlib.Nat.{not-suc-le-zero}
-use native.Mathlib.Omega.{arith}
-use borrow.Author.Tests.{eqb-true}
 use Rattle.product.specs.Private.{NoNan}
-use Rattle.product.proofs.ByteLaws.{no_nan_more}
 use Rattle.product.proofs.floats.all_finite.Given as goal
 
 abbrev pub invariant-loop-i : goal.invariant-loop-i

@@ -1,7 +1,6 @@
 use mathlib.Core.Path.{ap, ◌∙◌}
 use lib.Ieee.{binary64, of_bits}
 use Rattle.product.specs.Values.{float_at}
-use borrow.Author.Rules.{rules}
 use Rattle.product.proofs.floats.float_at.Goals as goal
 
 pub returns : goal.returns

@@ -1,4 +1,3 @@
-use borrow.Author.Rules.{rules}
 use mathlib.Core.Path.{sym}
 use lib.Ieee.{binary64, div, of_bits}
 use Rattle.product.proofs.ByteLaws.{pattern_nan, pattern_number}

@@ -1,12 +1,6 @@
 -- `four_finite`: the runs before t are finite.
-use mathlib.Core.Path.{◌≡◌, sym, subst}
-use mathlib.Core.Logic.{⊎_elim}
 use Prim.Native.Nat.{ℕ, ◌+◌, ◌-◌, ◌*◌, ◌≤◌, ◌<◌}
-use native.Mathlib.Nat.{not-suc-le-zero}
-use native.Mathlib.Omega.{arith}
-use lib.Dec.{T}
 use Rattle.product.specs.Private.{NoNan}
-use Rattle.product.proofs.PartLaws.{below_or}
 use Rattle.product.proofs.floats.four_finite.Given as goal
 
 abbrev pub invariant-loop-t : goal.invariant-loop-t

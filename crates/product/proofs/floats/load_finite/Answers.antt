@@ -1,11 +1,10 @@
-use mathlib.Core.Path.{◌≡◌, refl, ◌∙◌}
-use Prim.Native.Nat.{◌+◌, ◌-◌, ◌*◌, ◌≤◌}
+use mathlib.Core.Path.{refl, ◌∙◌}
+use Prim.Native.Nat.{◌+◌, ◌*◌}
 use native.Mathlib.Omega.{arith}
 use borrow.Author.Rules.{rules}
 use lib.ListN.{length, length-set}
-use Rattle.product.specs.Values.{float_at}
 use Rattle.product.proofs.ByteLaws.{float_of, number_of}
-use Rattle.product.proofs.InPlaceLaws.{filled, filled_none, filled_step, filled_all}
+use Rattle.product.proofs.InPlaceLaws.{filled_none, filled_step, filled_all}
 use Rattle.product.proofs.floats.load_finite.Goals as goal
 
 pub loop-i-init : goal.loop-i-init

@@ -1,13 +1,13 @@
-use mathlib.Core.Path.{◌≡◌, refl, ◌∙◌}
-use Prim.Native.Nat.{◌+◌, ◌-◌, ◌*◌, ◌≤◌}
+use mathlib.Core.Path.{refl, ◌∙◌}
+use Prim.Native.Nat.{◌+◌, ◌*◌}
 use native.Mathlib.Omega.{arith}
 use borrow.Author.Rules.{rules}
 use lib.ListN.{length, length-set}
 use lib.Ieee.{binary64, of_bits}
 use Rattle.product.specs.Private.{run_value, spaced_value}
 use Rattle.product.proofs.ByteLaws.{float_of, number_of}
-use Rattle.product.proofs.InPlaceLaws.{filled, filled_none, filled_all}
-use Rattle.product.proofs.RowLaws.{by_four, four_step}
+use Rattle.product.proofs.InPlaceLaws.{filled_none, filled_all}
+use Rattle.product.proofs.RowLaws.{four_step}
 use Rattle.product.proofs.sums.add_finite.Goals as goal
 
 pub term-y0-requires : goal.term-y0-requires

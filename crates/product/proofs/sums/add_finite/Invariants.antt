@@ -1,14 +1,11 @@
 -- `add_finite`: the sums before place j have their products.
-use mathlib.Core.Path.{◌≡◌, refl, ◌∙◌}
-use Prim.Native.Nat.{◌+◌, ◌-◌, ◌*◌, ◌≤◌}
-use native.Mathlib.Omega.{arith}
-use borrow.Author.Rules.{rules}
-use lib.ListN.{length, length-set}
-use lib.Ieee.{binary64, of_bits}
+use mathlib.Core.Path.{◌≡◌}
+use Prim.Native.Nat.{◌-◌, ◌≤◌}
+use lib.ListN.{length}
+use lib.Ieee.{binary64}
 use Rattle.product.specs.Private.{run_value, spaced_value}
-use Rattle.product.proofs.ByteLaws.{float_of, number_of}
-use Rattle.product.proofs.InPlaceLaws.{filled, filled_none, filled_all}
-use Rattle.product.proofs.RowLaws.{by_four, four_step}
+use Rattle.product.proofs.InPlaceLaws.{filled}
+use Rattle.product.proofs.RowLaws.{by_four}
 use Rattle.product.proofs.sums.add_finite.Given as goal
 
 abbrev pub invariant-loop-j : goal.invariant-loop-j

@@ -1,13 +1,13 @@
 use mathlib.Core.Path.{◌≡◌, refl, ap, ◌∙◌}
-use Prim.Native.Nat.{ℕ, ◌+◌, ◌-◌, ◌*◌, ◌≤◌}
+use Prim.Native.Nat.{ℕ, ◌+◌, ◌*◌}
 use native.Mathlib.Omega.{arith}
 use borrow.Author.Rules.{rules}
-use lib.ListN.{length, get_or, length-set}
+use lib.ListN.{get_or, length-set}
 use lib.Ieee.{nan, binary64}
 use Rattle.product.specs.Values.{float_at}
 use Rattle.product.specs.Private.{spaced_value, tile_value}
-use Rattle.product.proofs.InPlaceLaws.{filled, filled_none, filled_all}
-use Rattle.product.proofs.RowLaws.{by_four, four_step}
+use Rattle.product.proofs.InPlaceLaws.{filled_none, filled_all}
+use Rattle.product.proofs.RowLaws.{four_step}
 use Rattle.product.proofs.sums.add_four.Goals as goal
 
 pub term-y0-requires : goal.term-y0-requires

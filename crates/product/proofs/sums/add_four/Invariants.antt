@@ -1,14 +1,11 @@
 -- `add_four`: the sums before place j have their products.
-use mathlib.Core.Path.{◌≡◌, refl, ap, ◌∙◌}
-use Prim.Native.Nat.{ℕ, ◌+◌, ◌-◌, ◌*◌, ◌≤◌}
-use native.Mathlib.Omega.{arith}
-use borrow.Author.Rules.{rules}
-use lib.ListN.{length, get_or, length-set}
-use lib.Ieee.{nan, binary64}
-use Rattle.product.specs.Values.{float_at}
+use mathlib.Core.Path.{◌≡◌}
+use Prim.Native.Nat.{◌+◌, ◌-◌, ◌≤◌}
+use lib.ListN.{length}
+use lib.Ieee.{binary64}
 use Rattle.product.specs.Private.{spaced_value, tile_value}
-use Rattle.product.proofs.InPlaceLaws.{filled, filled_none, filled_all}
-use Rattle.product.proofs.RowLaws.{by_four, four_step}
+use Rattle.product.proofs.InPlaceLaws.{filled}
+use Rattle.product.proofs.RowLaws.{by_four}
 use Rattle.product.proofs.sums.add_four.Given as goal
 
 abbrev pub invariant-loop-j : goal.invariant-loop-j

@@ -1,13 +1,13 @@
-use mathlib.Core.Path.{◌≡◌, refl, sym, ◌∙◌}
-use Prim.Native.Nat.{◌+◌, ◌-◌, ◌*◌, ◌≤◌}
+use mathlib.Core.Path.{refl, sym, ◌∙◌}
+use Prim.Native.Nat.{◌+◌, ◌*◌, ◌≤◌}
 use native.Mathlib.Nat.{mul-le-mul_right}
 use native.Mathlib.Omega.{arith}
 use borrow.Author.Rules.{rules}
-use lib.ListN.{length, get_or}
+use lib.ListN.{get_or}
 use lib.Ieee.{nan, binary64}
 use Rattle.product.specs.Private.{spaced_value, tile_value}
 use Rattle.product.proofs.GridLaws.{row_in}
-use Rattle.product.proofs.RowLaws.{rest, rest_step, rest_one, rest_none, rest_all}
+use Rattle.product.proofs.RowLaws.{rest_step, rest_one, rest_none, rest_all}
 use Rattle.product.proofs.sums.add_many.Goals as goal
 
 pub loop-i-init : goal.loop-i-init

@@ -1,14 +1,10 @@
 -- `add_many`: what is left to add to the sums.
-use mathlib.Core.Path.{◌≡◌, refl, sym, ◌∙◌}
-use Prim.Native.Nat.{◌+◌, ◌-◌, ◌*◌, ◌≤◌}
-use native.Mathlib.Nat.{mul-le-mul_right}
-use native.Mathlib.Omega.{arith}
-use borrow.Author.Rules.{rules}
-use lib.ListN.{length, get_or}
-use lib.Ieee.{nan, binary64}
+use mathlib.Core.Path.{◌≡◌}
+use Prim.Native.Nat.{◌-◌, ◌≤◌}
+use lib.ListN.{length}
+use lib.Ieee.{binary64}
 use Rattle.product.specs.Private.{spaced_value, tile_value}
-use Rattle.product.proofs.GridLaws.{row_in}
-use Rattle.product.proofs.RowLaws.{rest, rest_step, rest_one, rest_none, rest_all}
+use Rattle.product.proofs.RowLaws.{rest}
 use Rattle.product.proofs.sums.add_many.Given as goal
 
 abbrev pub invariant-loop-i : goal.invariant-loop-i

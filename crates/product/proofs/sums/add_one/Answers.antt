@@ -1,11 +1,11 @@
-use mathlib.Core.Path.{◌≡◌, refl, ◌∙◌}
-use Prim.Native.Nat.{◌+◌, ◌-◌, ◌≤◌}
+use mathlib.Core.Path.{refl, ◌∙◌}
+use Prim.Native.Nat.{◌+◌}
 use native.Mathlib.Omega.{arith}
 use borrow.Author.Rules.{rules}
-use lib.ListN.{length, get_or, length-set}
+use lib.ListN.{get_or, length-set}
 use lib.Ieee.{nan, binary64}
-use Rattle.product.proofs.InPlaceLaws.{filled, filled_none, filled_all}
-use Rattle.product.proofs.RowLaws.{with_term, term_step}
+use Rattle.product.proofs.InPlaceLaws.{filled_none, filled_all}
+use Rattle.product.proofs.RowLaws.{term_step}
 use Rattle.product.proofs.sums.add_one.Goals as goal
 
 pub loop-j-init : goal.loop-j-init

@@ -1,12 +1,10 @@
 -- `add_one`: the sums before place j have their product.
-use mathlib.Core.Path.{◌≡◌, refl, ◌∙◌}
+use mathlib.Core.Path.{◌≡◌}
 use Prim.Native.Nat.{◌+◌, ◌-◌, ◌≤◌}
-use native.Mathlib.Omega.{arith}
-use borrow.Author.Rules.{rules}
-use lib.ListN.{length, get_or, length-set}
+use lib.ListN.{length, get_or}
 use lib.Ieee.{nan, binary64}
-use Rattle.product.proofs.InPlaceLaws.{filled, filled_none, filled_all}
-use Rattle.product.proofs.RowLaws.{with_term, term_step}
+use Rattle.product.proofs.InPlaceLaws.{filled}
+use Rattle.product.proofs.RowLaws.{with_term}
 use Rattle.product.proofs.sums.add_one.Given as goal
 
 abbrev pub invariant-loop-j : goal.invariant-loop-j

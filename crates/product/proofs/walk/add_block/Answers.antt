@@ -4,7 +4,7 @@ use native.Mathlib.Nat.{min-le_left}
 use native.Mathlib.Omega.{arith}
 use lib.ListN.{length, take, drop}
 use lib.Ieee.{binary64}
-use Rattle.product.specs.Private.{value_of_line, block_more}
+use Rattle.product.specs.Private.{value_of_line}
 use Rattle.product.proofs.PartLaws.{least_above, length_part}
 use Rattle.product.proofs.GridLaws.{row_in}
 use Rattle.product.proofs.StraightLaws.{straight_part}

@@ -1,15 +1,9 @@
 -- `add_block`: the columns before c have their products.
-use mathlib.Core.Path.{◌≡◌, refl, ap, ◌∙◌}
-use Prim.Native.Nat.{ℕ, ◌+◌, ◌-◌, ◌*◌, ◌≤◌, ◌<◌}
-use native.Mathlib.Nat.{min-le_left}
-use native.Mathlib.Omega.{arith}
-use lib.ListN.{length, take, drop}
+use mathlib.Core.Path.{◌≡◌}
+use Prim.Native.Nat.{◌+◌, ◌-◌, ◌≤◌}
+use lib.ListN.{length}
 use lib.Ieee.{binary64}
 use Rattle.product.specs.Private.{value_of_line, block_more}
-use Rattle.product.proofs.PartLaws.{least_above, length_part}
-use Rattle.product.proofs.GridLaws.{row_in}
-use Rattle.product.proofs.StraightLaws.{straight_part}
-use Rattle.product.proofs.BlockLaws.{some_below, below_places, block_none, columns_all, column_turn}
 use Rattle.product.proofs.walk.add_block.Given as goal
 
 abbrev pub invariant-loop-c : goal.invariant-loop-c

@@ -32,10 +32,10 @@ fits : (c : After-least-m) →
 fits c = let l = sized c in omega arith
 
 pub overflow_add-r : goal.overflow_add-r
-overflow_add-r c = omega (arith, fits c)
+overflow_add-r c = omega (arith, fits (goal.at.overflow_add-r c).After-least-m)
 
 pub tile_terms-loaded-requires : goal.tile_terms-loaded-requires
-tile_terms-loaded-requires c = (omega (arith, sized c), λ r i h h'. c.requires.7 r i (omega (arith, fits c)) h')
+tile_terms-loaded-requires c = (omega (arith, sized (goal.at.tile_terms-loaded-requires c).After-least-m), λ r i h h'. c.requires.7 r i (omega (arith, fits (goal.at.tile_terms-loaded-requires c).After-least-m)) h')
 
 tile_room : (c : After-tile_terms-loaded) → c.tile_terms-loaded.result * c.args.g + 8 ≤ length c.loop-r.x
 tile_room c =
@@ -44,10 +44,9 @@ tile_room c =
 
 pub load_tile-requires : goal.load_tile-requires
 load_tile-requires c =
-    let least = c.before.before.before in
-    let l = sized least in
+    let l = sized (goal.at.load_tile-requires c).After-least-m in
     let s = c.requires in
-    (l.0, l.1, omega (arith, tile_room c.before.before), λ r' i h h'. s.7 r' i (omega (arith, fits least)) (omega (arith, c.tile_terms-loaded.ensures.0)))
+    (l.0, l.1, omega (arith, tile_room (goal.at.load_tile-requires c).After-tile_terms-loaded), λ r' i h h'. s.7 r' i (omega (arith, fits (goal.at.load_tile-requires c).After-least-m)) (omega (arith, c.tile_terms-loaded.ensures.0)))
 
 pub slice_bounds-add_block-count : goal.slice_bounds-add_block-count
 slice_bounds-add_block-count c = omega arith
@@ -56,51 +55,48 @@ pub slice_bounds-room-start : goal.slice_bounds-room-start
 slice_bounds-room-start c = omega arith
 
 pub slice_bounds-room-end : goal.slice_bounds-room-end
-slice_bounds-room-end c = omega (arith, c.loop-r.invariant.3, c.requires.1, sized c.before.before.before.before.before.before.before)
+slice_bounds-room-end c = omega (arith, c.loop-r.invariant.3, c.requires.1, sized (goal.at.slice_bounds-room-end c).After-least-m)
 
 pub add_block-requires : goal.add_block-requires
 add_block-requires c =
     let load-tile = c.load_tile in
-    let tile = c.before.before.before.before.before.before.before.before in
-    let least = tile.before in
     let s = c.requires in
     let a = c.args in
     let w = c.loop-r in
-    let m = least.least.result in
-    let l = sized least in
+    let m = c.least-m.result in
+    let l = sized (goal.at.add_block-requires c).After-least-m in
     let e : length (take (m - 0) w.room) ≡ m = length-take-le (m - 0) w.room (omega (arith, w.invariant.3, l, s.1)) ∙ (let z : m - 0 ≡ m = omega arith in z) in (
       s.4,
-      omega (arith, s.6, w.invariant.4, ap (λ (z : ℕ). (w.r + z) * a.width) e, mul-le-mul_right a.width (fits least)),
+      omega (arith, s.6, w.invariant.4, ap (λ (z : ℕ). (w.r + z) * a.width) e, mul-le-mul_right a.width (fits (goal.at.add_block-requires c).After-least-m)),
       record {
         some_lines = omega (arith, l);
         not_wide = omega (arith, l);
         some_terms = s.2;
-        ends = omega (arith, fits least);
-        tile_room = omega (arith, tile_room tile, load-tile.auto.x);
-        lines_in = λ r' i h h'. s.7 r' i (omega (arith, fits least)) h';
+        ends = omega (arith, fits (goal.at.add_block-requires c).After-least-m);
+        tile_room = omega (arith, tile_room (goal.at.add_block-requires c).After-tile_terms-loaded, load-tile.auto.x);
+        lines_in = λ r' i h h'. s.7 r' i (omega (arith, fits (goal.at.add_block-requires c).After-least-m)) h';
         tile_has = λ i j h h'. load-tile.ensures i j h (omega (arith, l));
-        else_straight = subst (λ (z : ℕ). LoadedOrStraight a.bytes.now a.base a.line a.step a.n tile.tile_terms.result w.r (w.r + z)) (sym e) tile.tile_terms.ensures.1;
+        else_straight = subst (λ (z : ℕ). LoadedOrStraight a.bytes.now a.base a.line a.step a.n c.tile_terms-loaded.result w.r (w.r + z)) (sym e) c.tile_terms-loaded.ensures.1;
       },
     )
 
 pub overflow_add-r-in-loop-r : goal.overflow_add-r-in-loop-r
-overflow_add-r-in-loop-r c = omega (arith, fits c.before.before.before.before.before.before.before.before.before.before.before.before.before)
+overflow_add-r-in-loop-r c = omega (arith, fits (goal.at.overflow_add-r-in-loop-r c).After-least-m)
 
 pub loop-r-smaller : goal.loop-r-smaller
-loop-r-smaller c = omega (arith, sized c.before.before.before.before.before.before.before.before.before.before.before.before.before)
+loop-r-smaller c = omega (arith, sized (goal.at.loop-r-smaller c).After-least-m)
 
 pub loop-r-preserved : goal.loop-r-preserved
 loop-r-preserved c =
-    let least = c.before.before.before.before.before.before.before.before.before.before.before.before.before in
     let s = c.requires in
     let a = c.args in
     let w = c.loop-r in
-    let m = least.least.result in
+    let m = c.least-m.result in
     let q = c.add_block in
-    let l = sized least in
+    let l = sized (goal.at.loop-r-preserved c).After-least-m in
     let e : length (take (m - 0) w.room) ≡ m = length-take-le (m - 0) w.room (omega (arith, w.invariant.3, l, s.1)) ∙ (let z : m - 0 ≡ m = omega arith in z) in (
       omega (arith, w.invariant.0),
-      fits least,
+      fits (goal.at.loop-r-preserved c).After-least-m,
       c.load_tile.auto.x ∙ w.invariant.2,
       length_front w.room q.new.room (m - 0) q.auto.room ∙ w.invariant.3,
       q.auto.piece ∙ w.invariant.4,

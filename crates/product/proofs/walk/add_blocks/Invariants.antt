@@ -1,14 +1,9 @@
 -- `add_blocks`: the rows before r have their products.
-use mathlib.Core.Path.{◌≡◌, refl, sym, ap, subst, ◌∙◌}
-use Prim.Native.Nat.{ℕ, ◌+◌, ◌-◌, ◌*◌, ◌≤◌, ◌<◌}
-use native.Mathlib.Nat.{mul-le-mul_right}
-use native.Mathlib.Omega.{arith}
-use lib.ListN.{length, take}
-use lib.Seq.{length-take-le, length_front}
+use mathlib.Core.Path.{◌≡◌}
+use Prim.Native.Nat.{◌-◌, ◌≤◌}
+use lib.ListN.{length}
 use lib.Ieee.{binary64}
-use Rattle.product.specs.Private.{value_of_line, LoadedOrStraight, block_more}
-use Rattle.product.proofs.PartLaws.{least_above}
-use Rattle.product.proofs.BlockLaws.{block_none, rows_more_law}
+use Rattle.product.specs.Private.{value_of_line, block_more}
 use Rattle.product.proofs.walk.add_blocks.Given as goal
 
 abbrev pub invariant-loop-r : goal.invariant-loop-r

@@ -2,7 +2,6 @@ use mathlib.Core.Path.{◌≡◌, refl, ap, ◌∙◌}
 use Prim.Native.Nat.{ℕ, ◌+◌, ◌-◌, ◌≤◌, ◌<◌}
 use native.Mathlib.Nat.{mul-le-mul_right}
 use native.Mathlib.Omega.{arith}
-use lib.ListN.{length}
 use lib.Ieee.{binary64}
 use Rattle.product.specs.Private.{value_of_line, block_more}
 use Rattle.product.proofs.PartLaws.{least_above}
@@ -36,10 +35,9 @@ place-at-requires c = omega (arith, c.requires.4 0 c.loop-k.k (omega arith) (ome
 
 pub add_blocks-requires : goal.add_blocks-requires
 add_blocks-requires c =
-    let least = c.before.before.before.before in
     let s = c.requires in
     let w = c.loop-k in
-    let l = sized least in
+    let l = sized (goal.at.add_blocks-requires c).After-least-n in
     let g = c.block_rows-g in
     let p = c.pass_terms-terms in (
       g.ensures.0,
@@ -53,10 +51,10 @@ add_blocks-requires c =
     )
 
 pub overflow_add-k : goal.overflow_add-k
-overflow_add-k c = omega (arith, sized c.before.before.before.before.before.before.before.before.before)
+overflow_add-k c = omega (arith, sized (goal.at.overflow_add-k c).After-least-n)
 
 pub loop-k-smaller : goal.loop-k-smaller
-loop-k-smaller c = omega (arith, sized c.before.before.before.before.before.before.before.before.before)
+loop-k-smaller c = omega (arith, sized (goal.at.loop-k-smaller c).After-least-n)
 
 pub loop-k-preserved : goal.loop-k-preserved
 loop-k-preserved c =
@@ -64,7 +62,7 @@ loop-k-preserved c =
     let a = c.args in
     let w = c.loop-k in
     let q = c.add_blocks in
-    let l = sized c.before.before.before.before.before.before.before.before.before in (
+    let l = sized (goal.at.loop-k-preserved c).After-least-n in (
       omega (arith, l),
       q.auto.x ∙ w.invariant.1,
       q.auto.piece ∙ w.invariant.2,

@@ -1,14 +1,9 @@
 -- `add_terms`: the first k terms are in.
-use mathlib.Core.Path.{◌≡◌, refl, ap, ◌∙◌}
-use Prim.Native.Nat.{ℕ, ◌+◌, ◌-◌, ◌≤◌, ◌<◌}
-use native.Mathlib.Nat.{mul-le-mul_right}
-use native.Mathlib.Omega.{arith}
+use mathlib.Core.Path.{◌≡◌}
+use Prim.Native.Nat.{◌-◌, ◌≤◌}
 use lib.ListN.{length}
 use lib.Ieee.{binary64}
 use Rattle.product.specs.Private.{value_of_line, block_more}
-use Rattle.product.proofs.PartLaws.{least_above}
-use Rattle.product.proofs.LowerLaws.{line_from}
-use Rattle.product.proofs.BlockLaws.{block_zero, block_terms}
 use Rattle.product.proofs.walk.add_terms.Given as goal
 
 abbrev pub invariant-loop-k : goal.invariant-loop-k

@@ -1,11 +1,9 @@
-use mathlib.Core.Path.{◌≡◌, refl, ◌∙◌}
-use Prim.Native.Nat.{◌-◌, ◌≤◌}
+use mathlib.Core.Path.{refl, ◌∙◌}
 use native.Mathlib.Omega.{arith}
 use borrow.Author.Rules.{rules}
-use lib.ListN.{length, length-set}
+use lib.ListN.{length-set}
 use lib.Ieee.{of_bits}
-use Rattle.product.specs.Dot.{plus_zero}
-use Rattle.product.proofs.InPlaceLaws.{filled, filled_none, filled_step, filled_all}
+use Rattle.product.proofs.InPlaceLaws.{filled_none, filled_step, filled_all}
 use Rattle.product.proofs.walk.clear.Goals as goal
 
 pub loop-i-init : goal.loop-i-init

@@ -48,7 +48,7 @@ sized c =
     least_above rows-together.result (c.args.height - c.loop-r.r) c.least.result rows-together.ensures (omega arith) c.least.ensures
 
 pub overflow_add-bottom : goal.overflow_add-bottom
-overflow_add-bottom c = omega (arith, sized c)
+overflow_add-bottom c = omega (arith, least_above c.rows_together-rows.result (c.args.height - c.loop-r.r) c.least.result c.rows_together-rows.ensures (omega arith) c.least.ensures)
 
 pub slice_bounds-add_terms-end : goal.slice_bounds-add_terms-end
 slice_bounds-add_terms-end c = sym c.loop-r.invariant.1
@@ -58,18 +58,18 @@ add_terms-requires c =
     let a = c.args in
     let s = c.requires in
     let w = c.loop-r in
-    let l = sized c.before.before.before in
+    let l = sized (goal.at.add_terms-requires c).After-least in
     (omega (arith, w.invariant.1), omega (arith, c.if-width-eq0.false), omega (arith, l), omega (arith, s.2, w.invariant.2, c.clear.auto.piece, mul-le-mul_right a.width (let u : w.r + c.least.result ≤ a.height = omega (arith, l) in u)), λ r i h h'. s.3 r i (omega (arith, l)) h')
 
 pub loop-r-smaller : goal.loop-r-smaller
-loop-r-smaller c = omega (arith, sized c.before.before.before.before.before.before.before)
+loop-r-smaller c = omega (arith, sized (goal.at.loop-r-smaller c).After-least)
 
 pub loop-r-preserved : goal.loop-r-preserved
 loop-r-preserved c =
     let a = c.args in
     let w = c.loop-r in
     let q = c.add_terms in
-    let l = sized c.before.before.before.before.before.before.before in
+    let l = sized (goal.at.loop-r-preserved c).After-least in
     (omega (arith, l), q.auto.x ∙ w.invariant.1, q.auto.piece ∙ w.invariant.2, rows_more_law binary64 a.width (value_of_line a.bytes.now (a.offset + 8 * a.first) a.line a.step) a.count 0 w.r (w.r + c.least.result) c.clear.new.piece w.piece q.new.piece (omega (arith, c.if-width-eq0.false)) (omega arith) (omega arith) w.invariant.3 q.ensures)
 
 pub shape_of-piece-after-loop-r : goal.shape_of-piece-after-loop-r

@@ -1,14 +1,9 @@
 -- `lower_piece`: the rows before r have all their terms.
-use mathlib.Core.Path.{◌≡◌, refl, sym, ap, ◌∙◌}
-use Prim.Native.Nat.{ℕ, ◌+◌, ◌-◌, ◌*◌, ◌≤◌, ◌<◌}
-use native.Mathlib.Nat.{mul-le-mul_right}
-use native.Mathlib.Omega.{arith}
+use mathlib.Core.Path.{◌≡◌}
+use Prim.Native.Nat.{◌-◌, ◌≤◌}
 use lib.ListN.{length}
 use lib.Ieee.{binary64}
-use Rattle.product.specs.Private.{value_of_line, block_more, lower_piece}
-use Rattle.product.proofs.PartLaws.{least_above}
-use Rattle.product.proofs.BlockLaws.{block_none, rows_more_law}
-use Rattle.product.proofs.LowerLaws.{lower_none, lower_empty, lower_all}
+use Rattle.product.specs.Private.{value_of_line, block_more}
 use Rattle.product.proofs.walk.lower_piece.Given as goal
 
 abbrev pub invariant-loop-r : goal.invariant-loop-r

@@ -1,8 +1,8 @@
 use mathlib.Core.Path.{◌≡◌, refl, sym, ap, ◌∙◌}
-use Prim.Native.Nat.{ℕ, ◌+◌, ◌-◌, ◌*◌, ◌≤◌, ◌<◌}
+use Prim.Native.Nat.{ℕ, ◌+◌, ◌*◌, ◌≤◌}
 use native.Mathlib.Nat.{zero-mul}
 use native.Mathlib.Omega.{arith}
-use lib.ListN.{length, length-set}
+use lib.ListN.{length-set}
 use Rattle.product.proofs.GridLaws.{row_in}
 use Rattle.product.proofs.MirrorLaws.{mirrored, mirrored_none, mirrored_all, mirrored_skip, mirrored_step}
 use Rattle.product.proofs.walk.mirror.Goals as goal

@@ -1,10 +1,7 @@
-use mathlib.Core.Path.{◌≡◌, refl, sym, ap, ◌∙◌}
-use Prim.Native.Nat.{ℕ, ◌+◌, ◌-◌, ◌*◌, ◌≤◌, ◌<◌}
-use native.Mathlib.Nat.{zero-mul}
-use native.Mathlib.Omega.{arith}
-use lib.ListN.{length, length-set}
-use Rattle.product.proofs.GridLaws.{row_in}
-use Rattle.product.proofs.MirrorLaws.{mirrored, mirrored_none, mirrored_all, mirrored_skip, mirrored_step}
+use mathlib.Core.Path.{◌≡◌}
+use Prim.Native.Nat.{◌+◌, ◌-◌, ◌*◌, ◌≤◌, ◌<◌}
+use lib.ListN.{length}
+use Rattle.product.proofs.MirrorLaws.{mirrored}
 use Rattle.product.proofs.walk.mirror.Given as goal
 
 abbrev pub invariant-loop-c : goal.invariant-loop-c

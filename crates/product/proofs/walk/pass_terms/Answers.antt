@@ -1,6 +1,5 @@
 use native.Mathlib.Nat.{div-mul-le_self}
 use native.Mathlib.Omega.{arith}
-use borrow.Author.Rules.{rules}
 use lib.Ieee.Nearest.{div_mono}
 use Rattle.product.proofs.walk.pass_terms.Goals as goal
 

@@ -1,7 +1,6 @@
 -- `tile_terms`: no terms only where the products can be formed straight from the bytes.
 use Prim.Native.Nat.{◌+◌, ◌-◌}
 use native.Mathlib.Omega.{arith}
-use borrow.Author.Rules.{rules}
 use lib.ListN.{length}
 use Rattle.product.proofs.StraightLaws.{straight_fits, runs_straight}
 use Rattle.product.proofs.walk.tile_terms.Goals as goal
