@@ -1,0 +1,14 @@
+-- The places so far have what their words stand for.
+use mathlib.Core.Path.{refl, ap, ◌∙◌}
+use Prim.Native.Nat.{ℕ, ◌-◌, ◌%◌}
+use native.Mathlib.Omega.{arith}
+use borrow.Author.Rules.{rules}
+use Rattle.stored_list.specs.Words.{word_at}
+use Rattle.stored_list.proofs.FillLaws.{Filled, filled_none, filled_one, filled_all}
+use Rattle.stored_list.proofs.buffers.bytes_at.Given as goal
+
+abbrev pub invariant-loop-i : goal.invariant-loop-i
+invariant-loop-i l = Filled 0 (λ k. word_at l.words l.section k % 256) 64 l.i l.out
+
+abbrev pub decreases-loop-i : goal.decreases-loop-i
+decreases-loop-i l = 64 - l.i
