@@ -1,9 +1,7 @@
 use mathlib.Core.Path.{refl, ap, ◌∙◌}
-use Prim.Native.Nat.{ℕ, ◌-◌, ◌%◌}
+use Prim.Native.Nat.{ℕ, ◌%◌}
 use native.Mathlib.Omega.{arith}
-use borrow.Author.Rules.{rules}
-use Rattle.stored_list.specs.Words.{word_at}
-use Rattle.stored_list.proofs.FillLaws.{Filled, filled_none, filled_one, filled_all}
+use Rattle.stored_list.proofs.FillLaws.{filled_none, filled_one, filled_all}
 use Rattle.stored_list.proofs.buffers.bytes_at.Goals as goal
 
 pub loop-i-init : goal.loop-i-init

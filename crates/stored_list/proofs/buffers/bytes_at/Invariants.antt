@@ -1,10 +1,7 @@
 -- The places so far have what their words stand for.
-use mathlib.Core.Path.{refl, ap, ◌∙◌}
-use Prim.Native.Nat.{ℕ, ◌-◌, ◌%◌}
-use native.Mathlib.Omega.{arith}
-use borrow.Author.Rules.{rules}
+use Prim.Native.Nat.{◌-◌, ◌%◌}
 use Rattle.stored_list.specs.Words.{word_at}
-use Rattle.stored_list.proofs.FillLaws.{Filled, filled_none, filled_one, filled_all}
+use Rattle.stored_list.proofs.FillLaws.{Filled}
 use Rattle.stored_list.proofs.buffers.bytes_at.Given as goal
 
 abbrev pub invariant-loop-i : goal.invariant-loop-i

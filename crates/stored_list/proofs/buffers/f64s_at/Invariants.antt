@@ -1,11 +1,8 @@
 -- The places so far have what their words stand for.
-use mathlib.Core.Path.{refl, ap, ◌∙◌}
 use Prim.Native.Nat.{◌-◌}
 use lib.Ieee.{nan, binary64, of_bits}
-use native.Mathlib.Omega.{arith}
-use borrow.Author.Rules.{rules}
 use Rattle.stored_list.specs.Words.{word_at}
-use Rattle.stored_list.proofs.FillLaws.{Filled, filled_none, filled_one, filled_all}
+use Rattle.stored_list.proofs.FillLaws.{Filled}
 use Rattle.stored_list.proofs.buffers.f64s_at.Given as goal
 
 abbrev pub invariant-loop-i : goal.invariant-loop-i

@@ -1,14 +1,10 @@
 -- The places so far have what their words stand for.
-use mathlib.Core.Path.{refl}
 use Prim.Native.Nat.{◌-◌}
 use lib.IntN.{pos}
 use mir.Syntax.{w64}
 use mir.Val.{to_z}
-use Rattle.stored_list.proofs.SignedLaws.{stored_word}
-use native.Mathlib.Omega.{arith}
-use borrow.Author.Rules.{rules}
 use Rattle.stored_list.specs.Words.{word_at}
-use Rattle.stored_list.proofs.FillLaws.{Filled, filled_none, filled_one, filled_all}
+use Rattle.stored_list.proofs.FillLaws.{Filled}
 use Rattle.stored_list.proofs.buffers.i64s_at.Given as goal
 
 abbrev pub invariant-loop-i : goal.invariant-loop-i

@@ -1,13 +1,8 @@
 use mathlib.Core.Path.{refl}
-use Prim.Native.Nat.{◌-◌, ◌%◌}
 use lib.IntN.{pos}
-use mir.Syntax.{w8}
-use mir.Val.{to_z}
 use Rattle.stored_list.proofs.SignedLaws.{stored_byte}
 use native.Mathlib.Omega.{arith}
-use borrow.Author.Rules.{rules}
-use Rattle.stored_list.specs.Words.{word_at}
-use Rattle.stored_list.proofs.FillLaws.{Filled, filled_none, filled_one, filled_all}
+use Rattle.stored_list.proofs.FillLaws.{filled_none, filled_one, filled_all}
 use Rattle.stored_list.proofs.buffers.i8s_at.Goals as goal
 
 pub loop-i-init : goal.loop-i-init

@@ -1,9 +1,5 @@
-use Prim.Native.Nat.{◌-◌}
 use native.Mathlib.Omega.{arith}
-use borrow.Author.Rules.{rules}
-use lib.ListN.{length}
-use Rattle.stored_list.specs.Words.{word_at}
-use Rattle.stored_list.proofs.SameLaws.{Same, same_none, other_length, same_one, other_word, same_all}
+use Rattle.stored_list.proofs.SameLaws.{same_none, other_length, same_one, other_word, same_all}
 use Rattle.stored_list.proofs.buffers.same_bytes.Goals as goal
 
 pub returns-then-got-length : goal.returns-then-got-length

@@ -1,11 +1,9 @@
 -- The elements so far have the words that stand there.
 use Prim.Native.Nat.{◌-◌}
-use lib.Ieee.{nan, binary64, to_bits}
-use native.Mathlib.Omega.{arith}
-use borrow.Author.Rules.{rules}
+use lib.Ieee.{binary64, to_bits}
 use lib.ListN.{length}
 use Rattle.stored_list.specs.Words.{word_at}
-use Rattle.stored_list.proofs.SameLaws.{Same, same_none, other_length, same_one, other_word, same_all}
+use Rattle.stored_list.proofs.SameLaws.{Same}
 use Rattle.stored_list.proofs.buffers.same_f64s.Given as goal
 
 abbrev pub invariant-loop-i : goal.invariant-loop-i

@@ -1,14 +1,11 @@
-use Prim.Native.Nat.{◌-◌, ◌%◌}
+use Prim.Native.Nat.{◌%◌}
 use lib.IntN.{pos}
 use mir.Syntax.{w8}
 use mir.Val.{of_z}
 use Rattle.stored_list.proofs.SignedLaws.{held_byte}
 use mathlib.Core.Path.{refl}
 use native.Mathlib.Omega.{arith}
-use borrow.Author.Rules.{rules}
-use lib.ListN.{length}
-use Rattle.stored_list.specs.Words.{word_at}
-use Rattle.stored_list.proofs.SameLaws.{Same, same_none, other_length, same_one, other_word, same_all}
+use Rattle.stored_list.proofs.SameLaws.{same_none, other_length, same_one, other_word, same_all}
 use Rattle.stored_list.proofs.buffers.same_i8s.Goals as goal
 
 pub returns-then-got-length : goal.returns-then-got-length

@@ -1,7 +1,6 @@
 -- `close`, by its test.
 use mathlib.Core.Path.{◌∙◌}
 use Rattle.stored_list.proofs.LineLaws.{section_many, section_more}
-use borrow.Author.Rules.{rules}
 use Rattle.stored_list.proofs.line.close.Goals as goal
 
 pub returns-then-sections-gt10 : goal.returns-then-sections-gt10

@@ -1,6 +1,5 @@
 -- `digit`, by its tests.
 use Rattle.stored_list.proofs.LineLaws.{digit_below, digit_number, digit_between, digit_letter, digit_above}
-use borrow.Author.Rules.{rules}
 use Rattle.stored_list.proofs.line.digit.Goals as goal
 
 pub returns-then-byte-lt48 : goal.returns-then-byte-lt48

@@ -1,7 +1,6 @@
 -- `digit_read`, by its tests.
 use mathlib.Core.Path.{◌∙◌}
 use Rattle.stored_list.proofs.LineLaws.{digit_none, digit_full, digit_more}
-use borrow.Author.Rules.{rules}
 use Rattle.stored_list.proofs.line.digit_read.Goals as goal
 
 pub returns-then-digit-gt15 : goal.returns-then-digit-gt15

@@ -1,7 +1,6 @@
 -- `hash`, by its tests.
 use mathlib.Core.Path.{◌∙◌}
 use Rattle.stored_list.proofs.LineLaws.{hash_section, hash_count, hash_word, hash_new}
-use borrow.Author.Rules.{rules}
 use Rattle.stored_list.proofs.line.hash.Goals as goal
 
 pub returns-then-line-gt0 : goal.returns-then-line-gt0

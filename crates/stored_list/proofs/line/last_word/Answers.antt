@@ -1,7 +1,6 @@
 -- `last_word`, by its tests.
 use mathlib.Core.Path.{◌∙◌}
 use Rattle.stored_list.proofs.LineLaws.{last_is, last_bad, last_none, last_stored_law}
-use borrow.Author.Rules.{rules}
 use Rattle.stored_list.proofs.line.last_word.Goals as goal
 
 pub returns-then-line : goal.returns-then-line

@@ -2,7 +2,6 @@
 use mathlib.Core.Path.{ap, ◌∙◌}
 use Rattle.stored_list.specs.Lines.{closed, line_after, words_after}
 use Rattle.stored_list.proofs.LineLaws.{by_comment, by_hash, by_space, by_bar, by_feed, by_other, closed_both}
-use borrow.Author.Rules.{rules}
 use Rattle.stored_list.proofs.line.step.Goals as goal
 
 pub returns-then-line : goal.returns-then-line

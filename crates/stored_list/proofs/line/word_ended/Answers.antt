@@ -2,7 +2,6 @@
 use mathlib.Core.Path.{◌∙◌}
 use Rattle.stored_list.specs.Lines.{word_ended, word_stored}
 use Rattle.stored_list.proofs.LineLaws.{no_word, no_section, no_place, has_word}
-use borrow.Author.Rules.{rules}
 use Rattle.stored_list.proofs.line.word_ended.Goals as goal
 
 pub returns-then-not-line : goal.returns-then-not-line

@@ -1,6 +1,5 @@
 -- What equals itself is no NaN.
 use Rattle.stored_list.proofs.FloatLaws.{nan_bits, is_number}
-use borrow.Author.Rules.{rules}
 use Rattle.stored_list.proofs.words.bits_of.Goals as goal
 
 pub returns-then-v : goal.returns-then-v

@@ -2,7 +2,6 @@
 use mathlib.Core.Path.{sym}
 use lib.Ieee.{binary64, div, of_bits}
 use Rattle.product.proofs.ByteLaws.{pattern_nan, pattern_number}
-use borrow.Author.Rules.{rules}
 use Rattle.stored_list.proofs.words.float_of.Goals as goal
 
 pub returns-then-word-gt9218868437227405312 : goal.returns-then-word-gt9218868437227405312

@@ -3,7 +3,6 @@ use Prim.Native.Nat.{◌-◌, ◌%◌}
 use native.Mathlib.Omega.{arith}
 use mir.Syntax.{w8}
 use Rattle.stored_list.proofs.SignedLaws.{fits_back, signed_is}
-use borrow.Author.Rules.{rules}
 use Rattle.stored_list.proofs.words.signed8.Goals as goal
 
 pub overflow_sub-result-else-byte-lt128 : goal.overflow_sub-result-else-byte-lt128

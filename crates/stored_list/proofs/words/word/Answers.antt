@@ -1,6 +1,5 @@
 -- `word`, by its tests.
 use Rattle.stored_list.proofs.WordLaws.{word_out, word_past, word_is}
-use borrow.Author.Rules.{rules}
 use Rattle.stored_list.proofs.words.word.Goals as goal
 
 pub returns-then-section-gt10 : goal.returns-then-section-gt10
