@@ -2,7 +2,7 @@
 use mathlib.Core.Path.{◌≡◌, refl, sym, ap, ◌∙◌, subst}
 use mathlib.Core.Bool.{false}
 use mathlib.Core.List.{List, [], ◌∷◌}
-use Prim.Native.Nat.{ℕ, ◌-◌, ◌≤◌, ◌<◌}
+use Prim.Native.Nat.{ℕ, ◌≤◌, ◌<◌}
 use native.Mathlib.Omega.{arith}
 use borrow.Author.Tests.{eq-eqb, ne_eqb, le-leb, lt-leb}
 use lib.IntN.{ℤ, pos}
@@ -12,7 +12,6 @@ use Rattle.index.specs.declared.range.RangeAny.{RangeAny}
 use Rattle.index.specs.declared.slice.RangeNdSlice.{RangeNdSlice}
 use Rattle.index.specs.declared.slice.SliceInfo1.{SliceInfo1}
 use Rattle.index.specs.declared.Index.{Index}
-use Rattle.index.specs.declared.Index.TheVariants as Index
 use Rattle.index.specs.Numbers.{marked, range_list, slice_list, index_list}
 use Rattle.index.specs.Checks.{check_range, check_slice, check_index, list_answer, list_buffer, index_answer, index_buffer}
 use Rattle.index.specs.Private.{walk_of, Walk, numbers, Listed, Checked}

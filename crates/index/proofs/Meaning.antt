@@ -13,7 +13,6 @@ use Rattle.answer.proofs.Tabulate.{length_tabulate, get_d_tabulate}
 use Rattle.index.specs.declared.Index.{Index}
 use Rattle.index.specs.declared.range.Bound.TheVariants as Bound
 use Rattle.index.specs.declared.slice.SliceEnd.TheVariants as SliceEnd
-use Rattle.index.specs.declared.Index.TheVariants as Index
 use Rattle.index.specs.Numbers.{numbers_below, distances, forward, backward, stepped, slice_list, slice_end, from_count, index_list, bound_or, range_list, marked}
 use Rattle.index.specs.Private.{steps_below}
 use Rattle.index.specs.Checks.{check_index, check_slice, check_end, check_range, check_bound, list_answer, list_buffer, index_answer, index_buffer, range_answer}

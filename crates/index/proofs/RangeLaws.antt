@@ -11,7 +11,6 @@ use Rattle.answer.specs.Answer.{Answer, done, refused, check, check_count, count
 use Rattle.index.specs.declared.range.Bound.{Bound}
 use Rattle.index.specs.declared.range.RangeAny.{RangeAny}
 use Rattle.index.specs.declared.slice.RangeNdSlice.{RangeNdSlice}
-use Rattle.index.specs.declared.range.Bound.TheVariants as Bound
 use Rattle.index.specs.Numbers.{bound_or, range_list}
 use Rattle.index.specs.Checks.{check_bound, check_range, range_answer}
 use Rattle.index.specs.Private.{walk_of, Walk, numbers, Listed, Checked}

@@ -17,8 +17,6 @@ use Rattle.index.specs.declared.slice.RangeNdSlice.{RangeNdSlice}
 use Rattle.index.specs.declared.slice.SliceInfo1.{SliceInfo1}
 use Rattle.index.specs.declared.slice.SliceEnd.{SliceEnd}
 use Rattle.index.specs.declared.slice.NewSlice.{NewSlice}
-use Rattle.index.specs.declared.slice.SliceEnd.TheVariants as SliceEnd
-use Rattle.index.specs.declared.slice.NewSlice.TheVariants as NewSlice
 use Rattle.index.specs.Numbers.{from_count, slice_end, stepped, slice_list}
 use Rattle.index.specs.Checks.{check_end, check_slice}
 use Rattle.index.specs.Private.{walk_of, Walk, steps_below, slice_number, numbers, MakesSlice, Listed, Checked}

@@ -6,9 +6,6 @@ use Rattle.index.specs.declared.slice.SliceEnd.{SliceEnd}
 use Rattle.index.specs.declared.range.RangeAny.{RangeAny}
 use Rattle.index.specs.declared.slice.SliceInfo1.{SliceInfo1}
 use Rattle.index.specs.declared.Index.{Index}
-use Rattle.index.specs.declared.range.Bound.TheVariants as Bound
-use Rattle.index.specs.declared.slice.SliceEnd.TheVariants as SliceEnd
-use Rattle.index.specs.declared.Index.TheVariants as Index
 
 -- the numbers below n that pass a test, ascending
 unfoldable pub numbers_below : ℕ → (ℕ → Bool) → List ℕ

@@ -5,7 +5,6 @@ use Rattle.answer.specs.Lists.{tabulate}
 use Rattle.index.specs.declared.slice.RangeNdSlice.{RangeNdSlice}
 use Rattle.index.specs.declared.slice.NewSlice.{NewSlice}
 use Rattle.index.specs.declared.slice.SliceInfo1.{SliceInfo1}
-use Rattle.index.specs.declared.slice.NewSlice.TheVariants as NewSlice
 use Rattle.index.specs.Numbers.{slice_list}
 use Rattle.index.specs.Checks.{check_slice, list_answer, list_buffer}
 

@@ -3,8 +3,6 @@ use Rattle.std.specs.Prelude.{[], ◌∷◌, pos}
 use Rattle.answer.specs.Answer.{Answer, done, refused}
 use Rattle.index.specs.declared.ListAnswer.{ListAnswer}
 use Rattle.index.specs.declared.range.RangeAnswer.{RangeAnswer}
-use Rattle.index.specs.declared.ListAnswer.TheVariants as ListAnswer
-use Rattle.index.specs.declared.range.RangeAnswer.TheVariants as RangeAnswer
 
 abbrev pub list_says : ListAnswer → Answer
 list_says (ListAnswer.Length n) = done (pos n ∷ [])

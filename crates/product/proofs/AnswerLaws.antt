@@ -1,24 +1,21 @@
 -- From the checks of a piece to what the two calls answer and leave.
 use mathlib.Core.Path.{◌≡◌, refl, sym, ap, ◌∙◌}
 use mathlib.Core.Bool.{Bool, true, false, ◌&&◌}
-use mathlib.Core.List.{List, [], ◌∷◌}
+use mathlib.Core.List.{List, []}
 use mathlib.Core.Logic.{⊎_elim}
-use Prim.Native.Nat.{ℕ, ◌+◌, ◌-◌, ◌*◌, ◌≤◌, ◌<◌}
+use Prim.Native.Nat.{ℕ, ◌+◌, ◌*◌, ◌≤◌, ◌<◌}
 use native.Mathlib.Nat.{mul-le-mul_right}
 use native.Mathlib.Omega.{arith}
 use lib.Dec.{leb, ltb, eqb}
 use lib.ListN.{length}
 use lib.Ieee.{Float}
 use borrow.Author.Tests.{ltb-true, leb-true, eqb-true, lt-ltb, le-ltb, le-leb, lt-leb, ne_eqb}
-use denote.Enum.Declared.{tag_of}
-use types.Run.{OneOf}
 use Rattle.answer.specs.Answer.{Answer, done, check, if_done}
 use Rattle.answer.proofs.Tests.{both_true}
 use Rattle.product.specs.Piece.{good_piece, enough_bytes, piece_answer, ata_answer, aat_answer}
 use Rattle.product.specs.Says.{piece_says}
 use Rattle.product.specs.Private.{LinesIn}
 use Rattle.product.specs.declared.checks.PieceAnswer.{PieceAnswer}
-use Rattle.product.specs.contracts.checks.PieceAnswer.{the_type}
 use Rattle.product.specs.declared.checks.PieceAnswer.TheVariants.{Done, CountTooLarge, CannotConvertBetaToFromF64, IndexMismatch, ReadError}
 use Rattle.product.proofs.CheckLaws.{counts, four_checks}
 use Rattle.product.proofs.PartLaws.{below_or}
@@ -102,9 +99,9 @@ least_none true w = le-leb 0 w (omega arith)
 least_none false w = refl
 
 -- a call that refuses leaves the old list, one that is done the new one
-pub leaves_old : (a : PieceAnswer) (s : Answer) (new old : List Float) → OneOf (1 ∷ 2 ∷ 3 ∷ 4 ∷ []) (tag_of the_type a) → piece_says a ≡ s → (piece_says a ≡ s) × (old ≡ if_done s new old)
+pub leaves_old : (a : PieceAnswer) (s : Answer) (new old : List Float) → (a ≡ Done → ⊥) → piece_says a ≡ s → (piece_says a ≡ s) × (old ≡ if_done s new old)
 unfolding if_done
-leaves_old Done s new old k e = absurd (⊎_elim (λ z. omega arith) (⊎_elim (λ z. omega arith) (⊎_elim (λ z. omega arith) (λ z. omega arith))) k)
+leaves_old Done s new old k e = absurd (k refl)
 leaves_old CountTooLarge s new old k e = (e, ap (λ (t : Answer). if_done t new old) e)
 leaves_old CannotConvertBetaToFromF64 s new old k e = (e, ap (λ (t : Answer). if_done t new old) e)
 leaves_old IndexMismatch s new old k e = (e, ap (λ (t : Answer). if_done t new old) e)

@@ -1,11 +1,10 @@
 use mathlib.Core.Path.{refl, sym}
-use Prim.Native.Nat.{◌≤◌, ◌-◌}
 use native.Mathlib.Omega.{arith}
 use borrow.Author.Rules.{sfits_of}
-use lib.ListN.{length, take}
 use lib.Seq.{take_all}
+use mir.Syntax.{w64}
 use mir.Facts.{to_z-of_z}
-use Rattle.index.proofs.BufferLaws.{too_short, placed, Filled, filled_none, filled_more, take_more}
+use Rattle.index.proofs.BufferLaws.{too_short, placed, filled_none, filled_more, take_more}
 use Rattle.index.proofs.vec_to_vec.Goals as goal
 
 pub returns-then-vec-list : goal.returns-then-vec-list
@@ -33,7 +32,7 @@ pub loop-k-smaller : goal.loop-k-smaller
 loop-k-smaller c = omega arith
 
 pub loop-k-preserved : goal.loop-k-preserved
-loop-k-preserved c = (omega arith, c.loop-k.invariant.1, filled_more _ _ _ c.loop-k.invariant.2 (omega arith) (take_more _ _ _ c.loop-k-test.true) (to_z-of_z (sfits_of c.list-1.given)))
+loop-k-preserved c = (omega arith, c.loop-k.invariant.1, filled_more _ _ _ c.loop-k.invariant.2 (omega arith) (take_more _ _ _ c.loop-k-test.true) (to_z-of_z {w = w64} (sfits_of c.list-1.given)))
 
 pub shape_of-list : goal.shape_of-list
 shape_of-list c = c.loop-k.invariant.2.long

@@ -1,12 +1,7 @@
 -- `vec_to_vec`: after k turns the buffer's first k places hold the list's first k numbers.
-use mathlib.Core.Path.{refl, sym}
 use Prim.Native.Nat.{◌≤◌, ◌-◌}
-use native.Mathlib.Omega.{arith}
-use borrow.Author.Rules.{sfits_of}
 use lib.ListN.{length, take}
-use lib.Seq.{take_all}
-use mir.Facts.{to_z-of_z}
-use Rattle.index.proofs.BufferLaws.{too_short, placed, Filled, filled_none, filled_more, take_more}
+use Rattle.index.proofs.BufferLaws.{Filled}
 use Rattle.index.proofs.vec_to_vec.Given as goal
 
 abbrev pub invariant-loop-k : goal.invariant-loop-k

@@ -5,10 +5,6 @@ use mir.Val.{SFits}
 use mir.Facts.{to_z-of_z}
 use Rattle.index.proofs.IndexLaws.{count_too_large, marks_differ, is_all, is_one_law, is_vec, is_marks, is_range, is_slice, all_walk}
 use Rattle.index.proofs.Index.to_vec.Goals as goal
-use Rattle.index.proofs.Index.to_vec.Goals.{In-One}
-
-one_bits : (c : In-One) → SFits w64 c.in-One.one
-one_bits c = search rules
 
 pub returns-then-count-gt-COUNT_LIMIT : goal.returns-then-count-gt-COUNT_LIMIT
 returns-then-count-gt-COUNT_LIMIT c = count_too_large _ _ _ _ _ c.if-count-gt-COUNT_LIMIT.true
@@ -23,7 +19,7 @@ pub returns-in-All : goal.returns-in-All
 returns-in-All c = is_all _ _ _ _ _ c.if-count-gt-COUNT_LIMIT.false c.in-All.is c.consecutive.ensures c.to_vec.ensures
 
 pub returns-in-One : goal.returns-in-One
-returns-in-One c = is_one_law _ _ _ _ _ c.if-count-gt-COUNT_LIMIT.false _ _ c.in-One.is (to_z-of_z (one_bits c.before.before.before.before)) c.one_to_vec.ensures
+returns-in-One c = is_one_law _ _ _ _ _ c.if-count-gt-COUNT_LIMIT.false _ _ c.in-One.is (to_z-of_z {w = w64} (let b : SFits w64 c.in-One.one = search rules in b)) c.one_to_vec.ensures
 
 pub returns-in-Vec : goal.returns-in-Vec
 returns-in-Vec c = is_vec _ _ _ _ _ c.if-count-gt-COUNT_LIMIT.false c.in-Vec.is c.vec_to_vec.ensures

@@ -1,10 +1,8 @@
 -- `count_marked`: after i turns n is the number of places marked before i.
-use mathlib.Core.Path.{◌≡◌, refl, sym, ap, ◌∙◌}
+use mathlib.Core.Path.{◌≡◌}
 use Prim.Native.Nat.{◌≤◌, ◌-◌}
-use native.Mathlib.Omega.{arith}
 use lib.ListN.{length}
-use Rattle.index.specs.Numbers.{numbers_below}
-use Rattle.index.proofs.MarkLaws.{marked_before, unmarked, one_more, all_marked}
+use Rattle.index.proofs.MarkLaws.{marked_before}
 use Rattle.index.proofs.marks.count_marked.Given as goal
 
 abbrev pub invariant-loop-i : goal.invariant-loop-i

@@ -1,13 +1,12 @@
 use mathlib.Core.Path.{sym}
-use Prim.Native.Nat.{◌≤◌, ◌<◌, ◌-◌}
+use Prim.Native.Nat.{◌<◌}
 use native.Mathlib.Omega.{arith}
-use borrow.Author.Rules.{rules}
 use lib.ListN.{length}
 use mir.Facts.{to_z_pos}
 use mir.Syntax.{w64}
 use Rattle.index.specs.Numbers.{numbers_below}
 use Rattle.index.proofs.MarkLaws.{marked_before, unmarked, is_marked_law, room_for, all_marked}
-use Rattle.index.proofs.BufferLaws.{too_short, placed, Filled, filled_none, filled_more, filled_as}
+use Rattle.index.proofs.BufferLaws.{too_short, placed, filled_none, filled_more, filled_as}
 use Rattle.index.proofs.marks.marked_to_vec.Goals as goal
 use Rattle.index.proofs.marks.marked_to_vec.Goals.{Else-marks-i-eq0}
 

@@ -1,14 +1,8 @@
 -- `marked_to_vec`: after i turns the buffer's first places hold those marked before i.
-use mathlib.Core.Path.{sym}
-use Prim.Native.Nat.{◌≤◌, ◌<◌, ◌-◌}
-use native.Mathlib.Omega.{arith}
-use borrow.Author.Rules.{rules}
+use Prim.Native.Nat.{◌≤◌, ◌-◌}
 use lib.ListN.{length}
-use mir.Facts.{to_z_pos}
-use mir.Syntax.{w64}
-use Rattle.index.specs.Numbers.{numbers_below}
-use Rattle.index.proofs.MarkLaws.{marked_before, unmarked, is_marked_law, room_for, all_marked}
-use Rattle.index.proofs.BufferLaws.{too_short, placed, Filled, filled_none, filled_more, filled_as}
+use Rattle.index.proofs.MarkLaws.{marked_before}
+use Rattle.index.proofs.BufferLaws.{Filled}
 use Rattle.index.proofs.marks.marked_to_vec.Given as goal
 
 abbrev pub invariant-loop-i : goal.invariant-loop-i

@@ -1,6 +1,5 @@
 -- `bound_or` is `bound_or`.
 use mathlib.Core.Path.{sym, ap}
-use borrow.Author.Rules.{rules}
 use Rattle.index.specs.Numbers.{bound_or}
 use Rattle.index.proofs.range.bound_or.Goals as goal
 

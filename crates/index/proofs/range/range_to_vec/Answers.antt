@@ -1,6 +1,5 @@
 -- `range_to_vec`: what `to_range` answered tells what the checks of a range say.
 use mathlib.Core.Path.{sym, ap, ◌∙◌}
-use borrow.Author.Rules.{rules}
 use Rattle.index.specs.Says.{range_says}
 use Rattle.index.proofs.RangeLaws.{range_walk, range_listed, range_stopped}
 use Rattle.index.proofs.range.range_to_vec.Goals as goal

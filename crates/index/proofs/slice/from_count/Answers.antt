@@ -1,6 +1,5 @@
 -- `from_count` counts a negative number from the count.
 use native.Mathlib.Omega.{arith}
-use borrow.Author.Rules.{rules}
 use Rattle.index.proofs.SignedLaws.{negative, non_negative, counts_back, counts_on, of_bits}
 use Rattle.index.proofs.slice.from_count.Goals as goal
 

@@ -1,5 +1,4 @@
 -- `slice_to_vec`: what `new` made tells what the checks of a slice say.
-use borrow.Author.Rules.{rules}
 use Rattle.index.proofs.SliceLaws.{slice_walk, slice_listed, zero_stopped, start_stopped, end_stopped}
 use Rattle.index.proofs.slice.slice_to_vec.Goals as goal
 

@@ -1,7 +1,6 @@
 -- `RangeNdSlice::len` is the number of steps below the end.
 use mathlib.Core.Path.{refl, sym}
 use native.Mathlib.Omega.{arith}
-use borrow.Author.Rules.{rules}
 use Rattle.index.specs.Private.{steps_below}
 use Rattle.index.proofs.StepLaws.{none}
 use Rattle.index.proofs.slice.RangeNdSlice.len.Goals as goal

@@ -16,49 +16,41 @@ use Rattle.index.proofs.slice.RangeNdSlice.new.Goals.{After-from_count-start, Af
 step_bits : (c : Start) → SFits w64 c.args.nd_slice_info.step
 step_bits c = search rules
 
-start_bits : (c : Start) → SFits w64 c.args.nd_slice_info.start
-start_bits c = search rules
-
 end_bits : (c : In-At) → SFits w64 c.in-At.e
 end_bits c = search rules
 
 step_is : (c : After-magnitude-step) → c.magnitude-step.result ≡ nat_abs c.args.nd_slice_info.step
-step_is c = of_bits (step_bits c.before.before.before) c.magnitude-step.ensures
+step_is c = of_bits (let b : SFits w64 c.args.nd_slice_info.step = search rules in b) c.magnitude-step.ensures
 
 step_not_zero : (c : Else-step-eq0) → nat_abs c.args.nd_slice_info.step ≡ 0 → ⊥
-step_not_zero c e = c.if-step-eq0.false (step_is c.before.before ∙ e)
+step_not_zero c e = c.if-step-eq0.false (of_bits (let b : SFits w64 c.args.nd_slice_info.step = search rules in b) c.magnitude-step.ensures ∙ e)
 
 start_is : (c : After-magnitude) → c.magnitude.result ≡ nat_abs c.args.nd_slice_info.start
-start_is c = of_bits (start_bits c.before.before.before.before.before.before.before.before) c.magnitude.ensures
+start_is c = of_bits (let b : SFits w64 c.args.nd_slice_info.start = search rules in b) c.magnitude.ensures
 
 start_fits : (c : Else-magnitude-count) → nat_abs c.args.nd_slice_info.start ≤ c.args.count
-start_fits c = subst (λ (n : ℕ). n ≤ c.args.count) (start_is c.before.before) c.if-magnitude-count.false
+start_fits c = subst (λ (n : ℕ). n ≤ c.args.count) (of_bits (let b : SFits w64 c.args.nd_slice_info.start = search rules in b) c.magnitude.ensures) c.if-magnitude-count.false
 
 from_is : (c : After-from_count-start) → c.from_count-start.result ≡ from_count c.args.count c.args.nd_slice_info.start
-from_is c =
-    let t = c.before.before.before.before.before.before.before.before.before.before in
-    c.from_count-start.ensures ∙ ap (from_count t.args.count) (to_z-of_z (start_bits (t)))
+from_is c = c.from_count-start.ensures ∙ ap (from_count c.args.count) (to_z-of_z {w = w64} (let b : SFits w64 c.args.nd_slice_info.start = search rules in b))
 
 end_is : (c : After-magnitude-in-At) → c.magnitude-in-At.result ≡ nat_abs c.in-At.e
-end_is c = of_bits (end_bits c.before) c.magnitude-in-At.ensures
+end_is c = of_bits (let b : SFits w64 c.in-At.e = search rules in b) c.magnitude-in-At.ensures
 
 pub returns-then-step-eq0 : goal.returns-then-step-eq0
-returns-then-step-eq0 c = step_zero _ _ (sym (step_is c.before) ∙ c.if-step-eq0.true)
+returns-then-step-eq0 c = step_zero _ _ (sym (step_is (goal.at.returns-then-step-eq0 c).After-magnitude-step) ∙ c.if-step-eq0.true)
 
 pub returns-then-magnitude-count : goal.returns-then-magnitude-count
-returns-then-magnitude-count c = start_above _ _ (step_not_zero c.before.before.before.before.before) (subst (λ (n : ℕ). c.args.count < n) (start_is c.before) c.if-magnitude-count.true)
+returns-then-magnitude-count c = start_above _ _ (step_not_zero (goal.at.returns-then-magnitude-count c).Else-step-eq0) (subst (λ (n : ℕ). c.args.count < n) (start_is (goal.at.returns-then-magnitude-count c).After-magnitude) c.if-magnitude-count.true)
 
 pub returns-then-magnitude-count-2 : goal.returns-then-magnitude-count-2
 returns-then-magnitude-count-2 c =
-    let t = c.before.before.before.before.before.before.before.before.before.before in
-    end_above _ _ (step_not_zero (t)) (start_fits c.before.before.before.before.before) _ c.in-At.is (subst (λ (n : ℕ). t.args.count < n) (end_is c.before) c.if-magnitude-count-2.true)
+    end_above _ _ (step_not_zero (goal.at.returns-then-magnitude-count-2 c).Else-step-eq0) (start_fits (goal.at.returns-then-magnitude-count-2 c).Else-magnitude-count) _ c.in-At.is (subst (λ (n : ℕ). c.args.count < n) (end_is (goal.at.returns-then-magnitude-count-2 c).After-magnitude-in-At) c.if-magnitude-count-2.true)
 
 pub returns-in-Absent : goal.returns-in-Absent
 returns-in-Absent c =
-    let t = c.before.before.before.before.before.before.before.before in
-    no_end _ _ (step_not_zero (t)) (start_fits c.before.before.before) _ _ _ _ (step_bits t.before.before.before) t.requires (from_is c.before) (step_is t.before) (ap (λ (z : ℤ). lt_z z (pos 0)) (to_z-of_z (step_bits t.before.before.before))) c.in-Absent.is refl
+    no_end _ _ (step_not_zero (goal.at.returns-in-Absent c).Else-step-eq0) (start_fits (goal.at.returns-in-Absent c).Else-magnitude-count) _ _ _ _ (step_bits (goal.at.returns-in-Absent c).Start) c.requires (from_is (goal.at.returns-in-Absent c).After-from_count-start) (step_is (goal.at.returns-in-Absent c).After-magnitude-step) (ap (λ (z : ℤ). lt_z z (pos 0)) (to_z-of_z {w = w64} (step_bits (goal.at.returns-in-Absent c).Start))) c.in-Absent.is refl
 
 pub returns-else-magnitude-count-2 : goal.returns-else-magnitude-count-2
 returns-else-magnitude-count-2 c =
-    let t = c.before.before.before.before.before.before in
-    with_end _ _ (step_not_zero t.before.before.before.before.before) (start_fits (t)) _ _ _ _ (step_bits t.before.before.before.before.before.before.before.before) t.requires (from_is c.before.before.before.before) (step_is t.before.before.before.before.before.before) (ap (λ (z : ℤ). lt_z z (pos 0)) (to_z-of_z (step_bits t.before.before.before.before.before.before.before.before))) _ c.in-At.is (subst (λ (n : ℕ). n ≤ t.args.count) (end_is c.before.before) c.if-magnitude-count-2.false) (c.from_count-end.ensures ∙ ap (from_count t.args.count) (to_z-of_z (end_bits c.before.before.before)))
+    with_end _ _ (step_not_zero (goal.at.returns-else-magnitude-count-2 c).Else-step-eq0) (start_fits (goal.at.returns-else-magnitude-count-2 c).Else-magnitude-count) _ _ _ _ (step_bits (goal.at.returns-else-magnitude-count-2 c).Start) c.requires (from_is (goal.at.returns-else-magnitude-count-2 c).After-from_count-start) (step_is (goal.at.returns-else-magnitude-count-2 c).After-magnitude-step) (ap (λ (z : ℤ). lt_z z (pos 0)) (to_z-of_z {w = w64} (step_bits (goal.at.returns-else-magnitude-count-2 c).Start))) _ c.in-At.is (subst (λ (n : ℕ). n ≤ c.args.count) (end_is (goal.at.returns-else-magnitude-count-2 c).After-magnitude-in-At) c.if-magnitude-count-2.false) (c.from_count-end.ensures ∙ ap (from_count c.args.count) (to_z-of_z {w = w64} (end_bits (goal.at.returns-else-magnitude-count-2 c).In-At)))

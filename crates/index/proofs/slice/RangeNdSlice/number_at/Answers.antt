@@ -1,5 +1,4 @@
 -- `RangeNdSlice::number_at` is the number at a place.
-use borrow.Author.Rules.{rules}
 use Rattle.index.proofs.StepLaws.{from_end, from_start}
 use Rattle.index.proofs.slice.RangeNdSlice.number_at.Goals as goal
 

@@ -1,13 +1,12 @@
 use mathlib.Core.Path.{◌∙◌}
-use Prim.Native.Nat.{◌≤◌, ◌<◌, ◌-◌, ◌*◌}
+use Prim.Native.Nat.{◌<◌, ◌-◌, ◌*◌}
 use native.Mathlib.Omega.{arith}
 use borrow.Author.Rules.{sfits_of}
-use lib.ListN.{length}
+use mir.Syntax.{w64}
 use mir.Facts.{to_z-of_z}
 use Rattle.answer.specs.Lists.{tabulate}
-use Rattle.index.specs.Private.{slice_number}
 use Rattle.index.proofs.StepLaws.{len_is, numbers_all, inside}
-use Rattle.index.proofs.BufferLaws.{too_short, placed, Filled, filled_none, filled_more, tabulate_more}
+use Rattle.index.proofs.BufferLaws.{too_short, placed, filled_none, filled_more, tabulate_more}
 use Rattle.index.proofs.slice.RangeNdSlice.to_vec.Goals as goal
 
 pub len-n-requires : goal.len-n-requires
@@ -39,7 +38,7 @@ pub loop-k-smaller : goal.loop-k-smaller
 loop-k-smaller c = omega arith
 
 pub loop-k-preserved : goal.loop-k-preserved
-loop-k-preserved c = (omega arith, c.loop-k.invariant.1, filled_more _ _ _ c.loop-k.invariant.2 (omega arith) (tabulate_more _ _) (to_z-of_z (sfits_of c.number_at.type_inv) ∙ c.number_at.ensures))
+loop-k-preserved c = (omega arith, c.loop-k.invariant.1, filled_more _ _ _ c.loop-k.invariant.2 (omega arith) (tabulate_more _ _) (to_z-of_z {w = w64} (sfits_of c.number_at.type_inv) ∙ c.number_at.ensures))
 
 pub shape_of-list : goal.shape_of-list
 shape_of-list c = c.loop-k.invariant.2.long

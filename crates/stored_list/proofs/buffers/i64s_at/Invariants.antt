@@ -1,0 +1,14 @@
+-- The places so far have what their words stand for.
+use Prim.Native.Nat.{◌-◌}
+use lib.IntN.{pos}
+use mir.Syntax.{w64}
+use mir.Val.{to_z}
+use Rattle.stored_list.specs.Words.{word_at}
+use Rattle.stored_list.proofs.FillLaws.{Filled}
+use Rattle.stored_list.proofs.buffers.i64s_at.Given as goal
+
+abbrev pub invariant-loop-i : goal.invariant-loop-i
+invariant-loop-i l = Filled (pos 0) (λ k. to_z w64 (word_at l.words l.section k)) 64 l.i l.out
+
+abbrev pub decreases-loop-i : goal.decreases-loop-i
+decreases-loop-i l = 64 - l.i

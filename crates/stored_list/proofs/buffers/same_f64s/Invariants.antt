@@ -1,0 +1,13 @@
+-- The elements so far have the words that stand there.
+use Prim.Native.Nat.{◌-◌}
+use lib.Ieee.{binary64, to_bits}
+use lib.ListN.{length}
+use Rattle.stored_list.specs.Words.{word_at}
+use Rattle.stored_list.proofs.SameLaws.{Same}
+use Rattle.stored_list.proofs.buffers.same_f64s.Given as goal
+
+abbrev pub invariant-loop-i : goal.invariant-loop-i
+invariant-loop-i l = Same (to_bits binary64) (λ k. word_at l.words l.section k) l.got l.i
+
+abbrev pub decreases-loop-i : goal.decreases-loop-i
+decreases-loop-i l = length l.got - l.i
