@@ -15,7 +15,7 @@ use borrow.Author.Rules.{rules}
 use Rattle.bed_write.proofs.encode.encode_i8.pack_i8.Given as goal
 
 abbrev pub invariant-loop-b : goal.invariant-loop-b
-invariant-loop-b l = (l.b ≤ l.full) × Front (packed_codes (length l.column) (place_code i8 l.is_a1_counted (to_z w8 l.missing) l.column)) l.initial.out l.out l.b
+invariant-loop-b l = (l.b ≤ l.full) × Front (packed_codes (length l.column) (place_code i8 l.is_a1_counted l.missing l.column)) l.initial.out l.out l.b
 
 abbrev pub decreases-loop-b : goal.decreases-loop-b
 decreases-loop-b l = l.full - l.b

@@ -9,14 +9,6 @@ use Rattle.bed_write.proofs.PlaceLaws.{read_inside, read_number}
 use Rattle.bed_write.proofs.WriteLaws.{value_coded}
 use Rattle.bed_write.proofs.search.search_f64.first_bad_f64.Goals as goal
 
-abbrev invariant-markers : tie.invariant-markers
-invariant-markers val iid-count sid-count animal-order is-a1-counted missing marker₀ marker =
-    (m : ℕ) → m < marker
-    → GoodCodes iid-count sid-count (value_code float is-a1-counted missing animal-order iid-count sid-count val) (value_coded float is-a1-counted missing animal-order iid-count sid-count val) m
-
-abbrev decreases-markers : tie.decreases-markers
-decreases-markers val iid-count sid-count animal-order is-a1-counted missing marker₀ marker = sid-count - marker
-
 pub markers-init : goal.markers-init
 markers-init c = λ m h. absurd (omega arith)
 
@@ -25,23 +17,20 @@ loop-animal-init c = λ a h. absurd (omega arith)
 
 pub matrix_place-at-requires : goal.matrix_place-at-requires
 matrix_place-at-requires c =
-    let s = c.before.before.before.before.before.before in
-    (c.loop-animal-test.true, c.if-marker-sid_count.false, let l = s.well_formed.0.0 in let e = s.requires in omega arith)
+     (c.loop-animal-test.true, c.if-marker-sid_count.false, let l = c.well_formed.0.0 in let e = c.requires in omega arith)
 
 pub offset_bounds-val-at : goal.offset_bounds-val-at
 offset_bounds-val-at c =
-    let s = c.before.before.before.before.before.before.before in
-    let a = s.args in
-    let r = read_inside float a.is_a1_counted a.missing a.animal_order a.iid_count a.sid_count a.val.now s.requires _ _ _ c.loop-animal-test.true c.if-marker-sid_count.false c.matrix_place-at.ensures in
-    let l = s.well_formed.0.1 in
+     let a = c.args in
+    let r = read_inside float a.is_a1_counted a.missing a.animal_order a.iid_count a.sid_count a.val.now c.requires _ _ _ c.loop-animal-test.true c.if-marker-sid_count.false c.matrix_place-at.ensures in
+    let l = c.well_formed.0.1 in
     omega arith
 
-shared_slice_read_code_f64 :
-    tie.Need-shared-slice-read-code-f64 invariant-loop decreases-loop invariant-markers decreases-markers
-shared_slice_read_code_f64 c =
-    let s = c.before.before.before.before.before.before.before in
-    let a = s.args in
-    read_inside float a.is_a1_counted a.missing a.animal_order a.iid_count a.sid_count a.val.now s.requires _ _ _ c.loop-animal-test.true c.if-marker-sid_count.false c.matrix_place-at.ensures
+pub bounds-val-at : goal.bounds-val-at
+bounds-val-at c =
+     let a = c.args in
+    read_inside float a.is_a1_counted a.missing a.animal_order a.iid_count a.sid_count a.val.now c.requires _ _ _ c.loop-animal-test.true c.if-marker-sid_count.false c.matrix_place-at.ensures
+
 
 pub code_f64-requires : goal.code_f64-requires
 code_f64-requires c = tt
@@ -54,9 +43,8 @@ loop-animal-smaller c = let h = c.loop-animal-test.true in omega arith
 
 pub loop-animal-preserved : goal.loop-animal-preserved
 loop-animal-preserved c =
-    let s = c.before.before.before.before.before.before.before.before.before.before in
-    let a = s.args in
-    let e = read_number float a.is_a1_counted a.missing a.animal_order a.iid_count a.sid_count a.val.now s.requires _ _ _ c.loop-animal-test.true c.if-marker-sid_count.false c.matrix_place-at.ensures _ _ c.code_f64.ensures in
+     let a = c.args in
+    let e = read_number float a.is_a1_counted a.missing a.animal_order a.iid_count a.sid_count a.val.now c.requires _ _ _ c.loop-animal-test.true c.if-marker-sid_count.false c.matrix_place-at.ensures _ _ c.code_f64.ensures in
     below_more _ _ c.loop-animal.invariant (let l = c.if-code_f64-gt3.false in omega arith)
 
 pub overflow_add-marker : goal.overflow_add-marker
@@ -75,7 +63,6 @@ returns-then-marker-sid_count c =
 
 pub returns-then-code_f64-gt3 : goal.returns-then-code_f64-gt3
 returns-then-code_f64-gt3 c =
-    let s = c.before.before.before.before.before.before.before.before.before.before in
-    let a = s.args in
-    let e = read_number float a.is_a1_counted a.missing a.animal_order a.iid_count a.sid_count a.val.now s.requires _ _ _ c.loop-animal-test.true c.if-marker-sid_count.false c.matrix_place-at.ensures _ _ c.code_f64.ensures in
+     let a = c.args in
+    let e = read_number float a.is_a1_counted a.missing a.animal_order a.iid_count a.sid_count a.val.now c.requires _ _ _ c.loop-animal-test.true c.if-marker-sid_count.false c.matrix_place-at.ensures _ _ c.code_f64.ensures in
     called_at a.iid_count a.sid_count _ (value_coded float a.is_a1_counted a.missing a.animal_order a.iid_count a.sid_count a.val.now) _ _ c.if-marker-sid_count.false c.loop-animal-test.true c.markers.invariant c.loop-animal.invariant (let l = c.if-code_f64-gt3.true in omega arith)

@@ -16,3 +16,11 @@ invariant-loop-animal l =
 
 abbrev pub decreases-loop-animal : goal.decreases-loop-animal
 decreases-loop-animal l = l.iid_count - l.animal
+
+abbrev pub invariant-markers : goal.invariant-markers
+invariant-markers l =
+    (m : ℕ) → m < l.marker
+    → GoodCodes l.iid_count l.sid_count (value_code float l.is_a1_counted l.missing l.animal_order l.iid_count l.sid_count l.val) (value_coded float l.is_a1_counted l.missing l.animal_order l.iid_count l.sid_count l.val) m
+
+abbrev pub decreases-markers : goal.decreases-markers
+decreases-markers l = l.sid_count - l.marker

@@ -12,14 +12,6 @@ use Rattle.bed_write.proofs.PlaceLaws.{read_inside, read_number}
 use Rattle.bed_write.proofs.WriteLaws.{value_coded}
 use Rattle.bed_write.proofs.search.search_i8.first_bad_i8.Goals as goal
 
-abbrev invariant-markers : tie.invariant-markers
-invariant-markers val iid-count sid-count animal-order is-a1-counted missing marker₀ marker =
-    (m : ℕ) → m < marker
-    → GoodCodes iid-count sid-count (value_code i8 is-a1-counted (to_z w8 missing) animal-order iid-count sid-count val) (value_coded i8 is-a1-counted (to_z w8 missing) animal-order iid-count sid-count val) m
-
-abbrev decreases-markers : tie.decreases-markers
-decreases-markers val iid-count sid-count animal-order is-a1-counted missing marker₀ marker = sid-count - marker
-
 pub markers-init : goal.markers-init
 markers-init c = λ m h. absurd (omega arith)
 
@@ -28,15 +20,13 @@ loop-animal-init c = λ a h. absurd (omega arith)
 
 pub matrix_place-at-requires : goal.matrix_place-at-requires
 matrix_place-at-requires c =
-    let s = c.before.before.before.before in
-    (c.loop-animal-test.true, c.if-marker-sid_count.false, let l = s.well_formed.0.0 in let e = s.requires in omega arith)
+     (c.loop-animal-test.true, c.if-marker-sid_count.false, let l = c.well_formed.0.0 in let e = c.requires in omega arith)
 
-shared_slice_copy_out_number_i8 :
-    tie.Need-shared-slice-copy-out-number-i8 invariant-loop decreases-loop invariant-markers decreases-markers
-shared_slice_copy_out_number_i8 c =
-    let s = c.before.before.before.before.before in
-    let a = s.args in
-    read_inside i8 a.is_a1_counted (held a.missing) a.animal_order a.iid_count a.sid_count a.val.now s.requires _ _ _ c.loop-animal-test.true c.if-marker-sid_count.false c.matrix_place-at.ensures
+pub bounds-val-at : goal.bounds-val-at
+bounds-val-at c =
+     let a = c.args in
+    read_inside i8 a.is_a1_counted (held a.missing) a.animal_order a.iid_count a.sid_count a.val.now c.requires _ _ _ c.loop-animal-test.true c.if-marker-sid_count.false c.matrix_place-at.ensures
+
 
 pub number_i8-requires : goal.number_i8-requires
 number_i8-requires c = tt
@@ -49,9 +39,8 @@ loop-animal-smaller c = let h = c.loop-animal-test.true in omega arith
 
 pub loop-animal-preserved : goal.loop-animal-preserved
 loop-animal-preserved c =
-    let s = c.before.before.before.before.before.before.before.before in
-    let a = s.args in
-    let e = read_number i8 a.is_a1_counted (held a.missing) a.animal_order a.iid_count a.sid_count a.val.now s.requires _ _ _ c.loop-animal-test.true c.if-marker-sid_count.false c.matrix_place-at.ensures _ _ (code_held a.is_a1_counted (held a.missing) _ _ c.number_i8-arg-1.given c.number_i8.ensures) in
+     let a = c.args in
+    let e = read_number i8 a.is_a1_counted (held a.missing) a.animal_order a.iid_count a.sid_count a.val.now c.requires _ _ _ c.loop-animal-test.true c.if-marker-sid_count.false c.matrix_place-at.ensures _ _ (code_held a.is_a1_counted (held a.missing) _ _ c.number_i8-arg-1.given c.number_i8.ensures) in
     below_more _ _ c.loop-animal.invariant (let l = c.if-number_i8-gt3.false in omega arith)
 
 pub overflow_add-marker : goal.overflow_add-marker
@@ -65,13 +54,11 @@ markers-preserved c = below_more _ _ c.markers.invariant (λ a h. c.loop-animal.
 
 pub returns-then-marker-sid_count : goal.returns-then-marker-sid_count
 returns-then-marker-sid_count c =
-    let s = c.before.before in
-    let a = s.args in
-    held_found a.missing s.ranges.missing a.is_a1_counted a.animal_order a.iid_count a.sid_count a.val.now (called_none a.iid_count a.sid_count _ (value_coded i8 a.is_a1_counted (held a.missing) a.animal_order a.iid_count a.sid_count a.val.now) _ c.if-marker-sid_count.true c.markers.invariant)
+     let a = c.args in
+    held_found a.missing c.ranges.missing a.is_a1_counted a.animal_order a.iid_count a.sid_count a.val.now (called_none a.iid_count a.sid_count _ (value_coded i8 a.is_a1_counted (held a.missing) a.animal_order a.iid_count a.sid_count a.val.now) _ c.if-marker-sid_count.true c.markers.invariant)
 
 pub returns-then-number_i8-gt3 : goal.returns-then-number_i8-gt3
 returns-then-number_i8-gt3 c =
-    let s = c.before.before.before.before.before.before.before.before in
-    let a = s.args in
-    let e = read_number i8 a.is_a1_counted (held a.missing) a.animal_order a.iid_count a.sid_count a.val.now s.requires _ _ _ c.loop-animal-test.true c.if-marker-sid_count.false c.matrix_place-at.ensures _ _ (code_held a.is_a1_counted (held a.missing) _ _ c.number_i8-arg-1.given c.number_i8.ensures) in
-    held_found a.missing s.ranges.missing a.is_a1_counted a.animal_order a.iid_count a.sid_count a.val.now (called_at a.iid_count a.sid_count _ (value_coded i8 a.is_a1_counted (held a.missing) a.animal_order a.iid_count a.sid_count a.val.now) _ _ c.if-marker-sid_count.false c.loop-animal-test.true c.markers.invariant c.loop-animal.invariant (let l = c.if-number_i8-gt3.true in omega arith))
+     let a = c.args in
+    let e = read_number i8 a.is_a1_counted (held a.missing) a.animal_order a.iid_count a.sid_count a.val.now c.requires _ _ _ c.loop-animal-test.true c.if-marker-sid_count.false c.matrix_place-at.ensures _ _ (code_held a.is_a1_counted (held a.missing) _ _ c.number_i8-arg-1.given c.number_i8.ensures) in
+    held_found a.missing c.ranges.missing a.is_a1_counted a.animal_order a.iid_count a.sid_count a.val.now (called_at a.iid_count a.sid_count _ (value_coded i8 a.is_a1_counted (held a.missing) a.animal_order a.iid_count a.sid_count a.val.now) _ _ c.if-marker-sid_count.false c.loop-animal-test.true c.markers.invariant c.loop-animal.invariant (let l = c.if-number_i8-gt3.true in omega arith))

@@ -15,7 +15,15 @@ use Rattle.bed_write.proofs.search.search_i8.first_bad_i8.Given as goal
 
 abbrev pub invariant-loop-animal : goal.invariant-loop-animal
 invariant-loop-animal l =
-    (a : ℕ) → a < l.animal → or_four (value_code i8 l.is_a1_counted (to_z w8 l.missing) l.animal_order l.iid_count l.sid_count l.val a l.marker) < 4
+    (a : ℕ) → a < l.animal → or_four (value_code i8 l.is_a1_counted l.missing l.animal_order l.iid_count l.sid_count l.val a l.marker) < 4
 
 abbrev pub decreases-loop-animal : goal.decreases-loop-animal
 decreases-loop-animal l = l.iid_count - l.animal
+
+abbrev pub invariant-markers : goal.invariant-markers
+invariant-markers l =
+    (m : ℕ) → m < l.marker
+    → GoodCodes l.iid_count l.sid_count (value_code i8 l.is_a1_counted l.missing l.animal_order l.iid_count l.sid_count l.val) (value_coded i8 l.is_a1_counted l.missing l.animal_order l.iid_count l.sid_count l.val) m
+
+abbrev pub decreases-markers : goal.decreases-markers
+decreases-markers l = l.sid_count - l.marker

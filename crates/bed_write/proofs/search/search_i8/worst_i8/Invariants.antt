@@ -14,7 +14,7 @@ use Rattle.bed_write.proofs.FirstLaws.{code_read}
 use Rattle.bed_write.proofs.search.search_i8.worst_i8.Given as goal
 
 abbrev pub invariant-loop-i : goal.invariant-loop-i
-invariant-loop-i l = (k : ℕ) → k < l.i → (by_tests i8 l.is_a1_counted (to_z w8 l.missing) l.val k ≤ l.worst) × (mag (get_or l.val k (pos 0)) < 128)
+invariant-loop-i l = (k : ℕ) → k < l.i → (by_tests i8 l.is_a1_counted l.missing l.val k ≤ l.worst) × (mag (get_or l.val k (pos 0)) < 128)
 
 abbrev pub decreases-loop-i : goal.decreases-loop-i
 decreases-loop-i l = length l.val - l.i
