@@ -3,7 +3,6 @@ use mathlib.Core.Path.{sym, ap, ◌∙◌}
 use native.Mathlib.Omega.{arith}
 use Rattle.blocks.specs.Says.{div_says}
 use Rattle.bed_write.proofs.WriteLaws.{whole_fits, buffers_refused, buffers_mismatch, buffers_length, buffers_done}
-use borrow.Author.Rules.{rules}
 use Rattle.bed_write.proofs.write.check_write.Goals as goal
 
 pub overflow_mul-width : goal.overflow_mul-width

@@ -1,11 +1,8 @@
 use mathlib.Core.Path.{sym, ◌∙◌}
-use Prim.Native.Nat.{◌-◌, ◌≤◌}
 use native.Mathlib.Omega.{arith}
-use lib.ListN.{length, length-set}
+use lib.ListN.{length-set}
 use Rattle.codes.specs.Value.{float}
-use Rattle.bed_write.specs.Packing.{place_code, packed_codes}
-use Rattle.bed_write.proofs.EncodeLaws.{Front, front_none, front_length, block_length, full_there, full_more, last_there, last_done, none_left}
-use borrow.Author.Rules.{rules}
+use Rattle.bed_write.proofs.EncodeLaws.{front_none, front_length, block_length, full_there, full_more, last_there, last_done, none_left}
 use Rattle.bed_write.proofs.encode.encode_f64.pack_f64.Goals as goal
 
 pub loop-b-init : goal.loop-b-init

@@ -1,12 +1,9 @@
 -- `pack_f64`: each turn makes one byte new, and the last group's byte is the last.
-use mathlib.Core.Path.{sym, ◌∙◌}
 use Prim.Native.Nat.{◌-◌, ◌≤◌}
-use native.Mathlib.Omega.{arith}
-use lib.ListN.{length, length-set}
+use lib.ListN.{length}
 use Rattle.codes.specs.Value.{float}
 use Rattle.bed_write.specs.Packing.{place_code, packed_codes}
-use Rattle.bed_write.proofs.EncodeLaws.{Front, front_none, front_length, block_length, full_there, full_more, last_there, last_done, none_left}
-use borrow.Author.Rules.{rules}
+use Rattle.bed_write.proofs.EncodeLaws.{Front}
 use Rattle.bed_write.proofs.encode.encode_f64.pack_f64.Given as goal
 
 abbrev pub invariant-loop-b : goal.invariant-loop-b

@@ -5,7 +5,6 @@ use Rattle.bed_write.proofs.GroupLaws.{held_there, held_pad}
 use Rattle.bed_write.specs.Groups.{or_four}
 use Rattle.bed_write.specs.Packing.{place_code}
 use Rattle.codes.specs.Value.{float}
-use borrow.Author.Rules.{rules}
 use mathlib.Core.Path.{◌∙◌}
 use native.Mathlib.Omega.{arith}
 use Rattle.bed_write.proofs.group.group_f64.held_good_f64.Goals as goal

@@ -6,7 +6,6 @@ use Rattle.bed_write.proofs.GroupLaws.{held_there, held_pad}
 use Rattle.bed_write.specs.Groups.{or_four}
 use Rattle.bed_write.specs.Packing.{place_code}
 use Rattle.codes.specs.Value.{i8}
-use borrow.Author.Rules.{rules}
 use mathlib.Core.Path.{◌∙◌}
 use native.Mathlib.Omega.{arith}
 use Rattle.bed_write.proofs.group.group_i8.held_good_i8.Goals as goal

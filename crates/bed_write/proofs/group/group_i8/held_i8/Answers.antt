@@ -5,7 +5,6 @@ use Rattle.bed_write.specs.Private.{by_table}
 use native.Mathlib.Omega.{arith}
 use Rattle.bed_write.proofs.GroupLaws.{held_there, held_pad}
 use Rattle.bed_write.proofs.ByteLaws.{number_held}
-use borrow.Author.Rules.{rules}
 use Rattle.bed_write.proofs.group.group_i8.held_i8.Goals as goal
 
 pub overflow_mul-at : goal.overflow_mul-at

@@ -1,7 +1,4 @@
-use mathlib.Core.Path.{◌≡◌}
-use Prim.Native.Nat.{ℕ, ◌-◌, ◌<◌, ◌≤◌}
 use native.Mathlib.Omega.{arith}
-use lib.ListN.{length}
 use Rattle.codes.specs.Value.{float}
 use Rattle.bed_write.specs.Private.{by_tests}
 use Rattle.bed_write.proofs.FirstLaws.{code_read}

@@ -1,12 +1,9 @@
 -- `bad_count_f64`: while nothing was counted, every value so far has a code.
 use mathlib.Core.Path.{◌≡◌}
 use Prim.Native.Nat.{ℕ, ◌-◌, ◌<◌, ◌≤◌}
-use native.Mathlib.Omega.{arith}
 use lib.ListN.{length}
 use Rattle.codes.specs.Value.{float}
 use Rattle.bed_write.specs.Private.{by_tests}
-use Rattle.bed_write.proofs.FirstLaws.{code_read}
-use Rattle.bed_write.proofs.SearchLaws.{none_counted}
 use Rattle.bed_write.proofs.search.search_f64.bad_count_f64.Given as goal
 
 abbrev pub invariant-loop-i : goal.invariant-loop-i

@@ -1,12 +1,9 @@
 -- `first_bad_f64`: no marker before is bad, and no animal before at this marker.
 use Prim.Native.Nat.{ℕ, ◌-◌, ◌<◌}
-use native.Mathlib.Omega.{arith}
-use borrow.Author.Count.{below_more}
 use Rattle.codes.specs.Value.{float}
 use Rattle.bed_write.specs.Writing.{value_code}
 use Rattle.bed_write.specs.Groups.{or_four}
-use Rattle.bed_write.proofs.SearchLaws.{GoodCodes, called_none, called_at}
-use Rattle.bed_write.proofs.PlaceLaws.{read_inside, read_number}
+use Rattle.bed_write.proofs.SearchLaws.{GoodCodes}
 use Rattle.bed_write.proofs.WriteLaws.{value_coded}
 use Rattle.bed_write.proofs.search.search_f64.first_bad_f64.Given as goal
 

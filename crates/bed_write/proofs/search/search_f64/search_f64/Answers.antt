@@ -1,7 +1,6 @@
 -- `search_f64`: nothing is found where none is counted.
 use Rattle.codes.specs.Value.{float}
 use Rattle.bed_write.proofs.SearchLaws.{all_good}
-use borrow.Author.Rules.{rules}
 use Rattle.bed_write.proofs.search.search_f64.search_f64.Goals as goal
 
 pub returns-then-bad_count_f64-eq0 : goal.returns-then-bad_count_f64-eq0

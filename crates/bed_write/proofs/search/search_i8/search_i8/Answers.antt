@@ -3,7 +3,6 @@ use native.Mathlib.Omega.{arith}
 use Rattle.codes.specs.Value.{i8}
 use Rattle.bed_write.proofs.ByteLaws.{held, held_found}
 use Rattle.bed_write.proofs.SearchLaws.{all_good}
-use borrow.Author.Rules.{rules}
 use Rattle.bed_write.proofs.search.search_i8.search_i8.Goals as goal
 
 pub returns-then-worst_i8-lt4 : goal.returns-then-worst_i8-lt4

@@ -1,16 +1,10 @@
 -- `worst_i8`: no value so far is worse.
 use Prim.Native.Nat.{ℕ, ◌-◌, ◌<◌, ◌≤◌}
-use native.Mathlib.Omega.{arith}
 use lib.ListN.{length, get_or}
 use lib.Signed.{mag}
-use mir.Syntax.{w8}
-use mir.Val.{to_z}
 use Rattle.codes.specs.Value.{i8}
 use Rattle.bed_write.specs.Private.{by_tests}
-use Rattle.bed_write.proofs.SearchLaws.{grow}
 use lib.IntN.{pos}
-use Rattle.bed_write.proofs.ByteLaws.{held, as_given, code_held}
-use Rattle.bed_write.proofs.FirstLaws.{code_read}
 use Rattle.bed_write.proofs.search.search_i8.worst_i8.Given as goal
 
 abbrev pub invariant-loop-i : goal.invariant-loop-i

@@ -1,7 +1,6 @@
 -- `choose`: one of the two products is 0.
 use native.Mathlib.Omega.{arith}
 use Rattle.bed_write.proofs.ChooseLaws.{test_byte, times_yes, times_no, chosen}
-use borrow.Author.Rules.{rules}
 use Rattle.bed_write.proofs.value_codes.codes_f64.choose.Goals as goal
 
 pub overflow_mul-result : goal.overflow_mul-result

@@ -2,7 +2,6 @@
 use mathlib.Core.Path.{◌∙◌}
 use Rattle.bed_write.proofs.ChooseLaws.{small_code, good_chosen}
 use Rattle.codes.specs.Value.{float}
-use borrow.Author.Rules.{rules}
 use lib.Ieee.{of_bits}
 use native.Mathlib.Omega.{arith}
 use Rattle.bed_write.proofs.value_codes.codes_f64.good_code_f64.Goals as goal

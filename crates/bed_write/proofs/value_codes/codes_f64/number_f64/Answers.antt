@@ -4,7 +4,6 @@ use native.Mathlib.Omega.{arith}
 use lib.Ieee.{of_bits}
 use Rattle.codes.specs.Value.{float}
 use Rattle.bed_write.proofs.ChooseLaws.{small_code, code_chosen}
-use borrow.Author.Rules.{rules}
 use Rattle.bed_write.proofs.value_codes.codes_f64.number_f64.Goals as goal
 
 pub choose-two-requires : goal.choose-two-requires

@@ -1,7 +1,6 @@
 -- `choose_u8`: one of the two products is 0.
 use native.Mathlib.Omega.{arith}
 use Rattle.bed_write.proofs.ChooseLaws.{test_byte, times_yes, times_no, chosen}
-use borrow.Author.Rules.{rules}
 use Rattle.bed_write.proofs.value_codes.codes_i8.choose_u8.Goals as goal
 
 pub overflow_mul-result : goal.overflow_mul-result

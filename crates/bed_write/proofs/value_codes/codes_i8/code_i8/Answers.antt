@@ -3,7 +3,6 @@ use mathlib.Core.Path.{ap}
 use Rattle.bed_write.proofs.ByteLaws.{index_held}
 use lib.ListN.{get_or}
 use Prim.Native.Nat.{ℕ}
-use borrow.Author.Rules.{rules}
 use Rattle.bed_write.proofs.value_codes.codes_i8.code_i8.Goals as goal
 
 pub returns : goal.returns

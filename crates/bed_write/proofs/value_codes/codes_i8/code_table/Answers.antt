@@ -1,7 +1,6 @@
 -- `code_table`: 4 everywhere, then missing, then 2, 1 and 0.
 use mathlib.Core.Path.{refl}
 use Rattle.bed_write.proofs.ByteLaws.{table_made, small, index_held}
-use borrow.Author.Rules.{rules}
 use Rattle.bed_write.proofs.value_codes.codes_i8.code_table.Goals as goal
 
 pub returns : goal.returns

@@ -5,7 +5,7 @@ use lib.IntN.{pos}
 use Rattle.codes.specs.Value.{i8}
 use Rattle.bed_write.proofs.ByteLaws.{tested}
 use Rattle.bed_write.proofs.ChooseLaws.{small_code, good_chosen}
-use borrow.Author.Rules.{rules, sfits_of}
+use borrow.Author.Rules.{sfits_of}
 use Rattle.bed_write.proofs.value_codes.codes_i8.good_code_i8.Goals as goal
 
 pub choose_u8-two-requires : goal.choose_u8-two-requires

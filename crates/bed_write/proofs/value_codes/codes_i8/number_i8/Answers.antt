@@ -6,7 +6,7 @@ use Rattle.codes.specs.Value.{i8, same_int}
 use Rattle.bed_write.proofs.ChooseLaws.{small_code, code_chosen}
 use Rattle.bed_write.proofs.ByteLaws.{tested}
 use Rattle.codes.proofs.ValueLaws.{same_int_refl}
-use borrow.Author.Rules.{rules, sfits_of}
+use borrow.Author.Rules.{sfits_of}
 use lib.Dec.{lit<}
 use lib.IntN.{pos}
 use Rattle.bed_write.proofs.value_codes.codes_i8.number_i8.Goals as goal

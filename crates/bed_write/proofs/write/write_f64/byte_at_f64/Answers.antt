@@ -3,7 +3,6 @@ use native.Mathlib.Omega.{arith}
 use Rattle.codes.specs.Value.{float}
 use Rattle.bed_write.specs.Private.{by_tests}
 use Rattle.bed_write.proofs.PlaceLaws.{walk_inside, walk_good, matrix_byte}
-use borrow.Author.Rules.{rules}
 use Rattle.bed_write.proofs.write.write_f64.byte_at_f64.Goals as goal
 
 pub overflow_mul-first : goal.overflow_mul-first

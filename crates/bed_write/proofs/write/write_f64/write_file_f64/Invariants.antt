@@ -1,11 +1,9 @@
 -- `write_file_f64`: tile by tile, every byte is the file's.
-use mathlib.Core.Path.{sym, ◌∙◌}
 use Prim.Native.Nat.{◌-◌}
-use native.Mathlib.Omega.{arith}
 use Rattle.codes.specs.Value.{float}
 use Rattle.bed_write.specs.Writing.{bed_file}
 use Rattle.bed_write.specs.Private.{by_tests, placed}
-use Rattle.bed_write.proofs.RowLaws.{Rows, byte_in, stored, row_done, tile_done, tile_starts, row_starts, all_done, whole_size, first_in, whole_byte, headed_length, headed_1, headed_2, headed_rows, headed_done}
+use Rattle.bed_write.proofs.RowLaws.{Rows}
 use Rattle.bed_write.proofs.write.write_f64.write_file_f64.Given as goal
 
 abbrev pub invariant-loop-m : goal.invariant-loop-m

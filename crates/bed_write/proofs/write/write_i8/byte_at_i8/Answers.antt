@@ -2,7 +2,6 @@
 use native.Mathlib.Omega.{arith}
 use Rattle.bed_write.specs.Private.{by_table}
 use Rattle.bed_write.proofs.PlaceLaws.{walk_inside, matrix_byte}
-use borrow.Author.Rules.{rules}
 use Rattle.bed_write.proofs.write.write_i8.byte_at_i8.Goals as goal
 
 pub overflow_mul-first : goal.overflow_mul-first

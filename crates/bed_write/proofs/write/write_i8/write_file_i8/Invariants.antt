@@ -1,10 +1,8 @@
 -- `write_file_i8`: tile by tile, every byte is the file's.
-use mathlib.Core.Path.{sym, ◌∙◌}
 use Prim.Native.Nat.{◌-◌}
-use native.Mathlib.Omega.{arith}
 use Rattle.bed_write.specs.Writing.{bed_file}
 use Rattle.bed_write.specs.Private.{by_table, placed}
-use Rattle.bed_write.proofs.RowLaws.{Rows, byte_in, stored, row_done, tile_done, tile_starts, row_starts, all_done, whole_size, first_in, whole_byte, headed_length, headed_1, headed_2, headed_rows, headed_done}
+use Rattle.bed_write.proofs.RowLaws.{Rows}
 use Rattle.bed_write.proofs.write.write_i8.write_file_i8.Given as goal
 
 abbrev pub invariant-loop-m : goal.invariant-loop-m
