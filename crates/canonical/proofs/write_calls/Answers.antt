@@ -1,7 +1,6 @@
 -- `write_calls`: the header, then the blocks by the mode.
 use mathlib.Core.Path.{sym, ap, ◌∙◌}
 use native.Mathlib.Omega.{arith}
-use borrow.Author.Rules.{rules}
 use lib.ListN.{length}
 use Rattle.canonical.proofs.WholeLaws.{whole_long, second_in, third_in, only_header, begun}
 use Rattle.canonical.proofs.write_calls.Goals as goal

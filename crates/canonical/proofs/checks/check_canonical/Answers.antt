@@ -2,7 +2,6 @@
 use mathlib.Core.Path.{sym, ap, ◌∙◌}
 use Rattle.bed_file.specs.Says.{accept_says}
 use Rattle.canonical.proofs.CanonicalLaws.{canonical_refused, canonical_accepted}
-use borrow.Author.Rules.{rules}
 use Rattle.canonical.proofs.checks.check_canonical.Goals as goal
 
 pub returns-in-Accepted : goal.returns-in-Accepted

@@ -3,7 +3,6 @@ use mathlib.Core.Path.{sym, ap, ◌∙◌}
 use native.Mathlib.Omega.{arith}
 use Rattle.blocks.specs.Says.{div_says}
 use Rattle.canonical.proofs.CanonicalLaws.{written_refused, written_fits, written_done, written_length}
-use borrow.Author.Rules.{rules}
 use Rattle.canonical.proofs.checks.check_written.Goals as goal
 
 pub overflow_mul-width : goal.overflow_mul-width

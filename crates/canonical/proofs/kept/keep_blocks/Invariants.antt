@@ -1,14 +1,6 @@
 -- `keep_blocks`: the blocks so far are written, and of the next one the bytes so far.
-use mathlib.Core.Path.{◌≡◌, sym, ◌∙◌}
-use Prim.Native.Nat.{ℕ, ◌+◌, ◌-◌, ◌*◌, ◌<◌, ◌≤◌}
-use native.Mathlib.Nat.{mul_comm, mul-le-mul_right, le_of_lt}
-use native.Mathlib.Omega.{arith}
-use borrow.Author.Rules.{rules}
-use lib.ListN.{length}
-use Rattle.canonical.specs.Canonical.{canonical_file}
-use Rattle.bed_write.proofs.RowLaws.{tile_starts, tile_done}
-use Rattle.canonical.proofs.KeptLaws.{kept_start, found_inside, found_is}
-use Rattle.canonical.proofs.WholeLaws.{Written, starts, whole_long, place_there, animal_there, block_place_in, block_byte_written, whole_written}
+use Prim.Native.Nat.{◌+◌, ◌-◌}
+use Rattle.canonical.proofs.WholeLaws.{Written}
 use Rattle.canonical.proofs.kept.keep_blocks.Given as goal
 
 abbrev pub invariant-loop-b : goal.invariant-loop-b

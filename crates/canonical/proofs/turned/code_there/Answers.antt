@@ -1,5 +1,4 @@
 -- `code_there`: the table has the code at the item's byte and place.
-use borrow.Author.Rules.{rules}
 use Rattle.canonical.proofs.TurnLaws.{code_found}
 use Rattle.canonical.proofs.turned.code_there.Goals as goal
 

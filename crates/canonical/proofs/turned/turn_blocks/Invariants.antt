@@ -1,13 +1,6 @@
 -- `turn_blocks`: tile by tile, every byte is the canonical file's.
-use mathlib.Core.Path.{sym, subst, ◌∙◌}
-use Prim.Native.Nat.{ℕ, ◌+◌, ◌-◌, ◌*◌, ◌^◌, ◌<◌}
-use native.Mathlib.Omega.{arith}
-use borrow.Author.Rules.{rules}
-use Rattle.bed_write.proofs.RowLaws.{tile_starts, row_starts, row_done, tile_done}
-use Rattle.calls.proofs.PlaceLaws.{part_below}
-use Rattle.canonical.specs.Canonical.{canonical_file}
-use Rattle.canonical.proofs.TurnLaws.{group_inside, turned_is}
-use Rattle.canonical.proofs.WholeLaws.{Written, starts, place_there, animal_there, place_in, byte_written, whole_written}
+use Prim.Native.Nat.{◌-◌}
+use Rattle.canonical.proofs.WholeLaws.{Written}
 use Rattle.canonical.proofs.turned.turn_blocks.Given as goal
 
 abbrev pub invariant-loop-m : goal.invariant-loop-m
