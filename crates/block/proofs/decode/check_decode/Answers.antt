@@ -1,6 +1,5 @@
 -- `check_decode`: 18, 15, 16.
 use mathlib.Core.Path.{sym}
-use borrow.Author.Rules.{rules}
 use Rattle.block.proofs.CheckLaws.{decode_too_large, decode_mismatch, decode_length, decode_done}
 use Rattle.block.proofs.decode.check_decode.Goals as goal
 

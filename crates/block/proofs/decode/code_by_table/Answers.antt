@@ -1,5 +1,4 @@
 -- `code_by_table`: the table has the code of the byte and the place.
-use borrow.Author.Rules.{rules}
 use Rattle.block.proofs.ColumnLaws.{by_table_law}
 use Rattle.block.proofs.decode.code_by_table.Goals as goal
 

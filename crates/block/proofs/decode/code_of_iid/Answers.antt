@@ -1,6 +1,5 @@
 -- `code_of_iid`: 18, 16, 5, then the code at the animal's place of its byte.
 use mathlib.Core.Path.{sym}
-use borrow.Author.Rules.{rules}
 use Rattle.block.proofs.CheckLaws.{byte_below, code_too_large, code_length, code_found, code_bad}
 use Rattle.block.proofs.decode.code_of_iid.Goals as goal
 

@@ -5,7 +5,6 @@ use lib.Ieee.{nan}
 use lib.ListN.{length}
 use Rattle.blocks.specs.Block.{block_width}
 use Rattle.codes.specs.Value.{float}
-use borrow.Author.Rules.{rules}
 use Rattle.block.proofs.CheckLaws.{decodable}
 use Rattle.answer.proofs.AnswerLaws.{is_done_of}
 use Rattle.block.proofs.ColumnLaws.{column_new, column_kept}

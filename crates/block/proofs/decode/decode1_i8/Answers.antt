@@ -7,7 +7,6 @@ use mir.Syntax.{w8}
 use mir.ValLaws.{to_z-of_z}
 use Rattle.blocks.specs.Block.{block_width}
 use Rattle.codes.specs.Value.{i8, values}
-use borrow.Author.Rules.{rules}
 use Rattle.block.proofs.CheckLaws.{decodable}
 use Rattle.answer.proofs.AnswerLaws.{is_done_of}
 use Rattle.block.proofs.ColumnLaws.{column_new, column_kept}

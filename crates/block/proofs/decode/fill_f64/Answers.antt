@@ -1,12 +1,11 @@
 use mathlib.Core.Path.{refl, ap}
-use Prim.Native.Nat.{ℕ, ◌-◌}
+use Prim.Native.Nat.{ℕ}
 use native.Mathlib.Omega.{arith}
-use borrow.Author.Rules.{rules}
 use lib.Ieee.{nan}
 use lib.ListN.{length, get_or}
 use Rattle.codes.specs.Code.{item_code}
 use Rattle.block.proofs.CheckLaws.{byte_below}
-use Rattle.block.proofs.ColumnLaws.{Filled, filled_none, filled_more, filled_all}
+use Rattle.block.proofs.ColumnLaws.{filled_none, filled_more, filled_all}
 use Rattle.block.proofs.decode.fill_f64.Goals as goal
 
 pub loop-a-init : goal.loop-a-init

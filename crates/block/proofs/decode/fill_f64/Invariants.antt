@@ -1,13 +1,9 @@
 -- `fill_f64`: each turn fills one place more.
-use mathlib.Core.Path.{refl, ap}
-use Prim.Native.Nat.{ℕ, ◌-◌}
-use native.Mathlib.Omega.{arith}
-use borrow.Author.Rules.{rules}
+use Prim.Native.Nat.{◌-◌}
 use lib.Ieee.{nan}
 use lib.ListN.{length, get_or}
 use Rattle.codes.specs.Code.{item_code}
-use Rattle.block.proofs.CheckLaws.{byte_below}
-use Rattle.block.proofs.ColumnLaws.{Filled, filled_none, filled_more, filled_all}
+use Rattle.block.proofs.ColumnLaws.{Filled}
 use Rattle.block.proofs.decode.fill_f64.Given as goal
 
 abbrev pub invariant-loop-a : goal.invariant-loop-a

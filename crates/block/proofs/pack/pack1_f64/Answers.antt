@@ -1,6 +1,5 @@
 -- `pack1_f64`: 18, 16 and 15, then `encode1_f64`.
 use mathlib.Core.Path.{sym, ap, ◌∙◌}
-use borrow.Author.Rules.{rules}
 use lib.ListN.{length}
 use Rattle.codes.specs.Value.{float}
 use Rattle.bed_write.specs.Packing.{place_code}

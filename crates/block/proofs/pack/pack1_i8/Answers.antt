@@ -1,6 +1,5 @@
 -- `pack1_i8`: 18, 16 and 15, then `encode1_i8`.
 use mathlib.Core.Path.{sym, ap, ◌∙◌}
-use borrow.Author.Rules.{rules}
 use lib.ListN.{length}
 use Rattle.codes.specs.Value.{i8}
 use Rattle.bed_write.specs.Packing.{place_code}
