@@ -3,8 +3,7 @@ use mathlib.Core.Path.{◌≡◌, refl, sym, ap, subst, ◌∙◌}
 use mathlib.Core.Bool.{Bool, true, false}
 use mathlib.Core.List.{List, [], ◌∷◌}
 use mathlib.Core.Option.{Option, some}
-use Prim.Native.Nat.{ℕ, zero, suc, ◌+◌, ◌-◌, ◌*◌, ◌%◌, ◌^◌, ◌<◌, ◌≤◌}
-use native.Mathlib.Nat.{add-zero}
+use Prim.Native.Nat.{ℕ, zero, suc, ◌+◌, ◌-◌, ◌*◌, ◌%◌, ◌^◌, ◌<◌}
 use native.Mathlib.Omega.{arith}
 use lib.ListN.{length, get_or}
 use Rattle.codes.specs.Code.{group_byte, code_at, code_table, packed_byte}
@@ -14,10 +13,9 @@ use Rattle.answer.proofs.Tests.{by_lt}
 use Rattle.calls.specs.declared.Part.{Part}
 use Rattle.calls.specs.declared.Shape.{Shape}
 use Rattle.calls.specs.Calls.{call_code}
-use Rattle.calls.specs.Places.{Shaped, is_block, part_byte, part_place, in_word, IsPart}
-use Rattle.calls.proofs.CallLaws.{call_below}
+use Rattle.calls.specs.Places.{Shaped, is_block, part_byte, part_place, IsPart}
 use Rattle.calls.proofs.PlaceLaws.{in_word_law, pair_inside, pair_code}
-use Rattle.bed_write.specs.Groups.{or_four, in_group, Four}
+use Rattle.bed_write.specs.Groups.{or_four, in_group}
 use Rattle.bed_write.specs.Packing.{or_zero}
 use Rattle.bed_write.proofs.GroupLaws.{held_there, held_pad, group_byte_law}
 use Rattle.canonical.specs.Private.{Starts, code_there, group_code, GroupInside, four_byte}

@@ -5,7 +5,7 @@ use Prim.Native.Nat.{ℕ, ◌+◌, ◌*◌, ◌<◌, ◌≤◌}
 use native.Mathlib.Nat.{mul_comm}
 use native.Mathlib.Omega.{arith}
 use lib.Arith.{digits_lt}
-use lib.ListN.{length, get_or, set}
+use lib.ListN.{length, set}
 use Rattle.blocks.specs.Block.{block_width}
 use Rattle.codes.specs.Code.{packed_byte}
 use Rattle.answer.specs.Lists.{tabulate}

@@ -1,5 +1,5 @@
 -- What only private functions speak in: the length to be written, and the bytes of a block by the mode of the file.
-use Rattle.std.specs.Prelude.{◌≡◌, true, List, [], ℕ, zero, suc, ◌+◌, ◌-◌, ◌*◌, ◌%◌, ◌<◌, eqb, length, get_or}
+use Rattle.std.specs.Prelude.{◌≡◌, true, List, [], ℕ, zero, suc, ◌+◌, ◌-◌, ◌%◌, ◌<◌, eqb, length, get_or}
 use Rattle.answer.specs.Answer.{Answer, done, check, check_count}
 use Rattle.blocks.specs.Block.{block_width, file_length, check_size}
 use Rattle.codes.specs.Code.{group_byte, code_at}

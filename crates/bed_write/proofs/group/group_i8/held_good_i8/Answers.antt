@@ -1,0 +1,32 @@
+-- `held_good_i8`: the code where there is a value, else a pad.
+use Prim.Native.Nat.{◌+◌, ◌*◌}
+use Rattle.bed_write.proofs.FirstLaws.{good_read}
+use Rattle.bed_write.proofs.ByteLaws.{good_held}
+use Rattle.bed_write.proofs.GroupLaws.{held_there, held_pad}
+use Rattle.bed_write.specs.Groups.{or_four}
+use Rattle.bed_write.specs.Packing.{place_code}
+use Rattle.codes.specs.Value.{i8}
+use mathlib.Core.Path.{◌∙◌}
+use native.Mathlib.Omega.{arith}
+use Rattle.bed_write.proofs.group.group_i8.held_good_i8.Goals as goal
+
+pub overflow_mul-at : goal.overflow_mul-at
+overflow_mul-at c = omega (arith, c.requires c.if-k-left.true)
+
+pub overflow_add-at : goal.overflow_add-at
+overflow_add-at c = omega (arith, c.requires c.if-k-left.true)
+
+pub bounds-val-at : goal.bounds-val-at
+bounds-val-at c = c.requires c.if-k-left.true
+
+pub returns-then-k-left : goal.returns-then-k-left
+returns-then-k-left c =
+    λ missing g.
+    let s = c.before.before.before in
+    let a = s.args in
+    let h = c.if-k-left.true in
+    good_read i8 a.is_a1_counted missing a.val.now _ _ _ (s.requires h) (g h) (good_held a.is_a1_counted missing _ _ c.good_code_i8-arg-1.given c.good_code_i8.ensures)
+    ∙ held_there a.left (λ j. or_four (place_code i8 a.is_a1_counted missing a.val.now (a.start + j * a.stride))) a.k h
+
+pub returns : goal.returns
+returns c = λ missing g. held_pad _ _ _ c.if-k-left.false

@@ -1,0 +1,45 @@
+use mathlib.Core.Path.{refl, ap, ◌∙◌}
+use Prim.Native.Nat.{ℕ}
+use native.Mathlib.Omega.{arith}
+use borrow.Author.Rules.{sfits_of}
+use mir.Syntax.{w8}
+use mir.ValLaws.{to_z-of_z}
+use lib.IntN.{pos}
+use lib.ListN.{length, get_or}
+use Rattle.codes.specs.Code.{item_code}
+use Rattle.block.proofs.CheckLaws.{byte_below}
+use Rattle.block.proofs.ColumnLaws.{filled_none, filled_more, filled_all}
+use Rattle.block.proofs.decode.fill_i8.Goals as goal
+
+pub loop-a-init : goal.loop-a-init
+loop-a-init c = let s = c in filled_none (λ k. get_or s.args.values.now (item_code s.args.bytes.now k) (pos 0)) (pos 0) (length s.args.out.now) s.args.out.now refl
+
+pub code_by_table-code-requires : goal.code_by_table-code-requires
+code_by_table-code-requires c =
+    let s = c in
+    let l = c.loop-a.invariant.long in
+    (byte_below _ (length s.args.out.now) _ _ s.requires.0 refl (omega (arith, l, c.loop-a-test.true)), s.requires.1)
+
+pub bounds-values-code : goal.bounds-values-code
+bounds-values-code c = c.code_by_table-code.ensures.0
+
+pub bounds-out-a : goal.bounds-out-a
+bounds-out-a c = c.loop-a-test.true
+
+pub overflow_add-a : goal.overflow_add-a
+overflow_add-a c = omega arith
+
+pub loop-a-smaller : goal.loop-a-smaller
+loop-a-smaller c = omega (arith, c.loop-a.invariant.long, c.loop-a-test.true)
+
+pub loop-a-preserved : goal.loop-a-preserved
+loop-a-preserved c =
+    let s = c in
+    filled_more (λ k. get_or s.args.values.now (item_code s.args.bytes.now k) (pos 0)) (pos 0) (length s.args.out.now) _ _ _
+    c.loop-a.invariant c.loop-a-test.true (to_z-of_z w8 _ (sfits_of c.out-1.given) ∙ ap (λ (k : ℕ). get_or s.args.values.now k (pos 0)) c.code_by_table-code.ensures.1)
+
+pub shape_of-out : goal.shape_of-out
+shape_of-out c = c.loop-a.invariant.long
+
+pub returns : goal.returns
+returns c = let s = c in filled_all (λ k. get_or s.args.values.now (item_code s.args.bytes.now k) (pos 0)) (pos 0) (length s.args.out.now) _ _ c.loop-a.invariant c.loop-a-test.false
