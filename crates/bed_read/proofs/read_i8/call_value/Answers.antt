@@ -1,0 +1,21 @@
+-- `call_value`: the table has the value of the code at the place of the byte.
+use mathlib.Core.Path.{◌∙◌}
+use native.Mathlib.Omega.{arith}
+use borrow.Author.Rules.{rules, sfits_of}
+use mir.Syntax.{w8}
+use mir.ValLaws.{to_z-of_z}
+use lib.IntN.{pos}
+use Rattle.bed_read.proofs.TableLaws.{value_there}
+use Rattle.bed_read.proofs.read_i8.call_value.Goals as goal
+
+pub overflow_mul-at : goal.overflow_mul-at
+overflow_mul-at c = omega arith
+
+pub overflow_add-at : goal.overflow_add-at
+overflow_add-at c = omega arith
+
+pub returns : goal.returns
+returns c =
+    let s = c.before.before.before.before.before in
+    to_z-of_z w8 _ (sfits_of c.result-1.given)
+    ∙ value_there (pos 0) s.args.table.now s.requires.2 s.args.file.now s.args.byte s.args.place _ c.wide.ensures.0 c.wide.ensures.1 s.requires.1
