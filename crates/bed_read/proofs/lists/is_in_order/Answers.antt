@@ -27,10 +27,9 @@ loop-k-smaller c = omega arith
 
 pub loop-k-preserved : goal.loop-k-preserved
 loop-k-preserved c =
-    let p = c.before.before.before.before.before in
-    let l = p.loop-k in (
-      omega (arith, p.loop-k-test.true),
-      order_more _ _ _ _ l.k l.invariant.1 (sym p.part_at-part.ensures.byte_is ∙ c.if-part-k.false) (sym p.part_at-part.ensures.place_is ∙ c.if-part-k-2.false),
+    let l = c.loop-k in (
+      omega (arith, c.loop-k-test.true),
+      order_more _ _ _ _ l.k l.invariant.1 (sym c.part_at-part.ensures.byte_is ∙ c.if-part-k.false) (sym c.part_at-part.ensures.place_is ∙ c.if-part-k-2.false),
     )
 
 done_all :

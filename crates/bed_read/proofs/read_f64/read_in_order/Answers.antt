@@ -5,13 +5,9 @@ use native.Mathlib.Omega.{arith}
 use lib.Ieee.{Float, nan}
 use lib.ListN.{length-set}
 use Rattle.bed_read.specs.Private.{value_in, DrawnInOrder}
-use Rattle.bed_read.proofs.DrawLaws.{drawn_none, drawn_one, drawn_to, drawn_end}
+use Rattle.bed_read.proofs.DrawLaws.{drawn_none, drawn_one, drawn_on, drawn_end}
 use Rattle.bed_read.proofs.PartLaws.{byte_item}
 use Rattle.bed_read.proofs.read_f64.read_in_order.Goals as goal
-use Rattle.bed_read.proofs.read_f64.read_in_order.Goals.{At-loop-i, Start}
-
-abbrev SoFar : Start → ℕ → List Float → Type 0
-SoFar s = DrawnInOrder s.args.table.now nan s.args.file.now s.args.start s.args.at s.args.n s.args.val.now
 
 pub loop-b-init : goal.loop-b-init
 loop-b-init c = drawn_none nan _ _ _ _ 1
@@ -78,34 +74,27 @@ loop-b-smaller c = omega arith
 
 pub loop-b-preserved : goal.loop-b-preserved
 loop-b-preserved c =
-    let s = c.before.before.before.before.before.before.before.before.before in
     let b = c.loop-b.b in
-    let t : b < s.args.n / 4 = c.loop-b-test.true in
-    let l = s.requires.2 in
-    let v = value_in s.args.table.now nan in
+    let t : b < c.args.n / 4 = c.loop-b-test.true in
+    let l = c.requires.2 in
+    let v = value_in c.args.table.now nan in
     drawn_one nan _ _ _ _ (4 * b + 3) (4 * (b + 1)) _ _ _
     (drawn_one nan _ _ _ _ (4 * b + 2) (4 * b + 3) _ _ _
     (drawn_one nan _ _ _ _ (4 * b + 1) (4 * b + 2) _ _ _
     (drawn_one nan _ _ _ _ (4 * b) (4 * b + 1) _ _ _ c.loop-b.invariant (omega arith) (omega arith) (omega arith) (omega arith)
-    (c.call_value-v0.ensures ∙ byte_item v s.args.file.now s.args.start b 0 (4 * b) (omega arith) (omega arith)))
+    (c.call_value-v0.ensures ∙ byte_item v c.args.file.now c.args.start b 0 (4 * b) (omega arith) (omega arith)))
     (omega arith) (omega arith) (omega arith) (omega arith)
-    (c.call_value-v1.ensures ∙ byte_item v s.args.file.now s.args.start b 1 (4 * b + 1) (omega arith) refl))
+    (c.call_value-v1.ensures ∙ byte_item v c.args.file.now c.args.start b 1 (4 * b + 1) (omega arith) refl))
     (omega arith) (omega arith) (omega arith) (omega arith)
-    (c.call_value-v2.ensures ∙ byte_item v s.args.file.now s.args.start b 2 (4 * b + 2) (omega arith) refl))
+    (c.call_value-v2.ensures ∙ byte_item v c.args.file.now c.args.start b 2 (4 * b + 2) (omega arith) refl))
     (omega arith) (omega arith) (omega arith) (omega arith)
-    (c.call_value-v3.ensures ∙ byte_item v s.args.file.now s.args.start b 3 (4 * b + 3) (omega arith) refl)
+    (c.call_value-v3.ensures ∙ byte_item v c.args.file.now c.args.start b 3 (4 * b + 3) (omega arith) refl)
 
 pub overflow_mul-i : goal.overflow_mul-i
 overflow_mul-i c = omega arith
 
 pub loop-i-init : goal.loop-i-init
 loop-i-init c = λ old f. f
-
--- the second loop's places so far, from the start
-so_far : (c : At-loop-i) → SoFar c.before.before.before.before.before.before c.loop-i.i c.loop-i.val
-so_far c =
-    c.loop-i.invariant c.args.val.now
-    (drawn_to nan _ _ _ _ 1 (4 * c.loop-b.b) (4 * (c.args.n / 4)) _ c.loop-b.invariant (let b = c.loop-b.invariant.bound in let l = c.loop-b-test.false in omega arith))
 
 pub overflow_add-k-in-loop-i : goal.overflow_add-k-in-loop-i
 overflow_add-k-in-loop-i c = omega arith
@@ -117,10 +106,10 @@ pub call_value-requires : goal.call_value-requires
 call_value-requires c = (omega (arith, c.loop-i-test.true, c.requires.1), omega arith, c.requires.0)
 
 pub offset_bounds-val-k-in-loop-i : goal.offset_bounds-val-k-in-loop-i
-offset_bounds-val-k-in-loop-i c = omega (arith, (so_far c.before.before.before).long, c.loop-i-test.true, c.requires.2)
+offset_bounds-val-k-in-loop-i c = omega (arith, (drawn_on nan _ _ _ _ _ c.loop-b.b (c.args.n / 4) c.loop-i.i _ _ c.loop-b.invariant c.loop-b-test.false (let b = c.loop-b.invariant.bound in omega arith) c.loop-i.invariant).long, c.loop-i-test.true, c.requires.2)
 
 pub bounds-val-k-in-loop-i : goal.bounds-val-k-in-loop-i
-bounds-val-k-in-loop-i c = omega (arith, (so_far c.before.before.before).long, c.loop-i-test.true, c.requires.2)
+bounds-val-k-in-loop-i c = omega (arith, (drawn_on nan _ _ _ _ _ c.loop-b.b (c.args.n / 4) c.loop-i.i _ _ c.loop-b.invariant c.loop-b-test.false (let b = c.loop-b.invariant.bound in omega arith) c.loop-i.invariant).long, c.loop-i-test.true, c.requires.2)
 
 pub overflow_add-i : goal.overflow_add-i
 overflow_add-i c = omega arith
@@ -134,12 +123,12 @@ loop-i-preserved c =
     let t = c.loop-i-test.true in
     let l = c.requires.2 in
     let a = (c.loop-i.invariant old f).long in
-    let b = (so_far c.before.before.before).long in
+    let b = (drawn_on nan _ _ _ _ _ c.loop-b.b (c.args.n / 4) c.loop-i.i _ _ c.loop-b.invariant c.loop-b-test.false (let b = c.loop-b.invariant.bound in omega arith) c.loop-i.invariant).long in
     drawn_one nan _ _ _ _ _ _ _ _ _ (c.loop-i.invariant old f) t refl refl (omega arith)
     c.call_value.ensures
 
 pub shape_of-val : goal.shape_of-val
-shape_of-val c = (so_far c.before.before).long
+shape_of-val c = (drawn_on nan _ _ _ _ _ c.loop-b.b (c.args.n / 4) c.loop-i.i _ _ c.loop-b.invariant c.loop-b-test.false (let b = c.loop-b.invariant.bound in omega arith) c.loop-i.invariant).long
 
 pub returns : goal.returns
-returns c = drawn_end nan _ _ _ _ _ _ _ (so_far c.before.before) c.loop-i-test.false
+returns c = drawn_end nan _ _ _ _ _ _ _ (drawn_on nan _ _ _ _ _ c.loop-b.b (c.args.n / 4) c.loop-i.i _ _ c.loop-b.invariant c.loop-b-test.false (let b = c.loop-b.invariant.bound in omega arith) c.loop-i.invariant) c.loop-i-test.false

@@ -29,27 +29,25 @@ module _ (s : Start) where
   Checked = Readable s.args.file.now s.args.iid_count s.args.sid_count s.args.iid_index.now s.args.sid_index.now (length s.args.val.now)
 
 -- what is known once the checks passed
-done : (c : Then-is_done) → is_done (answer c.before.before.before.before.before.before) ≡ true
+done : (c : Then-is_done) → is_done (answer c) ≡ true
 done c = is_done_of _ _ _ c.check_read-checked.ensures c.is_done.ensures true c.if-is_done.true
 
-facts : (c : Then-is_done) → Checked c.before.before.before.before.before.before
+facts : (c : Then-is_done) → Checked c
 facts c = readable _ _ _ _ _ _ (done c)
 
-filled : (c : After-value_table-table) → c.value_table-table.result ≡ map (value c.before.before.before.before.before.before.before.before) code_table
+filled : (c : After-value_table-table) → c.value_table-table.result ≡ map (value c) code_table
 filled c = c.value_table-table.ensures
 
 pub read_matrix-requires : goal.read_matrix-requires
 read_matrix-requires c =
-    let v = c.before.before.before in
-    let f = facts v.before.before in
-    (ready _ _ _ _ _ _ f _ v.shape_of-shape.ensures, made_by_code nan (value v.before.before.before.before.before.before.before) _ (filled v), f.product)
+    let f = facts c in
+    (ready _ _ _ _ _ _ f _ c.shape_of-shape.ensures, made_by_code nan (value c) _ (filled c), f.product)
 
 pub returns-then-is_done : goal.returns-then-is_done
 returns-then-is_done c =
-    let v = c.before.before.before.before.before.before in
-    let d = v.before.before in (
-      d.check_read-checked.ensures,
-      buffer_read _ _ _ _ _ _ (facts d) _ v.shape_of-shape.ensures float _ _ nan _ _ _ _ (done d) (filled v) c.read_matrix.ensures,
+    (
+      c.check_read-checked.ensures,
+      buffer_read _ _ _ _ _ _ (facts c) _ c.shape_of-shape.ensures float _ _ nan _ _ _ _ (done c) (filled c) c.read_matrix.ensures,
     )
 
 pub returns-else-is_done : goal.returns-else-is_done

@@ -5,15 +5,6 @@ use borrow.Author.Rules.{rules}
 use lib.ListN.{length, get_or, length-set}
 use Rattle.bed_read.proofs.DrawLaws.{two_set}
 use Rattle.bed_read.proofs.read_f64.read_pair.Goals as goal
-use Rattle.bed_read.proofs.read_f64.read_pair.Goals.{Start}
-
--- the byte and the place of entry i
-module _ (s : Start) (i : ℕ) (h : i < s.args.k + 2) where
-  byte_in : s.args.start + get_or s.args.bytes.now i 0 < length s.args.file.now
-  byte_in = s.requires.1.byte_in i h
-
-  place_in : get_or s.args.places.now i 0 < 4
-  place_in = omega (arith, s.requires.1.place_in i h)
 
 pub overflow_add-next : goal.overflow_add-next
 overflow_add-next c = omega arith
@@ -28,16 +19,16 @@ pub bounds-bytes-k : goal.bounds-bytes-k
 bounds-bytes-k c = omega arith
 
 pub overflow_add-start : goal.overflow_add-start
-overflow_add-start c = omega (arith, byte_in c.before.before.before.before c.args.k (omega arith))
+overflow_add-start c = omega (arith, c.requires.1.byte_in c.args.k (omega arith))
 
 pub bounds-places-k : goal.bounds-places-k
 bounds-places-k c = omega arith
 
 pub overflow_cast-places : goal.overflow_cast-places
-overflow_cast-places c = omega (arith, place_in c.before.before.before.before.before c.args.k (omega arith))
+overflow_cast-places c = omega (arith, c.requires.1.place_in c.args.k (omega arith))
 
 pub call_value-value-requires : goal.call_value-value-requires
-call_value-value-requires c = let s = c.before.before.before.before.before in (byte_in s s.args.k (omega arith), place_in s s.args.k (omega arith), s.requires.0)
+call_value-value-requires c = (c.requires.1.byte_in c.args.k (omega arith), omega (arith, c.requires.1.place_in c.args.k (omega arith)), c.requires.0)
 
 pub offset_bounds-bytes-next : goal.offset_bounds-bytes-next
 offset_bounds-bytes-next c = omega arith
@@ -46,16 +37,16 @@ pub bounds-bytes-next : goal.bounds-bytes-next
 bounds-bytes-next c = omega arith
 
 pub overflow_add-start-2 : goal.overflow_add-start-2
-overflow_add-start-2 c = omega (arith, byte_in c.before.before.before.before.before.before.before (c.args.k + 1) (omega arith))
+overflow_add-start-2 c = omega (arith, c.requires.1.byte_in (c.args.k + 1) (omega arith))
 
 pub bounds-places-next : goal.bounds-places-next
 bounds-places-next c = omega arith
 
 pub overflow_cast-places-2 : goal.overflow_cast-places-2
-overflow_cast-places-2 c = omega (arith, place_in c.before.before.before.before.before.before.before.before (c.args.k + 1) (omega arith))
+overflow_cast-places-2 c = omega (arith, c.requires.1.place_in (c.args.k + 1) (omega arith))
 
 pub call_value-next_value-requires : goal.call_value-next_value-requires
-call_value-next_value-requires c = let s = c.before.before.before.before.before.before.before.before in (byte_in s (s.args.k + 1) (omega arith), place_in s (s.args.k + 1) (omega arith), s.requires.0)
+call_value-next_value-requires c = (c.requires.1.byte_in (c.args.k + 1) (omega arith), omega (arith, c.requires.1.place_in (c.args.k + 1) (omega arith)), c.requires.0)
 
 pub offset_bounds-val-at : goal.offset_bounds-val-at
 offset_bounds-val-at c = omega (arith, c.requires.3)
@@ -71,6 +62,5 @@ bounds-val-after c = simp length-set (omega (arith, c.requires.3))
 
 pub returns : goal.returns
 returns c =
-    let s = c.before.before.before.before.before.before.before.before.before in
-    two_set s.args.val.now s.args.at _ _ _ _ c.call_value-value.ensures
+    two_set c.args.val.now c.args.at _ _ _ _ c.call_value-value.ensures
     c.call_value-next_value.ensures

@@ -18,35 +18,27 @@ overflow_add-t3 c = omega arith
 
 pub read_pair-requires : goal.read_pair-requires
 read_pair-requires c =
-    let s = c.before.before.before.before.before in
-    (s.requires.0, s.requires.1 0 (omega arith), s.requires.2, omega (arith, s.requires.3))
+    (c.requires.0, c.requires.1 0 (omega arith), c.requires.2, omega (arith, c.requires.3))
 
 pub read_pair-requires-2 : goal.read_pair-requires-2
 read_pair-requires-2 c =
-    let s = c.before.before.before.before.before.before.before.before.before.before in
     let l0 = two_long _ _ _ _ _ c.read_pair.ensures in
-    (s.requires.0, s.requires.1 1 (omega arith), s.requires.2, omega (arith, s.requires.3, l0))
+    (c.requires.0, c.requires.1 1 (omega arith), c.requires.2, omega (arith, c.requires.3, l0))
 
 pub read_pair-requires-3 : goal.read_pair-requires-3
 read_pair-requires-3 c =
-    let s = c.before.before.before.before.before.before.before.before.before.before.before.before.before.before.before in
     let l0 = two_long _ _ _ _ _ c.read_pair.ensures in
     let l1 = two_long _ _ _ _ _ c.read_pair-2.ensures in
-    (s.requires.0, s.requires.1 2 (omega arith), s.requires.2, omega (arith, s.requires.3, l0, l1))
+    (c.requires.0, c.requires.1 2 (omega arith), c.requires.2, omega (arith, c.requires.3, l0, l1))
 
 pub read_pair-requires-4 : goal.read_pair-requires-4
 read_pair-requires-4 c =
-    let s = c.before.before.before.before.before.before.before.before.before.before.before.before.before.before.before.before.before.before.before.before in
     let l0 = two_long _ _ _ _ _ c.read_pair.ensures in
     let l1 = two_long _ _ _ _ _ c.read_pair-2.ensures in
     let l2 = two_long _ _ _ _ _ c.read_pair-3.ensures in
-    (s.requires.0, s.requires.1 3 (omega arith), s.requires.2, omega (arith, s.requires.3, l0, l1, l2))
+    (c.requires.0, c.requires.1 3 (omega arith), c.requires.2, omega (arith, c.requires.3, l0, l1, l2))
 
 pub returns : goal.returns
 returns c =
-    let p4 = c.before.before.before in
-    let p3 = p4.before.before.before.before.before in
-    let p2 = p3.before.before.before.before.before in
-    let p1 = p2.before.before.before.before.before in
-    let a = p1.args in
-    pairs_set a.val-1.now _ _ _ _ a.at a.inner a.k _ p1.read_pair.ensures p2.read_pair-2.ensures p3.read_pair-3.ensures p4.read_pair-4.ensures
+    let a = c.args in
+    pairs_set a.val-1.now _ _ _ _ a.at a.inner a.k _ c.read_pair.ensures c.read_pair-2.ensures c.read_pair-3.ensures c.read_pair-4.ensures

@@ -15,9 +15,8 @@ overflow_add-k c = omega (arith, c.loop-k.invariant.bound, c.requires.3)
 
 pub read_pairs-requires : goal.read_pairs-requires
 read_pairs-requires c =
-    let s = c.before.before.before.before.before in
     let h = c.loop-k-test.true in
-    (s.requires.0, λ j b. inside_less _ _ _ _ _ _ _ h (s.requires.1 j b), omega (arith, h, s.requires.3), omega (arith, h, c.loop-k.invariant.long, s.requires.4))
+    (c.requires.0, λ j b. inside_less _ _ _ _ _ _ _ h (c.requires.1 j b), omega (arith, h, c.requires.3), omega (arith, h, c.loop-k.invariant.long, c.requires.4))
 
 pub overflow_add-k-in-loop-k : goal.overflow_add-k-in-loop-k
 overflow_add-k-in-loop-k c = omega (arith, c.loop-k-test.true)
@@ -27,26 +26,21 @@ loop-k-smaller c = omega (arith, c.loop-k-test.true)
 
 pub loop-k-preserved : goal.loop-k-preserved
 loop-k-preserved c =
-    let r = c.before.before in
-    let l = r.before.before.before in
-    drawn_pairs (pos 0) _ _ _ _ _ _ l.loop-k.k _ _ l.loop-k.invariant (omega arith) r.loop-k-test.true l.requires.4 r.read_pairs.ensures
+    drawn_pairs (pos 0) _ _ _ _ _ _ c.loop-k.k _ _ c.loop-k.invariant (omega arith) c.loop-k-test.true c.requires.4 c.read_pairs.ensures
 
 pub overflow_sub-n : goal.overflow_sub-n
 overflow_sub-n c = omega (arith, c.requires.2)
 
 pub read_pairs-requires-2 : goal.read_pairs-requires-2
 read_pairs-requires-2 c =
-    let s = c.before.before.before.before.before in
-    let h = s.requires.2 in
-    (s.requires.0, λ j b. inside_less _ _ _ _ _ _ _ (omega arith) (s.requires.1 j b), omega (arith, h, s.requires.3), omega (arith, h, c.loop-k.invariant.long, s.requires.4))
+    let h = c.requires.2 in
+    (c.requires.0, λ j b. inside_less _ _ _ _ _ _ _ (omega arith) (c.requires.1 j b), omega (arith, h, c.requires.3), omega (arith, h, c.loop-k.invariant.long, c.requires.4))
 
 pub shape_of-val : goal.shape_of-val
 shape_of-val c =
-    let s = c.before.before.before.before.before.before.before in
-    (drawn_pairs (pos 0) _ _ _ _ _ _ (s.args.n - 2) _ _ c.loop-k.invariant (omega (arith, c.loop-k-test.false)) (omega (arith, s.requires.2)) s.requires.4 c.read_pairs-2.ensures).long
+    (drawn_pairs (pos 0) _ _ _ _ _ _ (c.args.n - 2) _ _ c.loop-k.invariant (omega (arith, c.loop-k-test.false)) (omega (arith, c.requires.2)) c.requires.4 c.read_pairs-2.ensures).long
 
 pub returns : goal.returns
 returns c =
-    let s = c.before.before.before.before.before.before.before in
-    drawn_to (pos 0) _ _ _ _ 4 _ _ _ (drawn_pairs (pos 0) _ _ _ _ _ _ (s.args.n - 2) _ _ c.loop-k.invariant (omega (arith, c.loop-k-test.false)) (omega (arith, s.requires.2)) s.requires.4 c.read_pairs-2.ensures)
-    (omega (arith, s.requires.2))
+    drawn_to (pos 0) _ _ _ _ 4 _ _ _ (drawn_pairs (pos 0) _ _ _ _ _ _ (c.args.n - 2) _ _ c.loop-k.invariant (omega (arith, c.loop-k-test.false)) (omega (arith, c.requires.2)) c.requires.4 c.read_pairs-2.ensures)
+    (omega (arith, c.requires.2))

@@ -8,13 +8,9 @@ use mir.ValLaws.{to_z-of_z}
 use lib.IntN.{ℤ, pos}
 use lib.ListN.{length-set}
 use Rattle.bed_read.specs.Private.{value_in, DrawnInOrder}
-use Rattle.bed_read.proofs.DrawLaws.{drawn_none, drawn_one, drawn_to, drawn_end}
+use Rattle.bed_read.proofs.DrawLaws.{drawn_none, drawn_one, drawn_on, drawn_end}
 use Rattle.bed_read.proofs.PartLaws.{byte_item}
 use Rattle.bed_read.proofs.read_i8.read_in_order.Goals as goal
-use Rattle.bed_read.proofs.read_i8.read_in_order.Goals.{At-loop-i, Start}
-
-abbrev SoFar : Start → ℕ → List ℤ → Type 0
-SoFar s = DrawnInOrder s.args.table.now (pos 0) s.args.file.now s.args.start s.args.at s.args.n s.args.val.now
 
 pub loop-b-init : goal.loop-b-init
 loop-b-init c = drawn_none (pos 0) _ _ _ _ 1
@@ -69,34 +65,27 @@ loop-b-smaller c = omega arith
 
 pub loop-b-preserved : goal.loop-b-preserved
 loop-b-preserved c =
-    let s = c.before.before.before.before.before.before.before.before in
     let b = c.loop-b.b in
-    let t : b < s.args.n / 4 = c.loop-b-test.true in
-    let l = s.requires.2 in
-    let v = value_in s.args.table.now (pos 0) in
+    let t : b < c.args.n / 4 = c.loop-b-test.true in
+    let l = c.requires.2 in
+    let v = value_in c.args.table.now (pos 0) in
     drawn_one (pos 0) _ _ _ _ (4 * b + 3) (4 * (b + 1)) _ _ _
     (drawn_one (pos 0) _ _ _ _ (4 * b + 2) (4 * b + 3) _ _ _
     (drawn_one (pos 0) _ _ _ _ (4 * b + 1) (4 * b + 2) _ _ _
     (drawn_one (pos 0) _ _ _ _ (4 * b) (4 * b + 1) _ _ _ c.loop-b.invariant (omega arith) (omega arith) (omega arith) (omega arith)
-    (to_z-of_z w8 _ (sfits_of c.call_value-v0.type_inv) ∙ c.call_value-v0.ensures ∙ byte_item v s.args.file.now s.args.start b 0 (4 * b) (omega arith) (omega arith)))
+    (to_z-of_z w8 _ (sfits_of c.call_value-v0.type_inv) ∙ c.call_value-v0.ensures ∙ byte_item v c.args.file.now c.args.start b 0 (4 * b) (omega arith) (omega arith)))
     (omega arith) (omega arith) (omega arith) (omega arith)
-    (to_z-of_z w8 _ (sfits_of c.call_value-v1.type_inv) ∙ c.call_value-v1.ensures ∙ byte_item v s.args.file.now s.args.start b 1 (4 * b + 1) (omega arith) refl))
+    (to_z-of_z w8 _ (sfits_of c.call_value-v1.type_inv) ∙ c.call_value-v1.ensures ∙ byte_item v c.args.file.now c.args.start b 1 (4 * b + 1) (omega arith) refl))
     (omega arith) (omega arith) (omega arith) (omega arith)
-    (to_z-of_z w8 _ (sfits_of c.call_value-v2.type_inv) ∙ c.call_value-v2.ensures ∙ byte_item v s.args.file.now s.args.start b 2 (4 * b + 2) (omega arith) refl))
+    (to_z-of_z w8 _ (sfits_of c.call_value-v2.type_inv) ∙ c.call_value-v2.ensures ∙ byte_item v c.args.file.now c.args.start b 2 (4 * b + 2) (omega arith) refl))
     (omega arith) (omega arith) (omega arith) (omega arith)
-    (to_z-of_z w8 _ (sfits_of c.call_value-v3.type_inv) ∙ c.call_value-v3.ensures ∙ byte_item v s.args.file.now s.args.start b 3 (4 * b + 3) (omega arith) refl)
+    (to_z-of_z w8 _ (sfits_of c.call_value-v3.type_inv) ∙ c.call_value-v3.ensures ∙ byte_item v c.args.file.now c.args.start b 3 (4 * b + 3) (omega arith) refl)
 
 pub overflow_mul-i : goal.overflow_mul-i
 overflow_mul-i c = omega arith
 
 pub loop-i-init : goal.loop-i-init
 loop-i-init c = λ old f. f
-
--- the second loop's places so far, from the start
-so_far : (c : At-loop-i) → SoFar c.before.before.before.before.before c.loop-i.i c.loop-i.val
-so_far c =
-    c.loop-i.invariant c.args.val.now
-    (drawn_to (pos 0) _ _ _ _ 1 (4 * c.loop-b.b) (4 * (c.args.n / 4)) _ c.loop-b.invariant (let b = c.loop-b.invariant.bound in let l = c.loop-b-test.false in omega arith))
 
 pub overflow_add-k-in-loop-i : goal.overflow_add-k-in-loop-i
 overflow_add-k-in-loop-i c = omega arith
@@ -108,7 +97,7 @@ pub call_value-requires : goal.call_value-requires
 call_value-requires c = (omega (arith, c.loop-i-test.true, c.requires.1), omega arith, c.requires.0)
 
 pub bounds-val-k-in-loop-i : goal.bounds-val-k-in-loop-i
-bounds-val-k-in-loop-i c = omega (arith, (so_far c.before.before.before).long, c.loop-i-test.true, c.requires.2)
+bounds-val-k-in-loop-i c = omega (arith, (drawn_on (pos 0) _ _ _ _ _ c.loop-b.b (c.args.n / 4) c.loop-i.i _ _ c.loop-b.invariant c.loop-b-test.false (let b = c.loop-b.invariant.bound in omega arith) c.loop-i.invariant).long, c.loop-i-test.true, c.requires.2)
 
 pub overflow_add-i : goal.overflow_add-i
 overflow_add-i c = omega arith
@@ -122,12 +111,12 @@ loop-i-preserved c =
     let t = c.loop-i-test.true in
     let l = c.requires.2 in
     let a = (c.loop-i.invariant old f).long in
-    let b = (so_far c.before.before.before).long in
+    let b = (drawn_on (pos 0) _ _ _ _ _ c.loop-b.b (c.args.n / 4) c.loop-i.i _ _ c.loop-b.invariant c.loop-b-test.false (let b = c.loop-b.invariant.bound in omega arith) c.loop-i.invariant).long in
     drawn_one (pos 0) _ _ _ _ _ _ _ _ _ (c.loop-i.invariant old f) t refl refl (omega arith)
     (to_z-of_z w8 _ (sfits_of c.call_value.type_inv) ∙ c.call_value.ensures)
 
 pub shape_of-val : goal.shape_of-val
-shape_of-val c = (so_far c.before.before).long
+shape_of-val c = (drawn_on (pos 0) _ _ _ _ _ c.loop-b.b (c.args.n / 4) c.loop-i.i _ _ c.loop-b.invariant c.loop-b-test.false (let b = c.loop-b.invariant.bound in omega arith) c.loop-i.invariant).long
 
 pub returns : goal.returns
-returns c = drawn_end (pos 0) _ _ _ _ _ _ _ (so_far c.before.before) c.loop-i-test.false
+returns c = drawn_end (pos 0) _ _ _ _ _ _ _ (drawn_on (pos 0) _ _ _ _ _ c.loop-b.b (c.args.n / 4) c.loop-i.i _ _ c.loop-b.invariant c.loop-b-test.false (let b = c.loop-b.invariant.bound in omega arith) c.loop-i.invariant) c.loop-i-test.false

@@ -29,14 +29,14 @@ pub bounds-places-k : goal.bounds-places-k
 bounds-places-k c = omega arith
 
 pub overflow_cast-places : goal.overflow_cast-places
-overflow_cast-places c = omega (arith, c.requires.1.IsPlace_in c.loop-k.k c.loop-k-test.true)
+overflow_cast-places c = omega (arith, c.requires.1.place_in c.loop-k.k c.loop-k-test.true)
 
 pub overflow_add-place : goal.overflow_add-place
-overflow_add-place c = omega (arith, c.requires.1.IsPlace_in c.loop-k.k c.loop-k-test.true)
+overflow_add-place c = omega (arith, c.requires.1.place_in c.loop-k.k c.loop-k-test.true)
 
 pub call_value-requires : goal.call_value-requires
 call_value-requires c =
-    (c.requires.1.byte_in c.loop-k.k c.loop-k-test.true, c.requires.1.IsPlace_in c.loop-k.k c.loop-k-test.true, c.requires.0)
+    (c.requires.1.byte_in c.loop-k.k c.loop-k-test.true, c.requires.1.place_in c.loop-k.k c.loop-k-test.true, c.requires.0)
 
 pub bounds-val-t : goal.bounds-val-t
 bounds-val-t c = omega (arith, c.loop-k.invariant.long, c.loop-k-test.true, c.requires.3)

@@ -20,10 +20,10 @@ pub is_in_order-requires : goal.is_in_order-requires
 is_in_order-requires c = c.requires.0
 
 pub read_blocks-requires : goal.read_blocks-requires
-read_blocks-requires c = let s = c.before.before.before.before.before in (s.requires.0, s.requires.1, c.is_in_order.ensures c.if-is_in_order.true, start s)
+read_blocks-requires c = (c.requires.0, c.requires.1, c.is_in_order.ensures c.if-is_in_order.true, start c)
 
 pub shape_of-val-then-is_in_order : goal.shape_of-val-then-is_in_order
-shape_of-val-then-is_in_order c = c.read_blocks.ensures.long ∙ sym (start c.before.before.before.before.before.before.before).long
+shape_of-val-then-is_in_order c = c.read_blocks.ensures.long ∙ sym (start c).long
 
 pub returns-then-is_in_order : goal.returns-then-is_in_order
 returns-then-is_in_order c =
@@ -31,7 +31,7 @@ returns-then-is_in_order c =
     read_all a.table.now (pos 0) a.file.now _ a.iid_index.now a.sid_index.now a.animal_order _ _ c.read_blocks.ensures (omega arith)
 
 pub loop-from-init : goal.loop-from-init
-loop-from-init c = (start c.before.before.before.before.before, refl, refl)
+loop-from-init c = (start c, refl, refl)
 
 pub tile_end-until-requires : goal.tile_end-until-requires
 tile_end-until-requires c = c.loop-from-test.true
@@ -39,38 +39,34 @@ tile_end-until-requires c = c.loop-from-test.true
 -- a tile ends where the lines do, or before
 module _ (c : After-tile_end-until) where
   abbrev l : At-loop-from
-  l = c.before.before.before
+  l = c
 
   abbrev s : Start
-  s = c.before.before.before.before.before.before.before.before
+  s = c
 
   tile_in : c.tile_end-until.result ≤ length_of (not s.args.animal_order) s.args.iid_index.now s.args.sid_index.now
   tile_in = subst (λ (x : ℕ). c.tile_end-until.result ≤ x) l.length_of-inner.ensures c.tile_end-until.ensures.1
 
 pub resolve-requires : goal.resolve-requires
 resolve-requires c =
-    let d = c.before.before.before in
-    let t = d.tile_end-until.ensures in
-    ((s d).requires.0, le_of_lt t.0, tile_in d, t.2, (l d).loop.invariant.1, (l d).loop.invariant.2)
+    let t = c.tile_end-until.ensures in
+    ((s c).requires.0, le_of_lt t.0, tile_in c, t.2, (l c).loop.invariant.1, (l c).loop.invariant.2)
 
 pub read_tile-requires : goal.read_tile-requires
 read_tile-requires c =
-    let r = c.before.before.before.before in
-    let d = r.before.before.before in
-    let t = d.tile_end-until.ensures in
-    ((s d).requires.0, (s d).requires.1, r.resolve.ensures, t.0, tile_in d, t.2, (l d).loop.invariant.0)
+    let t = c.tile_end-until.ensures in
+    ((s c).requires.0, (s c).requires.1, c.resolve.ensures, t.0, tile_in c, t.2, (l c).loop.invariant.0)
 
 pub loop-from-smaller : goal.loop-from-smaller
-loop-from-smaller c = let d = c.before.before.before.before.before.before.before.before.before in omega (arith, d.tile_end-until.ensures.0, d.loop-from-test.true)
+loop-from-smaller c = omega (arith, c.tile_end-until.ensures.0, c.loop-from-test.true)
 
 pub loop-from-preserved : goal.loop-from-preserved
 loop-from-preserved c =
-    let r = c.before.before in
-    let e = r.resolve.ensures in
-    (r.read_tile.ensures, e.bytes_long, e.places_long)
+    let e = c.resolve.ensures in
+    (c.read_tile.ensures, e.bytes_long, e.places_long)
 
 pub shape_of-val : goal.shape_of-val
-shape_of-val c = c.loop-from.invariant.0.long ∙ sym (start c.before.before.before.before.before.before.before).long
+shape_of-val c = c.loop-from.invariant.0.long ∙ sym (start c).long
 
 pub returns : goal.returns
 returns c =

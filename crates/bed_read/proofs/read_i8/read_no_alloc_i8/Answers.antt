@@ -31,30 +31,27 @@ module _ (s : Start) where
   Checked = Readable s.args.file.now s.args.iid_count s.args.sid_count s.args.iid_index.now s.args.sid_index.now (length s.args.val.now)
 
 -- what is known once the checks passed
-done : (c : Then-is_done) → is_done (answer c.before.before.before.before.before) ≡ true
+done : (c : Then-is_done) → is_done (answer c) ≡ true
 done c = is_done_of _ _ _ c.check_read-checked.ensures c.is_done.ensures true c.if-is_done.true
 
-facts : (c : Then-is_done) → Checked c.before.before.before.before.before
+facts : (c : Then-is_done) → Checked c
 facts c = readable _ _ _ _ _ _ (done c)
 
-filled : (c : After-value_table-table) → c.value_table-table.result ≡ map (value c.before.before.before.before.before.before.before) code_table
+filled : (c : After-value_table-table) → c.value_table-table.result ≡ map (value c) code_table
 filled c =
-    let s = c.before.before.before.before.before.before.before in
     c.value_table-table.ensures
-    ∙ ap (λ (x : ℤ). map (λ code. get_or (values i8 s.args.is_a1_counted x) code (pos 0)) code_table) (to_z-of_z w8 s.args.missing_value s.ranges.missing_value)
+    ∙ ap (λ (x : ℤ). map (λ code. get_or (values i8 c.args.is_a1_counted x) code (pos 0)) code_table) (to_z-of_z w8 c.args.missing_value c.ranges.missing_value)
 
 pub read_matrix-requires : goal.read_matrix-requires
 read_matrix-requires c =
-    let v = c.before.before.before in
-    let f = facts v.before.before in
-    (ready _ _ _ _ _ _ f _ v.shape_of-shape.ensures, made_by_code (pos 0) (value v.before.before.before.before.before.before) _ (filled v), f.product)
+    let f = facts c in
+    (ready _ _ _ _ _ _ f _ c.shape_of-shape.ensures, made_by_code (pos 0) (value c) _ (filled c), f.product)
 
 pub returns-then-is_done : goal.returns-then-is_done
 returns-then-is_done c =
-    let v = c.before.before.before.before.before in
-    let d = v.before.before in (
-      d.check_read-checked.ensures,
-      buffer_read _ _ _ _ _ _ (facts d) _ v.shape_of-shape.ensures i8 _ _ (pos 0) _ _ _ _ (done d) (filled v) c.read_matrix.ensures,
+    (
+      c.check_read-checked.ensures,
+      buffer_read _ _ _ _ _ _ (facts c) _ c.shape_of-shape.ensures i8 _ _ (pos 0) _ _ _ _ (done c) (filled c) c.read_matrix.ensures,
     )
 
 pub returns-else-is_done : goal.returns-else-is_done

@@ -34,10 +34,10 @@ loop-o-init c = tile_none _ (pos 0) _ _ _ _ _ c.requires.6
 -- four lines are there, and their places
 module _ (c : In-loop-o) where
   abbrev n : After-length_of-inner
-  n = c.before.before.before.before.before
+  n = c
 
   abbrev s : Start
-  s = c.before.before.before.before.before.before.before
+  s = c
 
   abbrev o : ℕ
   o = c.loop-o.o
@@ -52,32 +52,31 @@ module _ (c : In-loop-o) where
   four_tiles = c.lines_by_four-fours.ensures.1 (omega (arith, c.loop-o-test.true))
 
 pub overflow_add-o : goal.overflow_add-o
-overflow_add-o c = omega (arith, few c.before.before.before.before.before.before, c.loop-o.invariant.lines)
+overflow_add-o c = omega (arith, few c, c.loop-o.invariant.lines)
 
 pub four_starts-starts-requires : goal.four_starts-starts-requires
 four_starts-starts-requires c = ((s c).requires.0, four_there c)
 
 pub overflow_mul-o : goal.overflow_mul-o
-overflow_mul-o c = let d = c.before.before.before in omega (arith, fits (s d), four_ends d _ (s d).requires.6.long)
+overflow_mul-o c = omega (arith, fits (s c), four_ends c _ (s c).requires.6.long)
 
 pub overflow_add-o-in-loop-o : goal.overflow_add-o-in-loop-o
-overflow_add-o-in-loop-o c = let d = c.before.before.before in omega (arith, fits (s d), four_ends d _ (s d).requires.6.long, (s d).requires.3, (s d).requires.4, (n d).length_of.ensures)
+overflow_add-o-in-loop-o c = omega (arith, fits (s c), four_ends c _ (s c).requires.6.long, (s c).requires.3, (s c).requires.4, (n c).length_of.ensures)
 
 pub overflow_sub-until-in-loop-o : goal.overflow_sub-until-in-loop-o
-overflow_sub-until-in-loop-o c = omega (arith, (s c.before.before.before).pre.3)
+overflow_sub-until-in-loop-o c = omega (arith, (s c).pre.3)
 
 pub read_four-requires : goal.read_four-requires
 read_four-requires c =
-    let d = c.before.before.before.before in
-    let a = (s d).args in
-    let l = d.loop-o in
+    let a = (s c).args in
+    let l = c.loop-o in
     let f = c.four_starts-starts in (
-      (s d).requires.1,
-      four_inside a.table.now (pos 0) a.file.now _ _ _ (s d).requires.0 a.animal_order _ (n d).length_of.ensures _ l.val-1 l.o _ _ _ _ (s d).requires.4 (s d).requires.2
-          l.invariant f.result f.ensures (four_tiles d).0 (four_there d),
-      (four_tiles d).1,
-      (s d).requires.5,
-      omega (arith, four_ends d _ l.invariant.rows.long, (s d).requires.3, (s d).requires.4, (n d).length_of.ensures),
+      (s c).requires.1,
+      four_inside a.table.now (pos 0) a.file.now _ _ _ (s c).requires.0 a.animal_order _ (n c).length_of.ensures _ l.val-1 l.o _ _ _ _ (s c).requires.4 (s c).requires.2
+          l.invariant f.result f.ensures (four_tiles c).0 (four_there c),
+      (four_tiles c).1,
+      (s c).requires.5,
+      omega (arith, four_ends c _ l.invariant.rows.long, (s c).requires.3, (s c).requires.4, (n c).length_of.ensures),
     )
 
 pub overflow_add-o-in-loop-o-2 : goal.overflow_add-o-in-loop-o-2
@@ -88,13 +87,11 @@ loop-o-smaller c = omega (arith, c.loop-o-test.true)
 
 pub loop-o-preserved : goal.loop-o-preserved
 loop-o-preserved c =
-    let r = c.before.before in
-    let f = r.four_starts-starts in
-    let d = r.before.before.before.before in
-    let a = (s d).args in
-    let l = d.loop-o in
-    four_read a.table.now (pos 0) a.file.now _ _ _ (s d).requires.0 a.animal_order _ (n d).length_of.ensures _ _ l.o _ _ _ _ (s d).requires.4 (s d).requires.2
-    l.invariant f.result f.ensures (four_tiles d).0 (four_there d) r.read_four.ensures
+    let f = c.four_starts-starts in
+    let a = (s c).args in
+    let l = c.loop-o in
+    four_read a.table.now (pos 0) a.file.now _ _ _ (s c).requires.0 a.animal_order _ (n c).length_of.ensures _ _ l.o _ _ _ _ (s c).requires.4 (s c).requires.2
+    l.invariant f.result f.ensures (four_tiles c).0 (four_there c) c.read_four.ensures
 
 pub loop-o-2-init : goal.loop-o-2-init
 loop-o-2-init c = c.loop-o.invariant
@@ -102,10 +99,10 @@ loop-o-2-init c = c.loop-o.invariant
 -- the line is there, and its places
 module _ (c : In-loop-o-2) where
   abbrev n2 : After-length_of-inner
-  n2 = c.before.before.before.before.before.before.before
+  n2 = c
 
   abbrev s2 : Start
-  s2 = c.before.before.before.before.before.before.before.before.before
+  s2 = c
 
   abbrev o2 : ℕ
   o2 = c.loop-o-2.o
@@ -120,23 +117,22 @@ pub part_at-part-requires : goal.part_at-part-requires
 part_at-part-requires c = ((s2 c).requires.0, there c)
 
 pub overflow_mul-o-in-loop-o-2 : goal.overflow_mul-o-in-loop-o-2
-overflow_mul-o-in-loop-o-2 c = let d = c.before.before in omega (arith, fits (s2 d), ends d _ (s2 d).requires.6.long)
+overflow_mul-o-in-loop-o-2 c = omega (arith, fits (s2 c), ends c _ (s2 c).requires.6.long)
 
 pub overflow_add-o-in-loop-o-2-2 : goal.overflow_add-o-in-loop-o-2-2
-overflow_add-o-in-loop-o-2-2 c = let d = c.before.before in omega (arith, fits (s2 d), ends d _ (s2 d).requires.6.long, (s2 d).requires.3, (s2 d).requires.4, (n2 d).length_of.ensures)
+overflow_add-o-in-loop-o-2-2 c = omega (arith, fits (s2 c), ends c _ (s2 c).requires.6.long, (s2 c).requires.3, (s2 c).requires.4, (n2 c).length_of.ensures)
 
 pub overflow_sub-until-in-loop-o-2 : goal.overflow_sub-until-in-loop-o-2
-overflow_sub-until-in-loop-o-2 c = omega (arith, (s2 c.before.before).pre.3)
+overflow_sub-until-in-loop-o-2 c = omega (arith, (s2 c).pre.3)
 
 pub read_line-requires : goal.read_line-requires
 read_line-requires c =
     let e = c.part_at-part.ensures in
-    let d = c.before.before.before in
-    let a = (s2 d).args in (
-      (s2 d).requires.1,
-      tile_inside a.file.now _ _ _ (s2 d).requires.0 a.animal_order _ _ _ _ (s2 d).requires.2 (s2 d).requires.4 (o2 d) _ _ (there d) e.byte_is e.place_is,
-      (s2 d).requires.5,
-      omega (arith, ends d _ d.loop-o-2.invariant.rows.long, (s2 d).requires.3, (s2 d).requires.4, (n2 d).length_of.ensures),
+    let a = (s2 c).args in (
+      (s2 c).requires.1,
+      tile_inside a.file.now _ _ _ (s2 c).requires.0 a.animal_order _ _ _ _ (s2 c).requires.2 (s2 c).requires.4 (o2 c) _ _ (there c) e.byte_is e.place_is,
+      (s2 c).requires.5,
+      omega (arith, ends c _ c.loop-o-2.invariant.rows.long, (s2 c).requires.3, (s2 c).requires.4, (n2 c).length_of.ensures),
     )
 
 pub overflow_add-o-in-loop-o-2-3 : goal.overflow_add-o-in-loop-o-2-3
@@ -147,12 +143,10 @@ loop-o-2-smaller c = omega arith
 
 pub loop-o-2-preserved : goal.loop-o-2-preserved
 loop-o-2-preserved c =
-    let r = c.before.before in
-    let e = r.part_at-part.ensures in
-    let d = r.before.before.before in
-    let a = (s2 d).args in
-    line_read a.table.now (pos 0) a.file.now _ _ _ (s2 d).requires.0 a.animal_order _ (n2 d).length_of.ensures _ _ (o2 d) _ _ _ _ (s2 d).requires.4 (s2 d).requires.2
-    d.loop-o-2.invariant _ _ e.byte_is e.place_is (there d) r.read_line.ensures
+    let e = c.part_at-part.ensures in
+    let a = (s2 c).args in
+    line_read a.table.now (pos 0) a.file.now _ _ _ (s2 c).requires.0 a.animal_order _ (n2 c).length_of.ensures _ _ (o2 c) _ _ _ _ (s2 c).requires.4 (s2 c).requires.2
+    c.loop-o-2.invariant _ _ e.byte_is e.place_is (there c) c.read_line.ensures
 
 pub shape_of-val : goal.shape_of-val
 shape_of-val c = c.loop-o-2.invariant.rows.long ∙ sym c.requires.6.long
