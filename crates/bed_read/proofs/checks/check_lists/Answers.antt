@@ -3,7 +3,6 @@ use mathlib.Core.Path.{sym, ap, ◌∙◌}
 use Rattle.entries.specs.Says.{first_bad_says}
 use Rattle.answer.proofs.AnswerLaws.{entry_some, entry_none}
 use Rattle.bed_read.proofs.ReadLaws.{lists_first, lists_second, lists_5, lists_6, lists_good}
-use borrow.Author.Rules.{rules}
 use Rattle.bed_read.proofs.checks.check_lists.Goals as goal
 
 pub returns-then-iid_count-gt-COUNT_LIMIT : goal.returns-then-iid_count-gt-COUNT_LIMIT

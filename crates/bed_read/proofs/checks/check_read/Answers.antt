@@ -2,7 +2,6 @@
 use mathlib.Core.Path.{sym, ap, ◌∙◌}
 use Rattle.bed_file.specs.Says.{accept_says}
 use Rattle.bed_read.proofs.ReadLaws.{read_first, read_second, read_mismatch, read_not_accepted, read_lists}
-use borrow.Author.Rules.{rules}
 use Rattle.bed_read.proofs.checks.check_read.Goals as goal
 
 pub returns-then-iid_count-gt-COUNT_LIMIT : goal.returns-then-iid_count-gt-COUNT_LIMIT

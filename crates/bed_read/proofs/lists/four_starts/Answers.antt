@@ -1,8 +1,7 @@
 -- `four_starts`: what four entries add.
-use Prim.Native.Nat.{◌^◌, ◌<◌}
+use Prim.Native.Nat.{◌^◌}
 use lib.ListN.{length}
 use native.Mathlib.Omega.{arith}
-use Rattle.bed_read.specs.Private.{length_of}
 use Rattle.bed_read.proofs.PartLaws.{either_below, four_there}
 use Rattle.bed_read.proofs.lists.four_starts.Goals as goal
 

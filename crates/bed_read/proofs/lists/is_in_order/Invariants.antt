@@ -1,10 +1,6 @@
 -- `is_in_order`: the entries so far are in order.
-use mathlib.Core.Path.{◌≡◌, sym, subst, ◌∙◌}
 use Prim.Native.Nat.{◌-◌, ◌≤◌}
-use native.Mathlib.Omega.{arith}
-use borrow.Author.Rules.{rules}
-use Rattle.bed_read.specs.Private.{length_of, InOrder}
-use Rattle.bed_read.proofs.PartLaws.{not_true, order_none, order_more}
+use Rattle.bed_read.specs.Private.{InOrder}
 use Rattle.bed_read.proofs.lists.is_in_order.Given as goal
 
 abbrev pub invariant-loop-k : goal.invariant-loop-k

@@ -5,7 +5,6 @@ use mathlib.Core.List.{List}
 use lib.IntN.{ℤ}
 use Prim.Native.Nat.{ℕ, ◌<◌}
 use native.Mathlib.Omega.{arith}
-use borrow.Author.Rules.{rules}
 use lib.ListN.{length}
 use Rattle.calls.proofs.PlaceLaws.{iid_byte_law, sid_byte_law}
 use Rattle.bed_read.specs.Private.{length_of}

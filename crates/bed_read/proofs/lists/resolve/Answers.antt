@@ -1,6 +1,5 @@
-use Prim.Native.Nat.{◌+◌, ◌-◌, ◌<◌, ◌≤◌}
+use Prim.Native.Nat.{◌+◌, ◌<◌}
 use native.Mathlib.Omega.{arith}
-use Rattle.bed_read.specs.Private.{EntryParts}
 use Rattle.bed_read.proofs.PartLaws.{place_below, resolved_none, resolved_more, resolved_all}
 use Rattle.bed_read.proofs.lists.resolve.Goals as goal
 

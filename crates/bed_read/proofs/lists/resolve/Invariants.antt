@@ -1,8 +1,6 @@
 -- `resolve`: the entries so far.
-use Prim.Native.Nat.{◌+◌, ◌-◌, ◌<◌, ◌≤◌}
-use native.Mathlib.Omega.{arith}
+use Prim.Native.Nat.{◌+◌, ◌-◌, ◌≤◌}
 use Rattle.bed_read.specs.Private.{EntryParts}
-use Rattle.bed_read.proofs.PartLaws.{place_below, resolved_none, resolved_more, resolved_all}
 use Rattle.bed_read.proofs.lists.resolve.Given as goal
 
 abbrev pub invariant-loop-k : goal.invariant-loop-k

@@ -1,6 +1,5 @@
 -- `call_value`: the table has the value of the code at the place of the byte.
 use native.Mathlib.Omega.{arith}
-use borrow.Author.Rules.{rules}
 use lib.Ieee.{nan}
 use Rattle.bed_read.proofs.TableLaws.{value_there}
 use Rattle.bed_read.proofs.read_f64.call_value.Goals as goal

@@ -1,15 +1,9 @@
 -- `read_blocks`: the lines so far are filled.
-use mathlib.Core.Path.{◌≡◌, sym, subst, ◌∙◌}
-use mathlib.Core.Bool.{Bool, true, false, not, cond}
-use Prim.Native.Nat.{ℕ, ◌+◌, ◌-◌, ◌*◌, ◌^◌, ◌<◌, ◌≤◌}
-use native.Mathlib.Omega.{arith}
-use borrow.Author.Rules.{rules}
+use mathlib.Core.Bool.{not}
+use Prim.Native.Nat.{◌-◌}
 use lib.Ieee.{nan}
-use lib.ListN.{length}
 use Rattle.bed_read.specs.Private.{length_of}
-use Rattle.bed_read.proofs.PartLaws.{order_inside}
-use Rattle.bed_read.proofs.TileLaws.{tile_none, tile_all, lines_end}
-use Rattle.bed_read.proofs.MatrixLaws.{ReadTile, block_read}
+use Rattle.bed_read.proofs.MatrixLaws.{ReadTile}
 use Rattle.bed_read.proofs.read_f64.read_blocks.Given as goal
 
 abbrev pub invariant-loop-line : goal.invariant-loop-line

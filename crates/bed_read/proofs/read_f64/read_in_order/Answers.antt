@@ -1,10 +1,9 @@
 use mathlib.Core.Path.{refl, ◌∙◌}
-use mathlib.Core.List.{List}
-use Prim.Native.Nat.{ℕ, ◌+◌, ◌-◌, ◌*◌, ◌/◌, ◌%◌, ◌<◌}
+use Prim.Native.Nat.{◌+◌, ◌*◌, ◌/◌, ◌<◌}
 use native.Mathlib.Omega.{arith}
-use lib.Ieee.{Float, nan}
+use lib.Ieee.{nan}
 use lib.ListN.{length-set}
-use Rattle.bed_read.specs.Private.{value_in, DrawnInOrder}
+use Rattle.bed_read.specs.Private.{value_in}
 use Rattle.bed_read.proofs.DrawLaws.{drawn_none, drawn_one, drawn_on, drawn_end}
 use Rattle.bed_read.proofs.PartLaws.{byte_item}
 use Rattle.bed_read.proofs.read_f64.read_in_order.Goals as goal

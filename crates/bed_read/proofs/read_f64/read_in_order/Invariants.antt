@@ -1,13 +1,8 @@
 -- `read_in_order`: the places so far are stored.
-use mathlib.Core.Path.{refl, ◌∙◌}
 use mathlib.Core.List.{List}
-use Prim.Native.Nat.{ℕ, ◌+◌, ◌-◌, ◌*◌, ◌/◌, ◌%◌, ◌<◌}
-use native.Mathlib.Omega.{arith}
+use Prim.Native.Nat.{◌-◌, ◌*◌}
 use lib.Ieee.{Float, nan}
-use lib.ListN.{length-set}
-use Rattle.bed_read.specs.Private.{value_in, DrawnInOrder}
-use Rattle.bed_read.proofs.DrawLaws.{drawn_none, drawn_one, drawn_to, drawn_end}
-use Rattle.bed_read.proofs.PartLaws.{byte_item}
+use Rattle.bed_read.specs.Private.{DrawnInOrder}
 use Rattle.bed_read.proofs.read_f64.read_in_order.Given as goal
 
 abbrev pub invariant-loop-b : goal.invariant-loop-b

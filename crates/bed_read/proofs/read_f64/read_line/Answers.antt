@@ -1,9 +1,6 @@
 use mathlib.Core.Path.{refl}
-use Prim.Native.Nat.{◌+◌, ◌-◌}
 use native.Mathlib.Omega.{arith}
 use lib.Ieee.{nan}
-use lib.ListN.{get_or}
-use Rattle.bed_read.specs.Private.{DrawnLine}
 use Rattle.bed_read.proofs.DrawLaws.{drawn_none, drawn_one, drawn_end}
 use Rattle.bed_read.proofs.read_f64.read_line.Goals as goal
 

@@ -1,8 +1,7 @@
 -- `read_pair`: two stores.
-use Prim.Native.Nat.{ℕ, ◌+◌, ◌<◌}
+use Prim.Native.Nat.{◌+◌}
 use native.Mathlib.Omega.{arith}
-use borrow.Author.Rules.{rules}
-use lib.ListN.{length, get_or, length-set}
+use lib.ListN.{length-set}
 use Rattle.bed_read.proofs.DrawLaws.{two_set}
 use Rattle.bed_read.proofs.read_f64.read_pair.Goals as goal
 

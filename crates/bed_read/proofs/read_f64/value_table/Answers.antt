@@ -1,13 +1,10 @@
 use mathlib.Core.Path.{refl, sym, ap, subst, ◌∙◌}
 use mathlib.Core.List.{List, map}
-use Prim.Native.Nat.{ℕ, ◌-◌, ◌<◌}
+use Prim.Native.Nat.{ℕ, ◌<◌}
 use native.Mathlib.Omega.{arith}
-use borrow.Author.Rules.{rules}
 use lib.Ieee.{Float, nan}
 use lib.ListN.{get_or}
 use Rattle.codes.specs.Code.{code_table}
-use Rattle.codes.specs.Value.{values}
-use Rattle.bed_read.specs.Private.{Drawn}
 use Rattle.bed_read.proofs.DrawLaws.{drawn_none, drawn_one, drawn_end}
 use Rattle.bed_read.proofs.TableLaws.{entry_below, filled_table}
 use Rattle.bed_read.proofs.read_f64.value_table.Goals as goal

@@ -1,16 +1,8 @@
 -- `value_table`: the places so far are stored.
-use mathlib.Core.Path.{refl, sym, ap, subst, ◌∙◌}
-use mathlib.Core.List.{List, map}
-use Prim.Native.Nat.{ℕ, ◌-◌, ◌<◌}
-use native.Mathlib.Omega.{arith}
-use borrow.Author.Rules.{rules}
-use lib.Ieee.{Float, nan}
+use Prim.Native.Nat.{◌-◌}
+use lib.Ieee.{nan}
 use lib.ListN.{get_or}
-use Rattle.codes.specs.Code.{code_table}
-use Rattle.codes.specs.Value.{values}
 use Rattle.bed_read.specs.Private.{Drawn}
-use Rattle.bed_read.proofs.DrawLaws.{drawn_none, drawn_one, drawn_end}
-use Rattle.bed_read.proofs.TableLaws.{entry_below, filled_table}
 use Rattle.bed_read.proofs.read_f64.value_table.Given as goal
 
 abbrev pub invariant-loop-i : goal.invariant-loop-i

@@ -1,7 +1,7 @@
 -- `call_value`: the table has the value of the code at the place of the byte.
 use mathlib.Core.Path.{◌∙◌}
 use native.Mathlib.Omega.{arith}
-use borrow.Author.Rules.{rules, sfits_of}
+use borrow.Author.Rules.{sfits_of}
 use mir.Syntax.{w8}
 use mir.ValLaws.{to_z-of_z}
 use lib.IntN.{pos}

@@ -1,14 +1,11 @@
-use mathlib.Core.Path.{◌≡◌, sym, subst, ◌∙◌}
-use mathlib.Core.Bool.{Bool, true, false, not, cond}
-use Prim.Native.Nat.{ℕ, ◌+◌, ◌-◌, ◌*◌, ◌^◌, ◌<◌, ◌≤◌}
+use mathlib.Core.Path.{sym, subst, ◌∙◌}
+use Prim.Native.Nat.{ℕ, ◌-◌, ◌*◌, ◌≤◌}
 use native.Mathlib.Omega.{arith}
-use borrow.Author.Rules.{rules}
 use lib.IntN.{pos}
 use lib.ListN.{length}
-use Rattle.bed_read.specs.Private.{length_of}
 use Rattle.bed_read.proofs.PartLaws.{order_inside}
 use Rattle.bed_read.proofs.TileLaws.{tile_none, tile_all, lines_end}
-use Rattle.bed_read.proofs.MatrixLaws.{ReadTile, block_read}
+use Rattle.bed_read.proofs.MatrixLaws.{block_read}
 use Rattle.bed_read.proofs.read_i8.read_blocks.Goals as goal
 
 pub loop-line-init : goal.loop-line-init

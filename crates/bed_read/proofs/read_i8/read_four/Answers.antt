@@ -1,8 +1,6 @@
-use Prim.Native.Nat.{◌+◌, ◌-◌, ◌*◌}
+use Prim.Native.Nat.{◌-◌}
 use native.Mathlib.Omega.{arith}
 use lib.IntN.{pos}
-use lib.ListN.{get_or}
-use Rattle.bed_read.specs.Private.{block_value, Drawn}
 use Rattle.bed_read.proofs.DrawLaws.{drawn_none, drawn_pairs, drawn_to}
 use Rattle.bed_read.proofs.PartLaws.{inside_less}
 use Rattle.bed_read.proofs.read_i8.read_four.Goals as goal

@@ -1,11 +1,7 @@
 -- `read_four`: the places so far of the four lines are stored.
 use Prim.Native.Nat.{◌+◌, ◌-◌, ◌*◌}
-use native.Mathlib.Omega.{arith}
 use lib.IntN.{pos}
-use lib.ListN.{get_or}
 use Rattle.bed_read.specs.Private.{block_value, Drawn}
-use Rattle.bed_read.proofs.DrawLaws.{drawn_none, drawn_pairs, drawn_to}
-use Rattle.bed_read.proofs.PartLaws.{inside_less}
 use Rattle.bed_read.proofs.read_i8.read_four.Given as goal
 
 abbrev pub invariant-loop-k : goal.invariant-loop-k

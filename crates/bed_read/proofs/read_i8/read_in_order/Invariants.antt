@@ -1,16 +1,8 @@
 -- `read_in_order`: the places so far are stored.
-use mathlib.Core.Path.{refl, ◌∙◌}
 use mathlib.Core.List.{List}
-use Prim.Native.Nat.{ℕ, ◌+◌, ◌-◌, ◌*◌, ◌/◌, ◌%◌, ◌<◌}
-use native.Mathlib.Omega.{arith}
-use borrow.Author.Rules.{sfits_of}
-use mir.Syntax.{w8}
-use mir.ValLaws.{to_z-of_z}
+use Prim.Native.Nat.{◌-◌, ◌*◌}
 use lib.IntN.{ℤ, pos}
-use lib.ListN.{length-set}
-use Rattle.bed_read.specs.Private.{value_in, DrawnInOrder}
-use Rattle.bed_read.proofs.DrawLaws.{drawn_none, drawn_one, drawn_to, drawn_end}
-use Rattle.bed_read.proofs.PartLaws.{byte_item}
+use Rattle.bed_read.specs.Private.{DrawnInOrder}
 use Rattle.bed_read.proofs.read_i8.read_in_order.Given as goal
 
 abbrev pub invariant-loop-b : goal.invariant-loop-b

@@ -1,14 +1,9 @@
 -- `read_matrix`: every line is filled up to the tile.
-use mathlib.Core.Path.{◌≡◌, refl, sym, subst, ◌∙◌}
-use mathlib.Core.Bool.{not}
-use Prim.Native.Nat.{ℕ, ◌-◌, ◌≤◌}
-use native.Mathlib.Nat.{le_of_lt}
-use native.Mathlib.Omega.{arith}
-use borrow.Author.Rules.{rules}
+use mathlib.Core.Path.{◌≡◌}
+use Prim.Native.Nat.{◌-◌}
 use lib.IntN.{pos}
 use lib.ListN.{length}
-use Rattle.bed_read.specs.Private.{length_of, ReadTo}
-use Rattle.bed_read.proofs.MatrixLaws.{read_none, read_all}
+use Rattle.bed_read.specs.Private.{ReadTo}
 use Rattle.bed_read.proofs.read_i8.read_matrix.Given as goal
 
 abbrev pub invariant-loop-from : goal.invariant-loop-from

@@ -3,55 +3,43 @@ use mathlib.Core.Path.{◌≡◌, ap, ◌∙◌}
 use mathlib.Core.Bool.{true, false}
 use mathlib.Core.List.{map}
 use Prim.Native.Nat.{ℕ}
-use borrow.Author.Rules.{rules}
 use lib.IntN.{ℤ, pos}
 use lib.ListN.{length, get_or}
 use mir.Syntax.{w8}
 use mir.ValLaws.{to_z-of_z}
-use Rattle.answer.specs.Answer.{Answer, is_done}
+use Rattle.answer.specs.Answer.{is_done}
 use Rattle.codes.specs.Code.{code_table}
 use Rattle.codes.specs.Value.{i8, values}
 use Rattle.bed_read.specs.Reading.{read_answer}
-use Rattle.bed_read.proofs.ReadLaws.{Readable, readable}
+use Rattle.bed_read.proofs.ReadLaws.{readable}
 use Rattle.bed_read.proofs.TableLaws.{made_by_code}
 use Rattle.answer.proofs.AnswerLaws.{is_done_of}
 use Rattle.bed_read.proofs.BufferLaws.{ready, buffer_read, buffer_kept}
 use Rattle.bed_read.proofs.read_i8.read_no_alloc_i8.Goals as goal
-use Rattle.bed_read.proofs.read_i8.read_no_alloc_i8.Goals.{After-value_table-table, Start, Then-is_done}
-
--- what reading answers, and the value of a code
-module _ (s : Start) where
-  abbrev answer : Answer
-  answer = read_answer s.args.file.now s.args.iid_count s.args.sid_count s.args.iid_index.now s.args.sid_index.now (length s.args.val.now)
-
-  abbrev value : ℕ → ℤ
-  value code = get_or (values i8 s.args.is_a1_counted s.args.missing_value) code (pos 0)
-
-  abbrev Checked : Type 0
-  Checked = Readable s.args.file.now s.args.iid_count s.args.sid_count s.args.iid_index.now s.args.sid_index.now (length s.args.val.now)
-
--- what is known once the checks passed
-done : (c : Then-is_done) → is_done (answer c) ≡ true
-done c = is_done_of _ _ _ c.check_read-checked.ensures c.is_done.ensures true c.if-is_done.true
-
-facts : (c : Then-is_done) → Checked c
-facts c = readable _ _ _ _ _ _ (done c)
-
-filled : (c : After-value_table-table) → c.value_table-table.result ≡ map (value c) code_table
-filled c =
-    c.value_table-table.ensures
-    ∙ ap (λ (x : ℤ). map (λ code. get_or (values i8 c.args.is_a1_counted x) code (pos 0)) code_table) (to_z-of_z w8 c.args.missing_value c.ranges.missing_value)
 
 pub read_matrix-requires : goal.read_matrix-requires
 read_matrix-requires c =
-    let f = facts c in
-    (ready _ _ _ _ _ _ f _ c.shape_of-shape.ensures, made_by_code (pos 0) (value c) _ (filled c), f.product)
+    let done : is_done (read_answer c.args.file.now c.args.iid_count c.args.sid_count c.args.iid_index.now c.args.sid_index.now (length c.args.val.now)) ≡ true =
+    is_done_of _ _ _ c.check_read-checked.ensures c.is_done.ensures true c.if-is_done.true
+    in
+    let filled : c.value_table-table.result ≡ map (λ (code : ℕ). get_or (values i8 c.args.is_a1_counted c.args.missing_value) code (pos 0)) code_table =
+    c.value_table-table.ensures
+    ∙ ap (λ (x : ℤ). map (λ code. get_or (values i8 c.args.is_a1_counted x) code (pos 0)) code_table) (to_z-of_z w8 c.args.missing_value c.ranges.missing_value)
+    in
+    let f = readable _ _ _ _ _ _ done in
+    (ready _ _ _ _ _ _ f _ c.shape_of-shape.ensures, made_by_code (pos 0) (λ (code : ℕ). get_or (values i8 c.args.is_a1_counted c.args.missing_value) code (pos 0)) _ filled, f.product)
 
 pub returns-then-is_done : goal.returns-then-is_done
 returns-then-is_done c =
-    (
+    let done : is_done (read_answer c.args.file.now c.args.iid_count c.args.sid_count c.args.iid_index.now c.args.sid_index.now (length c.args.val.now)) ≡ true =
+    is_done_of _ _ _ c.check_read-checked.ensures c.is_done.ensures true c.if-is_done.true
+    in
+    let filled : c.value_table-table.result ≡ map (λ (code : ℕ). get_or (values i8 c.args.is_a1_counted c.args.missing_value) code (pos 0)) code_table =
+    c.value_table-table.ensures
+    ∙ ap (λ (x : ℤ). map (λ code. get_or (values i8 c.args.is_a1_counted x) code (pos 0)) code_table) (to_z-of_z w8 c.args.missing_value c.ranges.missing_value)
+    in (
       c.check_read-checked.ensures,
-      buffer_read _ _ _ _ _ _ (facts c) _ c.shape_of-shape.ensures i8 _ _ (pos 0) _ _ _ _ (done c) (filled c) c.read_matrix.ensures,
+      buffer_read _ _ _ _ _ _ (readable _ _ _ _ _ _ done) _ c.shape_of-shape.ensures i8 _ _ (pos 0) _ _ _ _ done filled c.read_matrix.ensures,
     )
 
 pub returns-else-is_done : goal.returns-else-is_done

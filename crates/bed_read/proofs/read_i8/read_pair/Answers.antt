@@ -1,11 +1,11 @@
 -- `read_pair`: two stores.
 use mathlib.Core.Path.{◌∙◌}
-use Prim.Native.Nat.{ℕ, ◌+◌, ◌<◌}
+use Prim.Native.Nat.{◌+◌}
 use native.Mathlib.Omega.{arith}
-use borrow.Author.Rules.{rules, sfits_of}
+use borrow.Author.Rules.{sfits_of}
 use mir.Syntax.{w8}
 use mir.ValLaws.{to_z-of_z}
-use lib.ListN.{length, get_or, length-set}
+use lib.ListN.{length-set}
 use Rattle.bed_read.proofs.DrawLaws.{two_set}
 use Rattle.bed_read.proofs.read_i8.read_pair.Goals as goal
 

@@ -1,6 +1,5 @@
 -- `read_pairs`: two stores in each of four lines.
 use native.Mathlib.Omega.{arith}
-use borrow.Author.Rules.{rules}
 use Rattle.bed_read.proofs.DrawLaws.{two_long, pairs_set}
 use Rattle.bed_read.proofs.read_i8.read_pairs.Goals as goal
 
@@ -41,4 +40,4 @@ read_pair-requires-4 c =
 pub returns : goal.returns
 returns c =
     let a = c.args in
-    pairs_set a.val-1.now _ _ _ _ a.at a.inner a.k _ c.read_pair.ensures c.read_pair-2.ensures c.read_pair-3.ensures c.read_pair-4.ensures
+    pairs_set a.val.now _ _ _ _ a.at a.inner a.k _ c.read_pair.ensures c.read_pair-2.ensures c.read_pair-3.ensures c.read_pair-4.ensures

@@ -1,16 +1,7 @@
 -- `read_tile`: the lines so far are filled up to the tile's end.
-use mathlib.Core.Path.{◌≡◌, sym, ◌∙◌}
-use mathlib.Core.Bool.{true, not}
-use Prim.Native.Nat.{ℕ, ◌+◌, ◌-◌, ◌*◌, ◌^◌, ◌<◌, ◌≤◌}
-use native.Mathlib.Omega.{arith}
-use borrow.Author.Rules.{rules}
+use Prim.Native.Nat.{◌-◌}
 use lib.IntN.{pos}
-use lib.ListN.{length}
-use Rattle.calls.specs.Places.{is_block}
-use Rattle.bed_read.specs.Private.{length_of}
-use Rattle.bed_read.proofs.PartLaws.{either_below, tile_inside}
-use Rattle.bed_read.proofs.TileLaws.{tile_none, tile_all, lines_end}
-use Rattle.bed_read.proofs.MatrixLaws.{ReadTile, line_read, four_inside, four_read}
+use Rattle.bed_read.proofs.MatrixLaws.{ReadTile}
 use Rattle.bed_read.proofs.read_i8.read_tile.Given as goal
 
 abbrev pub invariant-loop-o : goal.invariant-loop-o

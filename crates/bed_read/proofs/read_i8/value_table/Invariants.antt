@@ -1,18 +1,8 @@
 -- `value_table`: the places so far are stored.
-use mathlib.Core.Path.{refl, sym, ap, subst, ◌∙◌}
-use mathlib.Core.List.{List, map}
-use Prim.Native.Nat.{ℕ, ◌-◌, ◌<◌}
-use native.Mathlib.Omega.{arith}
-use borrow.Author.Rules.{rules, sfits_of}
-use mir.Syntax.{w8}
-use mir.ValLaws.{to_z-of_z}
-use lib.IntN.{ℤ, pos}
+use Prim.Native.Nat.{◌-◌}
+use lib.IntN.{pos}
 use lib.ListN.{get_or}
-use Rattle.codes.specs.Code.{code_table}
-use Rattle.codes.specs.Value.{i8, values}
 use Rattle.bed_read.specs.Private.{Drawn}
-use Rattle.bed_read.proofs.DrawLaws.{drawn_none, drawn_one, drawn_end}
-use Rattle.bed_read.proofs.TableLaws.{entry_below, filled_table}
 use Rattle.bed_read.proofs.read_i8.value_table.Given as goal
 
 abbrev pub invariant-loop-i : goal.invariant-loop-i

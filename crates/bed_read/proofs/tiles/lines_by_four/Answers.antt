@@ -1,7 +1,6 @@
 -- `lines_by_four`: all lines, if they are blocks.
 use mathlib.Core.Path.{sym, ◌∙◌}
 use native.Mathlib.Omega.{arith}
-use borrow.Author.Rules.{rules}
 use Rattle.bed_read.proofs.tiles.lines_by_four.Goals as goal
 
 pub returns-then-n-lt2 : goal.returns-then-n-lt2
