@@ -13,24 +13,19 @@ returns-then-sid_count-gt-COUNT_LIMIT c = lists_second _ _ _ _ c.if-iid_count-gt
 
 pub returns-in-Entry : goal.returns-in-Entry
 returns-in-Entry c =
-    let s = c.before in
-    lists_5 _ _ _ _ s.if-iid_count-gt-COUNT_LIMIT.false s.if-sid_count-gt-COUNT_LIMIT.false _
-    (entry_some _ 5 _ (sym (ap (first_bad_says 5) c.in-Entry.is) ∙ s.first_bad-bad_iid.ensures 5))
+    lists_5 _ _ _ _ c.if-iid_count-gt-COUNT_LIMIT.false c.if-sid_count-gt-COUNT_LIMIT.false _
+    (entry_some _ 5 _ (sym (ap (first_bad_says 5) c.in-Entry.is) ∙ c.first_bad-bad_iid.ensures 5))
     c.in-Entry.known_told-1-own.given.0.1
 
 pub returns-in-Entry-bad_sid : goal.returns-in-Entry-bad_sid
 returns-in-Entry-bad_sid c =
-    let t = c.before in
-    let s = t.before.before in
-    lists_6 _ _ _ _ s.if-iid_count-gt-COUNT_LIMIT.false s.if-sid_count-gt-COUNT_LIMIT.false
-    (entry_none _ 5 (sym (ap (first_bad_says 5) t.in_default.is) ∙ s.first_bad-bad_iid.ensures 5)) _
-    (entry_some _ 6 _ (sym (ap (first_bad_says 6) c.in-Entry-bad_sid.is) ∙ t.first_bad-bad_sid.ensures 6))
+    lists_6 _ _ _ _ c.if-iid_count-gt-COUNT_LIMIT.false c.if-sid_count-gt-COUNT_LIMIT.false
+    (entry_none _ 5 (sym (ap (first_bad_says 5) c.in_default.is) ∙ c.first_bad-bad_iid.ensures 5)) _
+    (entry_some _ 6 _ (sym (ap (first_bad_says 6) c.in-Entry-bad_sid.is) ∙ c.first_bad-bad_sid.ensures 6))
     c.in-Entry-bad_sid.known_told-in-Entry-bad_sid-1-own.given.0.1
 
 pub returns : goal.returns
 returns c =
-    let t = c.before in
-    let s = t.before.before in
-    lists_good _ _ _ _ s.if-iid_count-gt-COUNT_LIMIT.false s.if-sid_count-gt-COUNT_LIMIT.false
-    (entry_none _ 5 (sym (ap (first_bad_says 5) t.in_default.is) ∙ s.first_bad-bad_iid.ensures 5))
-    (entry_none _ 6 (sym (ap (first_bad_says 6) c.in_default-bad_sid.is) ∙ t.first_bad-bad_sid.ensures 6))
+    lists_good _ _ _ _ c.if-iid_count-gt-COUNT_LIMIT.false c.if-sid_count-gt-COUNT_LIMIT.false
+    (entry_none _ 5 (sym (ap (first_bad_says 5) c.in_default.is) ∙ c.first_bad-bad_iid.ensures 5))
+    (entry_none _ 6 (sym (ap (first_bad_says 6) c.in_default-bad_sid.is) ∙ c.first_bad-bad_sid.ensures 6))

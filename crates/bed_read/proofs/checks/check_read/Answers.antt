@@ -12,14 +12,12 @@ returns-then-sid_count-gt-COUNT_LIMIT c = read_second _ _ _ _ _ _ c.if-iid_count
 
 pub returns-in-Accepted : goal.returns-in-Accepted
 returns-in-Accepted c =
-    let s = c.before.before in
-    read_lists _ _ _ _ _ _ s.if-iid_count-gt-COUNT_LIMIT.false s.if-sid_count-gt-COUNT_LIMIT.false _ s.product_is.ensures s.if-product_is.true _ (sym (ap accept_says c.in-Accepted.is) ∙ s.accept.ensures) c.check_lists.ensures
+    read_lists _ _ _ _ _ _ c.if-iid_count-gt-COUNT_LIMIT.false c.if-sid_count-gt-COUNT_LIMIT.false _ c.product_is.ensures c.if-product_is.true _ (sym (ap accept_says c.in-Accepted.is) ∙ c.accept.ensures) c.check_lists.ensures
 
 pub returns-in-Refused : goal.returns-in-Refused
 returns-in-Refused c =
-    let s = c.before.before in
-    read_not_accepted _ _ _ _ _ _ s.if-iid_count-gt-COUNT_LIMIT.false s.if-sid_count-gt-COUNT_LIMIT.false _ s.product_is.ensures s.if-product_is.true _
-    (sym (ap accept_says c.in-Refused.is) ∙ s.accept.ensures)
+    read_not_accepted _ _ _ _ _ _ c.if-iid_count-gt-COUNT_LIMIT.false c.if-sid_count-gt-COUNT_LIMIT.false _ c.product_is.ensures c.if-product_is.true _
+    (sym (ap accept_says c.in-Refused.is) ∙ c.accept.ensures)
 
 pub returns-else-product_is : goal.returns-else-product_is
 returns-else-product_is c = read_mismatch _ _ _ _ _ _ c.if-iid_count-gt-COUNT_LIMIT.false c.if-sid_count-gt-COUNT_LIMIT.false _ c.product_is.ensures c.if-product_is.false

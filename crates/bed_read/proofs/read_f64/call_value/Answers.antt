@@ -15,5 +15,4 @@ offset_bounds-table-at c = omega arith
 
 pub returns : goal.returns
 returns c =
-    let s = c.before.before.before.before.before in
-    value_there nan s.args.table.now s.requires.2 s.args.file.now s.args.byte s.args.place _ c.wide.ensures.0 c.wide.ensures.1 s.requires.1
+    value_there nan c.args.table.now c.requires.2 c.args.file.now c.args.byte c.args.place _ c.wide.ensures.0 c.wide.ensures.1 c.requires.1
