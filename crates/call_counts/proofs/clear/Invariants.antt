@@ -1,9 +1,7 @@
 -- `clear`: zeros so far.
-use mathlib.Core.Path.{◌≡◌, ◌∙◌, refl}
+use mathlib.Core.Path.{◌≡◌}
 use Prim.Native.Nat.{ℕ, ◌-◌, ◌≤◌, ◌<◌}
-use native.Mathlib.Omega.{arith}
-use lib.ListN.{length, get_or, set, length-set}
-use Rattle.call_counts.proofs.TallyLaws.{zero_more}
+use lib.ListN.{length, get_or}
 use Rattle.call_counts.proofs.clear.Given as goal
 
 abbrev pub invariant-loop-i : goal.invariant-loop-i

@@ -1,11 +1,8 @@
 -- `count_all`: the entries so far are counted at every marker.
-use mathlib.Core.Path.{◌≡◌, refl, sym, subst, ◌∙◌}
-use Prim.Native.Nat.{ℕ, ◌-◌, ◌*◌, ◌%◌, ◌^◌, ◌≤◌, ◌<◌}
-use native.Mathlib.Omega.{arith}
-use borrow.Author.Rules.{rules}
+use mathlib.Core.Path.{◌≡◌}
+use Prim.Native.Nat.{◌-◌, ◌*◌, ◌%◌, ◌≤◌, ◌<◌}
 use lib.ListN.{length}
 use Rattle.call_counts.specs.Private.{count_at, CountedTo}
-use Rattle.call_counts.proofs.CountLaws.{counted_none, next_whole}
 use Rattle.call_counts.proofs.count_all.Given as goal
 
 abbrev pub invariant-loop-from : goal.invariant-loop-from

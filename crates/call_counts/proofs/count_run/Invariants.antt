@@ -1,16 +1,8 @@
 -- `count_run`: the markers so far are counted up to the end of the run.
-use mathlib.Core.Path.{◌≡◌, sym, ◌∙◌}
-use mathlib.Core.Bool.{true, false}
-use Prim.Native.Nat.{ℕ, ◌+◌, ◌-◌, ◌*◌, ◌/◌, ◌≤◌, ◌<◌, ◌^◌}
-use native.Mathlib.Omega.{arith}
-use borrow.Author.Rules.{rules}
-use lib.IntN.{pos}
-use lib.ListN.{length, get_or}
-use Rattle.entries.specs.Entry.{means}
-use Rattle.bed_read.proofs.PartLaws.{meant, meant_below}
-use Rattle.call_counts.specs.Private.{Inside, tally_named, in_tally, count_at}
-use Rattle.call_counts.proofs.CountLaws.{RunTo, run_none, run_more, run_all, count_more, count_room}
-use Rattle.call_counts.proofs.PartLaws.{run_block, run_parts, run_tally}
+use Prim.Native.Nat.{◌+◌, ◌-◌, ◌*◌, ◌≤◌}
+use lib.ListN.{length}
+use Rattle.call_counts.specs.Private.{count_at}
+use Rattle.call_counts.proofs.CountLaws.{RunTo}
 use Rattle.call_counts.proofs.count_run.Given as goal
 
 abbrev pub invariant-loop-m : goal.invariant-loop-m

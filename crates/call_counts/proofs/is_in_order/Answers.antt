@@ -1,12 +1,9 @@
 use mathlib.Core.Path.{◌≡◌, sym, ◌∙◌}
 use mathlib.Core.Bool.{true, false}
-use Prim.Native.Nat.{ℕ, ◌-◌, ◌≤◌}
+use Prim.Native.Nat.{ℕ}
 use native.Mathlib.Omega.{arith}
 use borrow.Author.Count.{below_more}
-use borrow.Author.Rules.{rules}
-use lib.ListN.{length}
 use Rattle.bed_read.proofs.PartLaws.{meant}
-use Rattle.call_counts.specs.Private.{InOrder}
 use Rattle.call_counts.proofs.is_in_order.Goals as goal
 
 not_true : false ≡ true → ⊥
@@ -31,13 +28,11 @@ pub loop-k-smaller : goal.loop-k-smaller
 loop-k-smaller c = omega arith
 
 pub loop-k-preserved : goal.loop-k-preserved
-loop-k-preserved c =
-    let i = c in
-    let l = i in (
-      omega (arith, i.loop-k-test.true),
-      below_more _ l.loop-k.k l.loop-k.invariant.1
-          (sym (meant l.args.iid_count l.args.iid_index.now l.loop-k.k _ i.iid_of-arg-1.given i.iid_of-iid.ensures) ∙ c.if-iid-k.false),
-    )
+loop-k-preserved c = (
+  omega (arith, c.loop-k-test.true),
+  below_more _ c.loop-k.k c.loop-k.invariant.1
+      (sym (meant c.args.iid_count c.args.iid_index.now c.loop-k.k _ c.iid_of-arg-1.given c.iid_of-iid.ensures) ∙ c.if-iid-k.false),
+)
 
 pub returns : goal.returns
 returns c = λ e k h. c.loop-k.invariant.1 k (let g = c.loop-k-test.false in omega arith)

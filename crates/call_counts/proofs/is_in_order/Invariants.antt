@@ -1,12 +1,6 @@
 -- `is_in_order`: the entries so far are in order.
-use mathlib.Core.Path.{◌≡◌, sym, ◌∙◌}
-use mathlib.Core.Bool.{true, false}
-use Prim.Native.Nat.{ℕ, ◌-◌, ◌≤◌}
-use native.Mathlib.Omega.{arith}
-use borrow.Author.Count.{below_more}
-use borrow.Author.Rules.{rules}
+use Prim.Native.Nat.{◌-◌, ◌≤◌}
 use lib.ListN.{length}
-use Rattle.bed_read.proofs.PartLaws.{meant}
 use Rattle.call_counts.specs.Private.{InOrder}
 use Rattle.call_counts.proofs.is_in_order.Given as goal
 

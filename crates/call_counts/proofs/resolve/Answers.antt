@@ -1,8 +1,7 @@
 use mathlib.Core.Path.{◌≡◌, subst}
 use mathlib.Core.Bool.{true}
-use Prim.Native.Nat.{ℕ, ◌+◌, ◌-◌, ◌≤◌}
+use Prim.Native.Nat.{ℕ, ◌+◌}
 use native.Mathlib.Omega.{arith}
-use borrow.Author.Rules.{rules}
 use Rattle.calls.specs.Places.{is_block}
 use Rattle.calls.proofs.PlaceLaws.{part_below}
 use Rattle.bed_read.proofs.PartLaws.{meant}
@@ -30,8 +29,7 @@ bounds-bytes-k c = omega (arith, c.loop-k-test.true, c.requires.1)
 
 pub overflow_cast-places : goal.overflow_cast-places
 overflow_cast-places c =
-    let p = c in
-    omega (arith, p.iid_part-part.ensures.place_is, part_below (is_block p.args.shape.mode1 true) p.iid_of-iid.result.0)
+    omega (arith, c.iid_part-part.ensures.place_is, part_below (is_block c.args.shape.mode1 true) c.iid_of-iid.result.0)
 
 pub bounds-places-k : goal.bounds-places-k
 bounds-places-k c = omega (arith, c.loop-k-test.true, c.requires.1)
@@ -43,19 +41,14 @@ pub loop-k-smaller : goal.loop-k-smaller
 loop-k-smaller c = omega arith
 
 pub loop-k-preserved : goal.loop-k-preserved
-loop-k-preserved c =
-    let p = c in
-    let i = p in
-    let l = i in
-    let s = l in (
-      omega (arith, i.loop-k-test.true),
-      parts_more s.args.shape s.args.iid_index.now s.args.from l.loop-k.k _ _ _ _ l.loop-k.invariant.1 (omega (arith, i.loop-k-test.true, s.requires.1))
-          (meant s.args.shape.iids s.args.iid_index.now (s.args.from + l.loop-k.k) _ i.iid_of-arg-1.given i.iid_of-iid.ensures)
-          p.iid_part-part.ensures,
-    )
+loop-k-preserved c = (
+  omega (arith, c.loop-k-test.true),
+  parts_more c.args.shape c.args.iid_index.now c.args.from c.loop-k.k _ _ _ _ c.loop-k.invariant.1 (omega (arith, c.loop-k-test.true, c.requires.1))
+      (meant c.args.shape.iids c.args.iid_index.now (c.args.from + c.loop-k.k) _ c.iid_of-arg-1.given c.iid_of-iid.ensures)
+      c.iid_part-part.ensures,
+)
 
 pub returns : goal.returns
 returns c =
-    let s = c in
-    let e : c.loop-k.k ≡ s.args.n = (let h = c.loop-k-test.false in let b = c.loop-k.invariant.0 in omega arith) in
-    subst (λ (k : ℕ). EntryParts s.args.shape s.args.iid_index.now s.args.from k c.loop-k.bytes c.loop-k.places) e c.loop-k.invariant.1
+    let e : c.loop-k.k ≡ c.args.n = (let h = c.loop-k-test.false in let b = c.loop-k.invariant.0 in omega arith) in
+    subst (λ (k : ℕ). EntryParts c.args.shape c.args.iid_index.now c.args.from k c.loop-k.bytes c.loop-k.places) e c.loop-k.invariant.1

@@ -13,7 +13,7 @@ returns-then-along c = (
 )
 
 pub resolve-requires : goal.resolve-requires
-resolve-requires c = let d = c in let p = d.requires in (p.0, p.1 d.if-along.false, p.2, p.3)
+resolve-requires c = let p = c.requires in (p.0, p.1 c.if-along.false, p.2, p.3)
 
 pub returns : goal.returns
 returns c = (λ e. c.resolve.ensures, c.resolve.ensures.bytes_long, c.resolve.ensures.places_long)

@@ -1,6 +1,5 @@
 -- `both_bits`: the low bits of other bytes.
 use native.Mathlib.Omega.{arith}
-use borrow.Author.Rules.{rules}
 use Rattle.call_counts.proofs.BitLaws.{both_low}
 use Rattle.call_counts.proofs.bits.both_bits.Goals as goal
 

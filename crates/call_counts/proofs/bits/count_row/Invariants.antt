@@ -1,10 +1,7 @@
 -- `count_row`: the bits of the first j bytes.
-use mathlib.Core.Path.{◌≡◌, refl, ap, ◌∙◌}
-use Prim.Native.Nat.{ℕ, ◌-◌, ◌*◌, ◌≤◌}
-use native.Mathlib.Omega.{arith}
-use borrow.Author.Rules.{rules}
+use mathlib.Core.Path.{◌≡◌}
+use Prim.Native.Nat.{◌-◌, ◌*◌, ◌≤◌}
 use Rattle.call_counts.specs.Private.{total_items, low_bit, high_bit, both_bits}
-use Rattle.call_counts.proofs.BitLaws.{is_low, is_high, is_both, row_none, row_more_law, row_room}
 use Rattle.call_counts.proofs.bits.count_row.Given as goal
 
 abbrev pub invariant-loop-j : goal.invariant-loop-j

@@ -1,10 +1,8 @@
 -- `count_three_rows`: the bits of the first j bytes of each row.
-use mathlib.Core.Path.{◌≡◌, refl, ap, ◌∙◌}
-use Prim.Native.Nat.{ℕ, ◌-◌, ◌≤◌}
-use native.Mathlib.Omega.{arith}
-use borrow.Author.Rules.{rules}
+use mathlib.Core.Path.{◌≡◌}
+use Prim.Native.Nat.{◌-◌, ◌≤◌}
 use Rattle.call_counts.specs.Private.{low_bit, high_bit, both_bits}
-use Rattle.call_counts.proofs.BitLaws.{is_low, is_high, is_both, in_rows, rows_none, rows_more_law, rows_room, rows_all}
+use Rattle.call_counts.proofs.BitLaws.{in_rows}
 use Rattle.call_counts.proofs.bits.count_three_rows.Given as goal
 
 abbrev pub invariant-loop-j : goal.invariant-loop-j

@@ -1,6 +1,5 @@
 -- `high_bits`: the low bits of other bytes.
 use native.Mathlib.Omega.{arith}
-use borrow.Author.Rules.{rules}
 use Rattle.call_counts.proofs.BitLaws.{high_low}
 use Rattle.call_counts.proofs.bits.high_bits.Goals as goal
 

@@ -1,7 +1,6 @@
 -- `low_bits`: three bytes whose codes are low bits add up in their places.
 use mathlib.Core.Path.{◌∙◌}
 use native.Mathlib.Omega.{arith}
-use borrow.Author.Rules.{rules}
 use Rattle.call_counts.proofs.BitLaws.{three_most, three_low}
 use Rattle.call_counts.proofs.bits.low_bits.Goals as goal
 

@@ -1,7 +1,6 @@
 -- `tally_of`: how often each code stands, times its weight.
 use Prim.Native.Nat.{ℕ, ◌+◌, ◌^◌, ◌<◌}
 use native.Mathlib.Omega.{arith}
-use borrow.Author.Rules.{rules}
 use Rattle.call_counts.proofs.BitLaws.{tally_is, tally_fits}
 use Rattle.call_counts.proofs.bits.tally_of.Goals as goal
 

@@ -1,9 +1,6 @@
 -- `tally_rows`: the bits of the rows so far.
-use mathlib.Core.Path.{◌≡◌, subst}
-use Prim.Native.Nat.{ℕ, ◌-◌, ◌*◌, ◌≤◌}
-use native.Mathlib.Omega.{arith}
+use Prim.Native.Nat.{◌-◌, ◌*◌, ◌≤◌}
 use Rattle.call_counts.specs.Private.{BitsCounted}
-use Rattle.call_counts.proofs.BitLaws.{bits_none, bits_more, counted_most, counted_order, counted_tally}
 use Rattle.call_counts.proofs.bits.tally_rows.Given as goal
 
 abbrev pub invariant-loop-row : goal.invariant-loop-row

@@ -2,7 +2,6 @@
 use mathlib.Core.Path.{sym, ap, ◌∙◌}
 use Rattle.bed_file.specs.Says.{accept_says}
 use Rattle.call_counts.proofs.CheckLaws.{counts_first, counts_second, counts_mismatch, counts_not_accepted, counts_lists}
-use borrow.Author.Rules.{rules}
 use Rattle.call_counts.proofs.checks.check_counts.Goals as goal
 
 pub returns-then-iid_count-gt-COUNT_LIMIT : goal.returns-then-iid_count-gt-COUNT_LIMIT
@@ -13,16 +12,14 @@ returns-then-sid_count-gt-COUNT_LIMIT c = counts_second _ _ _ _ _ _ c.if-iid_cou
 
 pub returns-in-Accepted : goal.returns-in-Accepted
 returns-in-Accepted c =
-    let s = c in
-    counts_lists _ _ _ _ _ _ s.if-iid_count-gt-COUNT_LIMIT.false s.if-sid_count-gt-COUNT_LIMIT.false _ s.product_is.ensures s.if-product_is.true _
-    (sym (ap accept_says c.in-Accepted.is) ∙ s.accept.ensures)
+    counts_lists _ _ _ _ _ _ c.if-iid_count-gt-COUNT_LIMIT.false c.if-sid_count-gt-COUNT_LIMIT.false _ c.product_is.ensures c.if-product_is.true _
+    (sym (ap accept_says c.in-Accepted.is) ∙ c.accept.ensures)
     c.check_lists.ensures
 
 pub returns-in-Refused : goal.returns-in-Refused
 returns-in-Refused c =
-    let s = c in
-    counts_not_accepted _ _ _ _ _ _ s.if-iid_count-gt-COUNT_LIMIT.false s.if-sid_count-gt-COUNT_LIMIT.false _ s.product_is.ensures s.if-product_is.true _
-    (sym (ap accept_says c.in-Refused.is) ∙ s.accept.ensures)
+    counts_not_accepted _ _ _ _ _ _ c.if-iid_count-gt-COUNT_LIMIT.false c.if-sid_count-gt-COUNT_LIMIT.false _ c.product_is.ensures c.if-product_is.true _
+    (sym (ap accept_says c.in-Refused.is) ∙ c.accept.ensures)
 
 pub returns-else-product_is : goal.returns-else-product_is
 returns-else-product_is c = counts_mismatch _ _ _ _ _ _ c.if-iid_count-gt-COUNT_LIMIT.false c.if-sid_count-gt-COUNT_LIMIT.false _ c.product_is.ensures c.if-product_is.false

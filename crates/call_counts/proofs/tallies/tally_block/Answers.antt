@@ -1,7 +1,6 @@
 use mathlib.Core.Path.{◌≡◌, refl, ap, ◌∙◌}
-use Prim.Native.Nat.{ℕ, ◌-◌, ◌*◌, ◌/◌, ◌≤◌}
+use Prim.Native.Nat.{ℕ, ◌*◌, ◌/◌}
 use native.Mathlib.Omega.{arith}
-use borrow.Author.Rules.{rules}
 use Rattle.call_counts.specs.Private.{tally_items}
 use Rattle.call_counts.proofs.TallyLaws.{tally_more, tally_room}
 use Rattle.call_counts.proofs.BlockLaws.{block_more_law, block_room}
@@ -33,11 +32,9 @@ bounds-table-byte c = c.wide-byte.ensures.1
 
 pub overflow_add-sum : goal.overflow_add-sum
 overflow_add-sum c =
-    let l = c in
-    let s = l in
     record {
-      fits = block_room s.args.file.now s.args.start l.loop-b.b c.wide-byte.result l.loop-b.sum s.args.table.now s.requires.2 c.wide-byte.ensures.0 c.wide-byte.ensures.1 l.loop-b.invariant.1
-          (omega (arith, c.loop-b-test.true, s.requires.1));
+      fits = block_room c.args.file.now c.args.start c.loop-b.b c.wide-byte.result c.loop-b.sum c.args.table.now c.requires.2 c.wide-byte.ensures.0 c.wide-byte.ensures.1 c.loop-b.invariant.1
+          (omega (arith, c.loop-b-test.true, c.requires.1));
     }
 
 pub overflow_add-b : goal.overflow_add-b
@@ -47,21 +44,18 @@ pub loop-b-smaller : goal.loop-b-smaller
 loop-b-smaller c = omega arith
 
 pub loop-b-preserved : goal.loop-b-preserved
-loop-b-preserved c =
-    let l = c in
-    let s = l in (
-      omega (arith, c.loop-b-test.true),
-      block_more_law s.args.file.now s.args.start l.loop-b.b c.wide-byte.result l.loop-b.sum s.args.table.now s.requires.2 c.wide-byte.ensures.0 c.wide-byte.ensures.1 l.loop-b.invariant.1,
-    )
+loop-b-preserved c = (
+  omega (arith, c.loop-b-test.true),
+  block_more_law c.args.file.now c.args.start c.loop-b.b c.wide-byte.result c.loop-b.sum c.args.table.now c.requires.2 c.wide-byte.ensures.0 c.wide-byte.ensures.1 c.loop-b.invariant.1,
+)
 
 pub overflow_mul-i : goal.overflow_mul-i
 overflow_mul-i c = omega arith
 
 pub loop-i-init : goal.loop-i-init
 loop-i-init c =
-    let s = c in
-    let e : c.loop-b.b ≡ s.args.n / 4 = (let h = c.loop-b-test.false in let b = c.loop-b.invariant.0 in omega arith) in
-    (omega arith, c.loop-b.invariant.1 ∙ ap (λ (k : ℕ). tally_items s.args.file.now s.args.start (4 * k)) e)
+    let e : c.loop-b.b ≡ c.args.n / 4 = (let h = c.loop-b-test.false in let b = c.loop-b.invariant.0 in omega arith) in
+    (omega arith, c.loop-b.invariant.1 ∙ ap (λ (k : ℕ). tally_items c.args.file.now c.args.start (4 * k)) e)
 
 pub overflow_add-start-in-loop-i : goal.overflow_add-start-in-loop-i
 overflow_add-start-in-loop-i c = omega arith
@@ -71,8 +65,7 @@ weight_at-more-requires c = (omega (arith, c.loop-i-test.true, c.requires.0), om
 
 pub overflow_add-sum-in-loop-i : goal.overflow_add-sum-in-loop-i
 overflow_add-sum-in-loop-i c =
-    let l = c in
-    record { fits = tally_room _ l.loop-i.i _ _ _ (omega (arith, c.loop-i-test.true, l.requires.1)) l.loop-i.invariant.1 c.weight_at-more.ensures }
+    record { fits = tally_room _ c.loop-i.i _ _ _ (omega (arith, c.loop-i-test.true, c.requires.1)) c.loop-i.invariant.1 c.weight_at-more.ensures }
 
 pub overflow_add-i : goal.overflow_add-i
 overflow_add-i c = omega arith
@@ -82,11 +75,9 @@ loop-i-smaller c = omega arith
 
 pub loop-i-preserved : goal.loop-i-preserved
 loop-i-preserved c =
-    let l = c in
-    (omega (arith, c.loop-i-test.true), tally_more _ l.loop-i.i _ _ _ l.loop-i.invariant.1 c.weight_at-more.ensures refl)
+    (omega (arith, c.loop-i-test.true), tally_more _ c.loop-i.i _ _ _ c.loop-i.invariant.1 c.weight_at-more.ensures refl)
 
 pub returns : goal.returns
 returns c =
-    let s = c in
-    let e : c.loop-i.i ≡ s.args.n = (let h = c.loop-i-test.false in let b = c.loop-i.invariant.0 in omega arith) in
-    c.loop-i.invariant.1 ∙ ap (tally_items s.args.file.now s.args.start) e
+    let e : c.loop-i.i ≡ c.args.n = (let h = c.loop-i-test.false in let b = c.loop-i.invariant.0 in omega arith) in
+    c.loop-i.invariant.1 ∙ ap (tally_items c.args.file.now c.args.start) e

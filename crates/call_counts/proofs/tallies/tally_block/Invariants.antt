@@ -1,11 +1,7 @@
 -- `tally_block`: the tally of the rows, then of the bytes so far, then of the items.
-use mathlib.Core.Path.{◌≡◌, refl, ap, ◌∙◌}
-use Prim.Native.Nat.{ℕ, ◌-◌, ◌*◌, ◌/◌, ◌≤◌}
-use native.Mathlib.Omega.{arith}
-use borrow.Author.Rules.{rules}
+use mathlib.Core.Path.{◌≡◌}
+use Prim.Native.Nat.{◌-◌, ◌*◌, ◌≤◌}
 use Rattle.call_counts.specs.Private.{tally_items}
-use Rattle.call_counts.proofs.TallyLaws.{tally_more, tally_room}
-use Rattle.call_counts.proofs.BlockLaws.{block_more_law, block_room}
 use Rattle.call_counts.proofs.tallies.tally_block.Given as goal
 
 abbrev pub invariant-loop-b : goal.invariant-loop-b

@@ -1,11 +1,9 @@
 -- `tally_parts`: the tally so far.
-use mathlib.Core.Path.{◌≡◌, refl, ap, ◌∙◌}
+use mathlib.Core.Path.{◌≡◌}
 use Prim.Native.Nat.{◌+◌, ◌-◌, ◌≤◌}
-use native.Mathlib.Omega.{arith}
 use lib.ListN.{get_or}
 use Rattle.codes.specs.Code.{code_at}
-use Rattle.call_counts.specs.Private.{tally, tally_parts}
-use Rattle.call_counts.proofs.TallyLaws.{tally_none, tally_more, tally_room}
+use Rattle.call_counts.specs.Private.{tally}
 use Rattle.call_counts.proofs.tallies.tally_parts.Given as goal
 
 abbrev pub invariant-loop-k : goal.invariant-loop-k
