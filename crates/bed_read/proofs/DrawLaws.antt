@@ -197,3 +197,9 @@ module _ {A : Type 0} (d : A) where
 
     pub drawn_end : (k : ℕ) (new : List A) → Drawn d lines m place value old k new → m ≤ k → Drawn d lines m place value old m new
     drawn_end k new f h = drawn_to k m new f (let b = f.bound in omega arith)
+
+    -- a second loop goes on from where a first one left off
+    pub drawn_on :
+        (b w i : ℕ) (new later : List A) → Drawn d lines m place value old (4 * b) new → w ≤ b → 4 * b ≤ 4 * w
+        → ((before : List A) → Drawn d lines m place value before (4 * w) new → Drawn d lines m place value before i later) → Drawn d lines m place value old i later
+    drawn_on b w i new later f h l on = on old (drawn_to (4 * b) (4 * w) new f (omega arith))

@@ -1,0 +1,14 @@
+-- `read_matrix`: every line is filled up to the tile.
+use mathlib.Core.Path.{◌≡◌}
+use Prim.Native.Nat.{◌-◌}
+use lib.IntN.{pos}
+use lib.ListN.{length}
+use Rattle.bed_read.specs.Private.{ReadTo}
+use Rattle.bed_read.proofs.read_i8.read_matrix.Given as goal
+
+abbrev pub invariant-loop-from : goal.invariant-loop-from
+invariant-loop-from l =
+    ReadTo l.animal_order l.table (pos 0) l.file l.shape l.iid_index l.sid_index l.val l.from × (length l.bytes ≡ 2048) × (length l.places ≡ 2048)
+
+abbrev pub decreases-loop-from : goal.decreases-loop-from
+decreases-loop-from l = l.inner - l.from

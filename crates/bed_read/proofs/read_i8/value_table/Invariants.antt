@@ -1,0 +1,13 @@
+-- `value_table`: the places so far are stored.
+use Prim.Native.Nat.{◌-◌}
+use lib.IntN.{pos}
+use lib.ListN.{get_or}
+use Rattle.bed_read.specs.Private.{Drawn}
+use Rattle.bed_read.proofs.read_i8.value_table.Given as goal
+
+abbrev pub invariant-loop-i : goal.invariant-loop-i
+invariant-loop-i l =
+    Drawn (pos 0) 1 1024 (λ _ t. t) (λ _ t. get_or l.values (get_or l.codes t 0) (pos 0)) l.initial.table l.i l.table
+
+abbrev pub decreases-loop-i : goal.decreases-loop-i
+decreases-loop-i l = 1024 - l.i
