@@ -11,16 +11,14 @@ ghost use Rattle.mungkelas.specs.Header.{BedIndex};
 use bed_answer::BedAnswer;
 use index::{Bound, Index, RangeAny, SliceEnd, SliceInfo1};
 
-#[unsafe(no_mangle)]
-pub extern "C" fn bed_try_div_4(in_iid_count: usize, in_sid_count: usize) -> BedAnswer
+pub fn bed_try_div_4(in_iid_count: usize, in_sid_count: usize) -> BedAnswer
     ensures { result ≡ bed_answer (div_answer in_iid_count in_sid_count) }
 {
     let answer = blocks::try_div_4(in_iid_count, in_sid_count);
     bed_answer::of_div(answer)
 }
 
-#[unsafe(no_mangle)]
-pub extern "C" fn bed_byte_span(count: usize, index: &[i64]) -> BedAnswer
+pub fn bed_byte_span(count: usize, index: &[i64]) -> BedAnswer
     ensures { result ≡ bed_answer (span_answer count index.now) }
 {
     let answer = entries::byte_span(count, index);
@@ -67,8 +65,7 @@ fn slice_of(start: i64, has_end: bool, end: i64, step: i64) -> SliceInfo1
     }
 }
 
-#[unsafe(no_mangle)]
-pub extern "C" fn bed_to_range(
+pub fn bed_to_range(
     count: usize,
     has_start: bool,
     start: usize,
@@ -99,38 +96,33 @@ fn list_by(index: Index, count: usize, list: &mut [i64]) -> BedAnswer
     list_of(index, count, &vec, &marks, list)
 }
 
-#[unsafe(no_mangle)]
-pub extern "C" fn bed_index_all(count: usize, list: &mut [i64]) -> BedAnswer
+pub fn bed_index_all(count: usize, list: &mut [i64]) -> BedAnswer
     ensures { BedIndex Index.All count [] [] result list.old list.new }
 {
     list_by(Index::All, count, list)
 }
 
-#[unsafe(no_mangle)]
-pub extern "C" fn bed_index_one(count: usize, one: i64, list: &mut [i64]) -> BedAnswer
+pub fn bed_index_one(count: usize, one: i64, list: &mut [i64]) -> BedAnswer
     ensures { BedIndex (Index.One one) count [] [] result list.old list.new }
 {
     list_by(Index::One(one), count, list)
 }
 
-#[unsafe(no_mangle)]
-pub extern "C" fn bed_index_vec(count: usize, vec: &[i64], list: &mut [i64]) -> BedAnswer
+pub fn bed_index_vec(count: usize, vec: &[i64], list: &mut [i64]) -> BedAnswer
     ensures { BedIndex Index.Vec count vec.now [] result list.old list.new }
 {
     let marks = [0u8; 0];
     list_of(Index::Vec, count, vec, &marks, list)
 }
 
-#[unsafe(no_mangle)]
-pub extern "C" fn bed_index_bool(count: usize, marks: &[u8], list: &mut [i64]) -> BedAnswer
+pub fn bed_index_bool(count: usize, marks: &[u8], list: &mut [i64]) -> BedAnswer
     ensures { BedIndex Index.VecBool count [] marks.now result list.old list.new }
 {
     let vec = [0i64; 0];
     list_of(Index::VecBool, count, &vec, marks, list)
 }
 
-#[unsafe(no_mangle)]
-pub extern "C" fn bed_index_range(
+pub fn bed_index_range(
     count: usize,
     has_start: bool,
     start: usize,
@@ -144,8 +136,7 @@ pub extern "C" fn bed_index_range(
     list_by(Index::RangeAny(range), count, list)
 }
 
-#[unsafe(no_mangle)]
-pub extern "C" fn bed_index_slice(
+pub fn bed_index_slice(
     count: usize,
     start: i64,
     has_end: bool,

@@ -6,8 +6,7 @@ ghost use Rattle.mungkelas.specs.Header.{BedStandardise};
 
 use bed_answer::BedAnswer;
 
-#[unsafe(no_mangle)]
-pub extern "C" fn bed_impute_and_zero_mean_snps_f64(
+pub fn bed_impute_and_zero_mean_snps_f64(
     val: &mut [f64],
     iid_count: usize,
     sid_count: usize,
@@ -31,8 +30,7 @@ pub extern "C" fn bed_impute_and_zero_mean_snps_f64(
     bed_answer::of_standardise(answer)
 }
 
-#[unsafe(no_mangle)]
-pub extern "C" fn bed_root_f64(variance: f64) -> f64
+pub fn bed_root_f64(variance: f64) -> f64
     ensures { result ≡ root binary64 variance }
 {
     root::root_f64(variance)

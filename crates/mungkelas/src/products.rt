@@ -3,8 +3,7 @@ ghost use Rattle.mungkelas.specs.Header.{BedAtaPiece, BedAatPiece};
 
 use bed_answer::BedAnswer;
 
-#[unsafe(no_mangle)]
-pub extern "C" fn bed_file_ata_piece(
+pub fn bed_file_ata_piece(
     bytes: &[u8],
     offset: u64,
     row_count: usize,
@@ -22,8 +21,7 @@ pub extern "C" fn bed_file_ata_piece(
     bed_answer::of_piece(answer)
 }
 
-#[unsafe(no_mangle)]
-pub extern "C" fn bed_file_aat_piece(
+pub fn bed_file_aat_piece(
     bytes: &[u8],
     offset: u64,
     row_count: usize,

@@ -9,16 +9,14 @@ pub mod read_i8;
 
 use bed_answer::BedAnswer;
 
-#[unsafe(no_mangle)]
-pub extern "C" fn bed_open_and_check(file: &[u8]) -> BedAnswer
+pub fn bed_open_and_check(file: &[u8]) -> BedAnswer
     ensures { result ≡ bed_answer (open_answer file.now) }
 {
     let answer = bed_file::open_and_check(file);
     bed_answer::of_open(answer)
 }
 
-#[unsafe(no_mangle)]
-pub extern "C" fn bed_count_calls(
+pub fn bed_count_calls(
     file: &[u8],
     iid_count: usize,
     sid_count: usize,
@@ -33,8 +31,7 @@ pub extern "C" fn bed_count_calls(
     bed_answer::of_read(answer)
 }
 
-#[unsafe(no_mangle)]
-pub extern "C" fn bed_canonical(
+pub fn bed_canonical(
     file: &[u8],
     iid_count: usize,
     sid_count: usize,
@@ -46,8 +43,7 @@ pub extern "C" fn bed_canonical(
     bed_answer::of_canonical(answer)
 }
 
-#[unsafe(no_mangle)]
-pub extern "C" fn bed_read_standardised_f64(
+pub fn bed_read_standardised_f64(
     file: &[u8],
     iid_count: usize,
     sid_count: usize,

@@ -4,8 +4,7 @@ ghost use Rattle.mungkelas.specs.Header.{BedRead};
 
 use bed_answer::BedAnswer;
 
-#[unsafe(no_mangle)]
-pub extern "C" fn bed_read_f64(
+pub fn bed_read_f64(
     file: &[u8],
     iid_count: usize,
     sid_count: usize,

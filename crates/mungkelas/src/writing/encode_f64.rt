@@ -4,8 +4,7 @@ ghost use Rattle.mungkelas.specs.Header.{BedEncode1};
 
 use bed_answer::BedAnswer;
 
-#[unsafe(no_mangle)]
-pub extern "C" fn bed_encode1_f64(
+pub fn bed_encode1_f64(
     in_vector: &[f64],
     out_vector: &mut [u8],
     is_a1_counted: bool,

@@ -4,8 +4,7 @@ ghost use Rattle.mungkelas.specs.Header.{BedWrite};
 
 use bed_answer::BedAnswer;
 
-#[unsafe(no_mangle)]
-pub extern "C" fn bed_write_i8(
+pub fn bed_write_i8(
     val: &[i8],
     iid_count: usize,
     sid_count: usize,
