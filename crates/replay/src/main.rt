@@ -5,6 +5,8 @@
 
 mod calls;
 
+use std::fs::File;
+use std::io::{Error, Read};
 use stored_list::line::Line;
 use stored_list::words::{length, word};
 
@@ -135,20 +137,26 @@ fn read_part(line: Line, bytes: &[u8], words: &mut [usize; 715], counts: &mut [u
 }
 
 // Reads some of the list.
-fn read_some(line: Line, fd: i32, words: &mut [usize; 715], counts: &mut [u64; 72]) -> Line {
-    let mut buf = io::buffer();
-    let n = io::read_full(fd, &mut buf);
-    read_part(line, &buf[..n], words, counts)
+fn read_some(
+    line: Line,
+    file: &mut File,
+    words: &mut [usize; 715],
+    counts: &mut [u64; 72],
+) -> Result<Line, Error> {
+    let mut buf = [0u8; 4096];
+    let n = file.read(&mut buf)?;
+    Ok(read_part(line, &buf[..n], words, counts))
 }
 
-fn read_list(fd: i32, counts: &mut [u64; 72]) {
+fn read_list(file: &mut File, counts: &mut [u64; 72]) -> Result<(), Error> {
     let mut words = [0usize; 715];
     let mut line = stored_list::line::start();
     let mut turns = 1000u64;
     while turns > 0 {
-        line = read_some(line, fd, &mut words, counts);
+        line = read_some(line, file, &mut words, counts)?;
         turns -= 1;
     }
+    Ok(())
 }
 
 fn say_call(counts: &[u64; 72], call: usize) {
@@ -174,15 +182,19 @@ fn say_total(counts: &[u64; 72]) {
     say_number(counts[71], b" differ\n");
 }
 
-fn main() {
-    let fd = os::open_read(b"answers.txt");
-    if fd < 0 {
-        say(b"no list\n");
-        return;
-    }
+fn main(rt: HostRuntime) -> Result<(), Error> {
     let mut counts = [0u64; 72];
-    read_list(fd, &mut counts);
-    libc::close(fd);
+    match File::open(&rt, "answers.txt") {
+        Ok(opened) => {
+            let mut file = opened;
+            read_list(&mut file, &mut counts)?;
+        }
+        Err(_) => {
+            say(b"no list\n");
+            return Ok(());
+        }
+    }
     say_calls(&counts);
     say_total(&counts);
+    Ok(())
 }
