@@ -9,36 +9,32 @@ pub bounds-out-0 : goal.bounds-out-0
 bounds-out-0 c = omega (arith, c.requires.2)
 
 pub bounds-out-1 : goal.bounds-out-1
-bounds-out-1 c = let s = c in second_in s.args.file.now s.args.shape _ s.requires.1 s.args.out.now s.requires.2
+bounds-out-1 c = second_in c.args.file.now c.args.shape _ c.requires.1 c.args.out.now c.requires.2
 
 pub bounds-out-2 : goal.bounds-out-2
-bounds-out-2 c = let s = c in third_in s.args.file.now s.args.shape _ s.requires.1 s.args.out.now s.requires.2
+bounds-out-2 c = third_in c.args.file.now c.args.shape _ c.requires.1 c.args.out.now c.requires.2
 
 pub returns-then-out_width-eq0 : goal.returns-then-out_width-eq0
-returns-then-out_width-eq0 c = let s = c in only_header s.args.file.now s.args.shape _ s.requires.1 s.args.out.now s.requires.2 c.if-out_width-eq0.true
+returns-then-out_width-eq0 c = only_header c.args.file.now c.args.shape _ c.requires.1 c.args.out.now c.requires.2 c.if-out_width-eq0.true
 
 pub keep_blocks-requires : goal.keep_blocks-requires
 keep_blocks-requires c =
-    let s = c in
-    (begun s.args.file.now s.args.shape _ s.requires.1 s.args.out.now s.requires.2 s.requires.0, c.if-shape.true)
+    (begun c.args.file.now c.args.shape _ c.requires.1 c.args.out.now c.requires.2 c.requires.0, c.if-shape.true)
 
 pub shape_of-out-then-shape : goal.shape_of-out-then-shape
 shape_of-out-then-shape c =
-    let s = c in
-    ap length c.keep_blocks.ensures ∙ whole_long s.args.file.now s.args.shape _ s.requires.1 ∙ sym s.requires.2
+    ap length c.keep_blocks.ensures ∙ whole_long c.args.file.now c.args.shape _ c.requires.1 ∙ sym c.requires.2
 
 pub returns-then-shape : goal.returns-then-shape
 returns-then-shape c = c.keep_blocks.ensures
 
 pub turn_blocks-requires : goal.turn_blocks-requires
 turn_blocks-requires c =
-    let s = c in
-    (begun s.args.file.now s.args.shape _ s.requires.1 s.args.out.now s.requires.2 s.requires.0, c.if-shape.false, s.requires.3)
+    (begun c.args.file.now c.args.shape _ c.requires.1 c.args.out.now c.requires.2 c.requires.0, c.if-shape.false, c.requires.3)
 
 pub shape_of-out : goal.shape_of-out
 shape_of-out c =
-    let s = c in
-    ap length c.turn_blocks.ensures ∙ whole_long s.args.file.now s.args.shape _ s.requires.1 ∙ sym s.requires.2
+    ap length c.turn_blocks.ensures ∙ whole_long c.args.file.now c.args.shape _ c.requires.1 ∙ sym c.requires.2
 
 pub returns : goal.returns
 returns c = c.turn_blocks.ensures

@@ -6,10 +6,10 @@ use Rattle.bed_write.proofs.WriteLaws.{whole_fits, buffers_refused, buffers_mism
 use Rattle.bed_write.proofs.write.check_write.Goals as goal
 
 pub overflow_mul-width : goal.overflow_mul-width
-overflow_mul-width c = let s = c.before.before.before.before in omega (arith, whole_fits s.args.iid_count s.args.sid_count 0 0 _ (sym (ap div_says c.in-Width.is) ∙ c.try_div_4.ensures))
+overflow_mul-width c = omega (arith, whole_fits c.args.iid_count c.args.sid_count 0 0 _ (sym (ap div_says c.in-Width.is) ∙ c.try_div_4.ensures))
 
 pub overflow_add-width : goal.overflow_add-width
-overflow_add-width c = let s = c.before.before.before.before in omega (arith, whole_fits s.args.iid_count s.args.sid_count 0 0 _ (sym (ap div_says c.in-Width.is) ∙ c.try_div_4.ensures))
+overflow_add-width c = omega (arith, whole_fits c.args.iid_count c.args.sid_count 0 0 _ (sym (ap div_says c.in-Width.is) ∙ c.try_div_4.ensures))
 
 pub returns-then-out_len-width : goal.returns-then-out_len-width
 returns-then-out_len-width c = buffers_done _ _ _ _ _ (sym (ap div_says c.in-Width.is) ∙ c.try_div_4.ensures) _ c.product_is.ensures c.if-product_is.true c.if-out_len-width.true

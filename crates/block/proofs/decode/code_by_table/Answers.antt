@@ -4,6 +4,5 @@ use Rattle.block.proofs.decode.code_by_table.Goals as goal
 
 pub returns : goal.returns
 returns c =
-    let s = c in
-    by_table_law s.args.bytes.now s.args.item s.args.codes.now _ _ s.requires.1 c.wide.ensures.0 c.wide.ensures.1
+    by_table_law c.args.bytes.now c.args.item c.args.codes.now _ _ c.requires.1 c.wide.ensures.0 c.wide.ensures.1
     c.wide-2.ensures.0

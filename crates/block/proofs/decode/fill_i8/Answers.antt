@@ -12,13 +12,12 @@ use Rattle.block.proofs.ColumnLaws.{filled_none, filled_more, filled_all}
 use Rattle.block.proofs.decode.fill_i8.Goals as goal
 
 pub loop-a-init : goal.loop-a-init
-loop-a-init c = let s = c in filled_none (λ k. get_or s.args.values.now (item_code s.args.bytes.now k) (pos 0)) (pos 0) (length s.args.out.now) s.args.out.now refl
+loop-a-init c = filled_none (λ k. get_or c.args.values.now (item_code c.args.bytes.now k) (pos 0)) (pos 0) (length c.args.out.now) c.args.out.now refl
 
 pub code_by_table-code-requires : goal.code_by_table-code-requires
 code_by_table-code-requires c =
-    let s = c in
     let l = c.loop-a.invariant.long in
-    (byte_below _ (length s.args.out.now) _ _ s.requires.0 refl (omega (arith, l, c.loop-a-test.true)), s.requires.1)
+    (byte_below _ (length c.args.out.now) _ _ c.requires.0 refl (omega (arith, l, c.loop-a-test.true)), c.requires.1)
 
 pub bounds-values-code : goal.bounds-values-code
 bounds-values-code c = c.code_by_table-code.ensures.0
@@ -34,12 +33,11 @@ loop-a-smaller c = omega (arith, c.loop-a.invariant.long, c.loop-a-test.true)
 
 pub loop-a-preserved : goal.loop-a-preserved
 loop-a-preserved c =
-    let s = c in
-    filled_more (λ k. get_or s.args.values.now (item_code s.args.bytes.now k) (pos 0)) (pos 0) (length s.args.out.now) _ _ _
-    c.loop-a.invariant c.loop-a-test.true (to_z-of_z w8 _ (sfits_of c.out-1.given) ∙ ap (λ (k : ℕ). get_or s.args.values.now k (pos 0)) c.code_by_table-code.ensures.1)
+    filled_more (λ k. get_or c.args.values.now (item_code c.args.bytes.now k) (pos 0)) (pos 0) (length c.args.out.now) _ _ _
+    c.loop-a.invariant c.loop-a-test.true (to_z-of_z w8 _ (sfits_of c.out-1.given) ∙ ap (λ (k : ℕ). get_or c.args.values.now k (pos 0)) c.code_by_table-code.ensures.1)
 
 pub shape_of-out : goal.shape_of-out
 shape_of-out c = c.loop-a.invariant.long
 
 pub returns : goal.returns
-returns c = let s = c in filled_all (λ k. get_or s.args.values.now (item_code s.args.bytes.now k) (pos 0)) (pos 0) (length s.args.out.now) _ _ c.loop-a.invariant c.loop-a-test.false
+returns c = filled_all (λ k. get_or c.args.values.now (item_code c.args.bytes.now k) (pos 0)) (pos 0) (length c.args.out.now) _ _ c.loop-a.invariant c.loop-a-test.false

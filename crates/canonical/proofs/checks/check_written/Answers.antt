@@ -6,10 +6,10 @@ use Rattle.canonical.proofs.CanonicalLaws.{written_refused, written_fits, writte
 use Rattle.canonical.proofs.checks.check_written.Goals as goal
 
 pub overflow_mul-width : goal.overflow_mul-width
-overflow_mul-width c = let s = c in omega (arith, written_fits s.args.iid_count s.args.sid_count 0 _ (sym (ap div_says c.in-Width.is) ∙ c.try_div_4.ensures))
+overflow_mul-width c = omega (arith, written_fits c.args.iid_count c.args.sid_count 0 _ (sym (ap div_says c.in-Width.is) ∙ c.try_div_4.ensures))
 
 pub overflow_add-width : goal.overflow_add-width
-overflow_add-width c = let s = c in omega (arith, written_fits s.args.iid_count s.args.sid_count 0 _ (sym (ap div_says c.in-Width.is) ∙ c.try_div_4.ensures))
+overflow_add-width c = omega (arith, written_fits c.args.iid_count c.args.sid_count 0 _ (sym (ap div_says c.in-Width.is) ∙ c.try_div_4.ensures))
 
 pub returns-then-out_len-width : goal.returns-then-out_len-width
 returns-then-out_len-width c = written_done _ _ _ _ (sym (ap div_says c.in-Width.is) ∙ c.try_div_4.ensures) c.if-out_len-width.true

@@ -4,6 +4,5 @@ use Rattle.canonical.proofs.turned.code_there.Goals as goal
 
 pub returns : goal.returns
 returns c =
-    let s = c in
     let x = c.wide.ensures in
-    code_found s.args.codes.now s.args.file.now s.args.start _ s.args.item s.requires.2 x.0 x.1 s.requires.1
+    code_found c.args.codes.now c.args.file.now c.args.start _ c.args.item c.requires.2 x.0 x.1 c.requires.1

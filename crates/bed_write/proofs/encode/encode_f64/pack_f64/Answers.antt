@@ -6,7 +6,7 @@ use Rattle.bed_write.proofs.EncodeLaws.{front_none, front_length, block_length, 
 use Rattle.bed_write.proofs.encode.encode_f64.pack_f64.Goals as goal
 
 pub loop-b-init : goal.loop-b-init
-loop-b-init c = let s = c.before.before.before in (omega arith, front_none _ _ (s.requires.0 ∙ sym (block_length _ _)))
+loop-b-init c = (omega arith, front_none _ _ (c.requires.0 ∙ sym (block_length _ _)))
 
 pub overflow_mul-start : goal.overflow_mul-start
 overflow_mul-start c = let l = c.well_formed.0.0 in let h = c.loop-b-test.true in omega arith
@@ -16,9 +16,8 @@ group_good_f64-g-requires c = λ k x y. let h = c.loop-b-test.true in omega arit
 
 pub bounds-out-b : goal.bounds-out-b
 bounds-out-b c =
-    let s = c.before.before.before.before.before.before.before in
-    let a = s.args in
-    full_there float a.is_a1_counted a.missing a.column.now s.requires.1 a.out.now _ _ s.requires.0 c.loop-b.invariant.1 c.loop-b-test.true
+    let a = c.args in
+    full_there float a.is_a1_counted a.missing a.column.now c.requires.1 a.out.now _ _ c.requires.0 c.loop-b.invariant.1 c.loop-b-test.true
 
 pub overflow_add-b : goal.overflow_add-b
 overflow_add-b c = let l = c.well_formed.0.0 in let h = c.loop-b-test.true in omega arith
@@ -28,24 +27,21 @@ loop-b-smaller c = let h = c.loop-b-test.true in omega arith
 
 pub loop-b-preserved : goal.loop-b-preserved
 loop-b-preserved c =
-    let s = c.before.before.before.before.before.before.before in
-    let a = s.args in
+    let a = c.args in
     let h = c.loop-b-test.true in
-    (omega arith, full_more float a.is_a1_counted a.missing a.column.now s.requires.1 a.out.now _ _ s.requires.0 c.loop-b.invariant.1 h _ _ _ _ (c.group_good_f64-g.ensures a.missing) _ c.byte_of.ensures)
+    (omega arith, full_more float a.is_a1_counted a.missing a.column.now c.requires.1 a.out.now _ _ c.requires.0 c.loop-b.invariant.1 h _ _ _ _ (c.group_good_f64-g.ensures a.missing) _ c.byte_of.ensures)
 
 pub overflow_mul-start-then-b-out : goal.overflow_mul-start-then-b-out
 overflow_mul-start-then-b-out c =
-    let s = c.before.before.before.before.before.before in
-    let a = s.args in
-    let l = s.well_formed.0.0 in
-    let h = last_there float a.is_a1_counted a.missing a.column.now s.requires.1 a.out.now _ _ s.requires.0 c.loop-b.invariant.1 c.if-b-out.true in
+    let a = c.args in
+    let l = c.well_formed.0.0 in
+    let h = last_there float a.is_a1_counted a.missing a.column.now c.requires.1 a.out.now _ _ c.requires.0 c.loop-b.invariant.1 c.if-b-out.true in
     omega arith
 
 pub overflow_sub-left : goal.overflow_sub-left
 overflow_sub-left c =
-    let s = c.before.before.before.before.before.before in
-    let a = s.args in
-    let h = last_there float a.is_a1_counted a.missing a.column.now s.requires.1 a.out.now _ _ s.requires.0 c.loop-b.invariant.1 c.if-b-out.true in
+    let a = c.args in
+    let h = last_there float a.is_a1_counted a.missing a.column.now c.requires.1 a.out.now _ _ c.requires.0 c.loop-b.invariant.1 c.if-b-out.true in
     omega arith
 
 pub group_good_f64-g-requires-then-b-out : goal.group_good_f64-g-requires-then-b-out
@@ -59,15 +55,13 @@ shape_of-out-then-b-out c = simp length-set (front_length _ _ _ _ c.loop-b.invar
 
 pub returns-then-b-out : goal.returns-then-b-out
 returns-then-b-out c =
-    let s = c.before.before.before.before.before.before.before.before in
-    let a = s.args in
-    last_done float a.is_a1_counted a.missing a.column.now s.requires.1 a.out.now _ _ s.requires.0 c.loop-b.invariant.1 c.if-b-out.true _ _ _ _ (c.group_good_f64-g-then-b-out.ensures a.missing) c.loop-b-test.false _ c.byte_of-then-b-out.ensures
+    let a = c.args in
+    last_done float a.is_a1_counted a.missing a.column.now c.requires.1 a.out.now _ _ c.requires.0 c.loop-b.invariant.1 c.if-b-out.true _ _ _ _ (c.group_good_f64-g-then-b-out.ensures a.missing) c.loop-b-test.false _ c.byte_of-then-b-out.ensures
 
 pub shape_of-out-else-b-out : goal.shape_of-out-else-b-out
 shape_of-out-else-b-out c = front_length _ _ _ _ c.loop-b.invariant.1
 
 pub returns-else-b-out : goal.returns-else-b-out
 returns-else-b-out c =
-    let s = c.before.before.before.before.before.before in
-    let a = s.args in
-    none_left float a.is_a1_counted a.missing a.column.now s.requires.1 a.out.now _ _ s.requires.0 c.loop-b.invariant.1 c.if-b-out.false
+    let a = c.args in
+    none_left float a.is_a1_counted a.missing a.column.now c.requires.1 a.out.now _ _ c.requires.0 c.loop-b.invariant.1 c.if-b-out.false

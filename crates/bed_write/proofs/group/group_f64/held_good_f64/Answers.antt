@@ -24,10 +24,9 @@ bounds-val-at c = c.requires c.if-k-left.true
 pub returns-then-k-left : goal.returns-then-k-left
 returns-then-k-left c =
     λ missing g.
-    let s = c.before.before.before.before.before in
-    let a = s.args in
+    let a = c.args in
     let h = c.if-k-left.true in
-    good_read float a.is_a1_counted missing a.val.now _ _ _ (s.requires h) (g h) (c.good_code_f64.ensures missing)
+    good_read float a.is_a1_counted missing a.val.now _ _ _ (c.requires h) (g h) (c.good_code_f64.ensures missing)
     ∙ held_there a.left (λ j. or_four (place_code float a.is_a1_counted missing a.val.now (a.start + j * a.stride))) a.k h
 
 pub returns : goal.returns

@@ -22,10 +22,9 @@ bounds-val-at c = c.requires c.if-k-left.true
 pub returns-then-k-left : goal.returns-then-k-left
 returns-then-k-left c =
     λ missing g.
-    let s = c.before.before.before in
-    let a = s.args in
+    let a = c.args in
     let h = c.if-k-left.true in
-    good_read i8 a.is_a1_counted missing a.val.now _ _ _ (s.requires h) (g h) (good_held a.is_a1_counted missing _ _ c.good_code_i8-arg-1.given c.good_code_i8.ensures)
+    good_read i8 a.is_a1_counted missing a.val.now _ _ _ (c.requires h) (g h) (good_held a.is_a1_counted missing _ _ c.good_code_i8-arg-1.given c.good_code_i8.ensures)
     ∙ held_there a.left (λ j. or_four (place_code i8 a.is_a1_counted missing a.val.now (a.start + j * a.stride))) a.k h
 
 pub returns : goal.returns

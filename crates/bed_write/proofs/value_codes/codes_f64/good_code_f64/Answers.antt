@@ -18,9 +18,7 @@ narrow-requires c = c.choose.ensures.1
 pub returns : goal.returns
 unfolding of_bits
 returns c =
-    let last = c.before in
-    let two = last.before.before.before.before.before in
-    let a = two.args in
+    let a = c.args in
     good_chosen float a.is_a1_counted a.value _ _ _ _ _
-    (last.wide-2.ensures ∙ last.code_of_zero.ensures) (two.wide.ensures ∙ two.code_of_two.ensures)
-    last.choose-two.ensures.0 last.choose-one.ensures.0 (c.narrow.ensures ∙ last.choose.ensures.0)
+    (c.wide-2.ensures ∙ c.code_of_zero.ensures) (c.wide.ensures ∙ c.code_of_two.ensures)
+    c.choose-two.ensures.0 c.choose-one.ensures.0 (c.narrow.ensures ∙ c.choose.ensures.0)

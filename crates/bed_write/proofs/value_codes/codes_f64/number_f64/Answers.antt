@@ -15,12 +15,10 @@ choose-requires c = (small_code c.args.is_a1_counted 3 0 _ (omega arith) (omega 
 pub returns : goal.returns
 unfolding of_bits
 returns c =
-    let two = c.before.before.before.before.before in
-    let first = two.before.before.before.before in
-    let a = first.args in (
+    let a = c.args in (
       code_chosen float a.is_a1_counted a.missing a.value _ _ _ _ _ _ _
-          (c.wide-2.ensures ∙ c.code_of_zero.ensures) (two.wide.ensures ∙ two.code_of_two.ensures)
-          first.choose-nan.ensures.0 two.choose-number.ensures.0 two.choose-absent.ensures.0
+          (c.wide-2.ensures ∙ c.code_of_zero.ensures) (c.wide.ensures ∙ c.code_of_two.ensures)
+          c.choose-nan.ensures.0 c.choose-number.ensures.0 c.choose-absent.ensures.0
           _ c.choose-two.ensures.0 c.choose-one.ensures.0 c.choose.ensures.0,
       c.choose.ensures.1,
     )

@@ -16,10 +16,9 @@ choose_u8-requires c = (small_code c.args.is_a1_counted 3 0 _ (omega arith) (ome
 
 pub returns : goal.returns
 returns c =
-    let s = c.before.before.before.before.before in
-    let v = s.args.value in
-    let f = s.ranges.value in
-    good_chosen i8 s.args.is_a1_counted v _ _ _ _ _ c.code_of_zero.ensures c.code_of_two.ensures
+    let v = c.args.value in
+    let f = c.ranges.value in
+    good_chosen i8 c.args.is_a1_counted v _ _ _ _ _ c.code_of_zero.ensures c.code_of_two.ensures
     (tested v (pos 2) f (sfits_of (lit< tt)) _ _ _ c.choose_u8-two.ensures.0)
     (tested v (pos 1) f (sfits_of (lit< tt)) _ _ _ c.choose_u8-one.ensures.0)
     (tested v (pos 0) f (sfits_of (lit< tt)) _ _ _ c.choose_u8.ensures.0)

@@ -19,13 +19,12 @@ choose_u8-requires c = (small_code c.args.is_a1_counted 3 0 _ (omega arith) (ome
 
 pub returns : goal.returns
 returns c =
-    let s = c.before.before.before.before.before.before in
-    let v = s.args.value in
-    let m = s.args.missing in
-    let f = s.ranges.value in
-    code_chosen i8 s.args.is_a1_counted m v _ _ _ _ 4 (cond (same_int m m) 4 1) _ c.code_of_zero.ensures c.code_of_two.ensures refl
+    let v = c.args.value in
+    let m = c.args.missing in
+    let f = c.ranges.value in
+    code_chosen i8 c.args.is_a1_counted m v _ _ _ _ 4 (cond (same_int m m) 4 1) _ c.code_of_zero.ensures c.code_of_two.ensures refl
     (sym (ap (λ (b : Bool). cond b 4 (cond (same_int m m) 4 1)) (same_int_refl v)))
-    (tested v m f s.ranges.missing _ _ _ c.choose_u8-absent.ensures.0)
+    (tested v m f c.ranges.missing _ _ _ c.choose_u8-absent.ensures.0)
     _ (tested v (pos 2) f (sfits_of (lit< tt)) _ _ _ c.choose_u8-two.ensures.0)
     (tested v (pos 1) f (sfits_of (lit< tt)) _ _ _ c.choose_u8-one.ensures.0)
     (tested v (pos 0) f (sfits_of (lit< tt)) _ _ _ c.choose_u8.ensures.0)

@@ -12,7 +12,7 @@ pub overflow_sub-left : goal.overflow_sub-left
 overflow_sub-left c = let h = c.requires.3 in omega arith
 
 pub matrix_place-start-requires : goal.matrix_place-start-requires
-matrix_place-start-requires c = let s = c.before.before in (s.requires.3, s.requires.2, let l = s.well_formed.0.0 in let e = s.requires.0.0 in omega arith)
+matrix_place-start-requires c = (c.requires.3, c.requires.2, let l = c.well_formed.0.0 in let e = c.requires.0.0 in omega arith)
 
 pub group_good_f64-g-requires : goal.group_good_f64-g-requires
 group_good_f64-g-requires c = λ k h g. walk_inside (by_tests float c.args.is_a1_counted c.args.missing c.args.val.now) c.args.animal_order c.args.iid_count c.args.sid_count c.args.m c.args.b c.args.stride _ c.requires.2 c.requires.3 c.requires.1 c.matrix_place-start.ensures _ c.requires.0.0 k h

@@ -26,10 +26,8 @@ write_file_f64-requires c =
 
 pub returns-in_default : goal.returns-in_default
 returns-in_default c =
-    let t = c.before.before.before.before.before.before.before.before in
-    let s = t.before.before.before.before.before in
     let a = c.args in
-    let p = passed a.iid_count a.sid_count _ _ _ t.check_write-checked.ensures (sym t.is_done.ensures ∙ t.if-is_done.true) in
+    let p = passed a.iid_count a.sid_count _ _ _ c.check_write-checked.ensures (sym c.is_done.ensures ∙ c.if-is_done.true) in
     let e = sym (ap bad_says c.in_default.is) ∙ c.search_f64-bad.ensures in
     let q = write_done a.iid_count a.sid_count (value_code float a.is_a1_counted a.missing a.animal_order a.iid_count a.sid_count a.val.now) _ a.out.now p.pass e _ (c.write_file_f64.ensures ∙ same_file a.iid_count a.sid_count (placed (by_tests float a.is_a1_counted a.missing a.val.now) a.animal_order a.iid_count a.sid_count) (value_code float a.is_a1_counted a.missing a.animal_order a.iid_count a.sid_count a.val.now) (value_coded float a.is_a1_counted a.missing a.animal_order a.iid_count a.sid_count a.val.now) (float_same a.is_a1_counted a.missing a.animal_order a.iid_count a.sid_count a.val.now) e) in
     (p.is_done_law ∙ q.0, q.1)

@@ -27,12 +27,10 @@ write_file_i8-requires c =
 
 pub returns-in_default : goal.returns-in_default
 returns-in_default c =
-    let t = c.before.before.before.before.before.before.before.before.before in
-    let s = t.before.before.before.before.before in
     let a = c.args in
-    let p = passed a.iid_count a.sid_count _ _ _ t.check_write-checked.ensures (sym t.is_done.ensures ∙ t.if-is_done.true) in
-    let e = held_found a.missing c.ranges.missing a.is_a1_counted a.animal_order a.iid_count a.sid_count a.val.now (sym (ap bad_says c.in_default.is) ∙ t.search_i8-bad.ensures.0) in
-    let q = write_done a.iid_count a.sid_count (value_code i8 a.is_a1_counted a.missing a.animal_order a.iid_count a.sid_count a.val.now) _ a.out.now p.pass e _ (c.write_file_i8.ensures ∙ same_file a.iid_count a.sid_count (placed (by_table c.code_table-table.result a.val.now) a.animal_order a.iid_count a.sid_count) (value_code i8 a.is_a1_counted a.missing a.animal_order a.iid_count a.sid_count a.val.now) (value_coded i8 a.is_a1_counted a.missing a.animal_order a.iid_count a.sid_count a.val.now) (byte_same a.is_a1_counted a.missing _ a.animal_order a.iid_count a.sid_count a.val.now (as_given a.missing c.ranges.missing (λ m. CodesOfBytes a.is_a1_counted m c.code_table-table.result) c.code_table-table.ensures) p.product t.search_i8-bad.ensures.1) e) in
+    let p = passed a.iid_count a.sid_count _ _ _ c.check_write-checked.ensures (sym c.is_done.ensures ∙ c.if-is_done.true) in
+    let e = held_found a.missing c.ranges.missing a.is_a1_counted a.animal_order a.iid_count a.sid_count a.val.now (sym (ap bad_says c.in_default.is) ∙ c.search_i8-bad.ensures.0) in
+    let q = write_done a.iid_count a.sid_count (value_code i8 a.is_a1_counted a.missing a.animal_order a.iid_count a.sid_count a.val.now) _ a.out.now p.pass e _ (c.write_file_i8.ensures ∙ same_file a.iid_count a.sid_count (placed (by_table c.code_table-table.result a.val.now) a.animal_order a.iid_count a.sid_count) (value_code i8 a.is_a1_counted a.missing a.animal_order a.iid_count a.sid_count a.val.now) (value_coded i8 a.is_a1_counted a.missing a.animal_order a.iid_count a.sid_count a.val.now) (byte_same a.is_a1_counted a.missing _ a.animal_order a.iid_count a.sid_count a.val.now (as_given a.missing c.ranges.missing (λ m. CodesOfBytes a.is_a1_counted m c.code_table-table.result) c.code_table-table.ensures) p.product c.search_i8-bad.ensures.1) e) in
     (p.is_done_law ∙ q.0, q.1)
 
 pub returns-else-is_done : goal.returns-else-is_done
