@@ -20,9 +20,6 @@ use Rattle.index.specs.declared.range.Bound.{Bound}
 use Rattle.index.specs.declared.slice.SliceEnd.{SliceEnd}
 use Rattle.index.specs.declared.range.RangeAny.{RangeAny}
 use Rattle.index.specs.declared.Index.{Index}
-use Rattle.index.specs.declared.range.Bound.TheVariants as Bound
-use Rattle.index.specs.declared.slice.SliceEnd.TheVariants as SliceEnd
-use Rattle.index.specs.declared.Index.TheVariants as Index
 use Rattle.index.specs.Numbers.{bound_or, index_list}
 use Rattle.index.specs.Checks.{check_bound, check_range, check_end, check_slice, check_index, list_answer, index_answer, range_answer}
 use Rattle.bed_file.specs.File.{is_mode1, items, blocks, check_open, check_mode, check_length, check_file}

@@ -13,7 +13,7 @@ use Rattle.answer.specs.Answer.{Answer, done, check, is_done, if_done}
 use Rattle.codes.specs.Value.{Width, float}
 use Rattle.answer.proofs.AnswerLaws.{check_done, same_if_done}
 use Rattle.bed_read.specs.Reading.{check_lists, read_answer, values_read, read_buffer}
-use Rattle.bed_read.proofs.ReadLaws.{Readable, readable, read_accepted, lists_done, lists_same}
+use Rattle.bed_read.proofs.ReadLaws.{readable, read_accepted, lists_done, lists_same}
 use Rattle.statistics.specs.Statistics.{stats_per_marker}
 use Rattle.standardise.specs.Standardised.{lowest_refused, new_stats, new_values, standardise_answer, later_stats, later_values}
 use Rattle.read_standardised.specs.Joined.{joined_checks, read_nan, joined_answer, joined_stats, joined_values}

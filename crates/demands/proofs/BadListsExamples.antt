@@ -7,7 +7,7 @@ use Prim.Native.Nat.{ℕ, ◌*◌}
 use lib.IntN.{ℤ, pos}
 use lib.ListN.{length}
 use lib.Ieee.{Float, nan, binary64}
-use Rattle.answer.specs.Answer.{Answer, done, refused, if_done}
+use Rattle.answer.specs.Answer.{refused, if_done}
 use Rattle.blocks.specs.Block.{block_width}
 use Rattle.entries.specs.Entry.{first_bad, is_good}
 use Rattle.codes.specs.Value.{Width}

@@ -1,7 +1,7 @@
 -- Lists composed are good where both lists are.
 use mathlib.Core.Path.{◌≡◌, refl, ap, subst, ◌∙◌}
 use mathlib.Core.Bool.{true}
-use mathlib.Core.List.{List, [], ◌∷◌, map}
+use mathlib.Core.List.{List, map}
 use Prim.Native.Nat.{ℕ, ◌<◌}
 use native.Mathlib.Omega.{arith}
 use borrow.Author.Tests.{lt-ltb}
@@ -13,7 +13,7 @@ use Rattle.entries.proofs.EntryLaws.{means_below, all_good, none_bad}
 use Rattle.codes.specs.Value.{i8, same_int}
 use Rattle.codes.proofs.ValueLaws.{NoNumber}
 use Rattle.demands.specs.Demand.{GoodList}
-use Rattle.demands.specs.Composed.{resolved_through, composed, composed_as_given}
+use Rattle.demands.specs.Composed.{resolved_through}
 
 -- ---- a list of which each entry is mapped
 pub map_at : (f : ℤ → ℤ) (l : List ℤ) (k : ℕ) → k < length l → get_or (map f l) k (pos 0) ≡ f (get_or l k (pos 0))

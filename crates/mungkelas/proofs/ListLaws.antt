@@ -8,9 +8,7 @@ use mir.Syntax.{w64}
 use mir.Val.{SFits, to_z, of_z}
 use mir.ValLaws.{to_z-of_z}
 use Rattle.index.specs.declared.range.Bound.{Bound}
-use Rattle.index.specs.declared.range.Bound.TheVariants as Bound
 use Rattle.index.specs.declared.slice.SliceEnd.{SliceEnd}
-use Rattle.index.specs.declared.slice.SliceEnd.TheVariants as SliceEnd
 use Rattle.index.specs.declared.Index.{Index}
 use Rattle.bed_answer.specs.declared.BedAnswer.{BedAnswer}
 use Rattle.mungkelas.specs.Interface.{bound_of, end_of, range_of, slice_of}

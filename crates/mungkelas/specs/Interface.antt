@@ -4,8 +4,6 @@ use Rattle.index.specs.declared.range.Bound.{Bound}
 use Rattle.index.specs.declared.slice.SliceEnd.{SliceEnd}
 use Rattle.index.specs.declared.range.RangeAny.{RangeAny}
 use Rattle.index.specs.declared.slice.SliceInfo1.{SliceInfo1}
-use Rattle.index.specs.declared.range.Bound.TheVariants as Bound
-use Rattle.index.specs.declared.slice.SliceEnd.TheVariants as SliceEnd
 
 -- "An absent bound's number is not looked at."
 unfoldable pub bound_of : Bool → ℕ → Bound

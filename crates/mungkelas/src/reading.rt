@@ -31,12 +31,7 @@ pub fn bed_count_calls(
     bed_answer::of_read(answer)
 }
 
-pub fn bed_canonical(
-    file: &[u8],
-    iid_count: usize,
-    sid_count: usize,
-    out: &mut [u8],
-) -> BedAnswer
+pub fn bed_canonical(file: &[u8], iid_count: usize, sid_count: usize, out: &mut [u8]) -> BedAnswer
     ensures { BedCanonical file.now iid_count sid_count result out.old out.new }
 {
     let answer = canonical::canonical(file, iid_count, sid_count, out);

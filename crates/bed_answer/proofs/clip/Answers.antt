@@ -2,7 +2,6 @@
 use mathlib.Core.Path.{sym, ap}
 use lib.IntN.{pos}
 use Rattle.bed_answer.proofs.AnswerLaws.{clip_above, held_below}
-use borrow.Author.Rules.{rules}
 use Rattle.bed_answer.proofs.clip.Goals as goal
 
 pub returns-then-n-lt9223372036854775808 : goal.returns-then-n-lt9223372036854775808

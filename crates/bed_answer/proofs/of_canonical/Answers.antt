@@ -6,7 +6,6 @@ use Rattle.canonical.specs.Says.{canonical_says}
 use Rattle.bed_answer.specs.Interface.{bed_answer, number_of, values_of}
 use Rattle.bed_answer.specs.Private.{three_of}
 use Rattle.bed_answer.proofs.AnswerLaws.{told}
-use borrow.Author.Rules.{rules}
 use Rattle.bed_answer.proofs.of_canonical.Goals as goal
 
 pub returns-in-Done : goal.returns-in-Done

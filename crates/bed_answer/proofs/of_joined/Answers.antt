@@ -8,7 +8,6 @@ use Rattle.read_standardised.specs.Says.{joined_says}
 use Rattle.bed_answer.specs.Interface.{bed_answer, number_of, values_of, clip, carries_entry, clip_answer}
 use Rattle.bed_answer.specs.Private.{three_of}
 use Rattle.bed_answer.proofs.AnswerLaws.{told, bare_clipped}
-use borrow.Author.Rules.{rules}
 use Rattle.bed_answer.proofs.of_joined.Goals as goal
 
 pub returns-in-Done : goal.returns-in-Done

@@ -2,7 +2,6 @@
 use Rattle.product.specs.Says.{piece_says}
 use Rattle.bed_answer.specs.Interface.{bed_answer, number_of, values_of}
 use Rattle.bed_answer.proofs.AnswerLaws.{told}
-use borrow.Author.Rules.{rules}
 use Rattle.bed_answer.proofs.of_piece.Goals as goal
 
 pub returns-in-Done : goal.returns-in-Done

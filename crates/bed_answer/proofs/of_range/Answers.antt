@@ -2,7 +2,6 @@
 use Rattle.index.specs.Says.{range_says}
 use Rattle.bed_answer.specs.Interface.{bed_answer, number_of, values_of, clip, carries_entry, clip_answer}
 use Rattle.bed_answer.proofs.AnswerLaws.{told}
-use borrow.Author.Rules.{rules}
 use Rattle.bed_answer.proofs.of_range.Goals as goal
 
 pub returns-in-Range : goal.returns-in-Range

@@ -8,7 +8,6 @@ use Rattle.bed_read.specs.Says.{read_says}
 use Rattle.bed_answer.specs.Interface.{bed_answer, number_of, values_of}
 use Rattle.bed_answer.specs.Private.{three_of}
 use Rattle.bed_answer.proofs.AnswerLaws.{told}
-use borrow.Author.Rules.{rules}
 use Rattle.bed_answer.proofs.of_read.Goals as goal
 
 pub returns-in-Done : goal.returns-in-Done

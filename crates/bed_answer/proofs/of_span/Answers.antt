@@ -7,7 +7,6 @@ use Rattle.entries.specs.Says.{span_says}
 use Rattle.bed_answer.specs.Interface.{bed_answer, number_of, values_of, clip, carries_entry, clip_answer}
 use Rattle.bed_answer.specs.Private.{three_of}
 use Rattle.bed_answer.proofs.AnswerLaws.{told}
-use borrow.Author.Rules.{rules}
 use Rattle.bed_answer.proofs.of_span.Goals as goal
 
 pub returns-in-Span : goal.returns-in-Span

@@ -2,7 +2,6 @@
 use Rattle.bed_write.specs.Says.{write_says}
 use Rattle.bed_answer.specs.Interface.{bed_answer, number_of, values_of, clip, carries_entry, clip_answer}
 use Rattle.bed_answer.proofs.AnswerLaws.{told}
-use borrow.Author.Rules.{rules}
 use Rattle.bed_answer.proofs.of_write.Goals as goal
 
 pub returns-in-Done : goal.returns-in-Done

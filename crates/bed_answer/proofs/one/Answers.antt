@@ -1,6 +1,5 @@
 -- `one`: a number, as a signed one.
 use Rattle.bed_answer.proofs.AnswerLaws.{first_of, held}
-use borrow.Author.Rules.{rules}
 use Rattle.bed_answer.proofs.one.Goals as goal
 
 pub returns : goal.returns

@@ -1,6 +1,5 @@
 -- `two`: two numbers, as signed ones.
 use Rattle.bed_answer.proofs.AnswerLaws.{three_of_law, held}
-use borrow.Author.Rules.{rules}
 use Rattle.bed_answer.proofs.two.Goals as goal
 
 pub returns : goal.returns

@@ -8,7 +8,6 @@ use borrow.Author.Tests.{not-true, not-false}
 use Rattle.answer.specs.Answer.{refused}
 use Rattle.read_standardised.proofs.JoinLaws.{iids_too_large, sids_too_large, values_mismatch, stats_mismatch, call_refused, standardised_after, refused_after}
 use Rattle.read_standardised.proofs.Never14.{never_14_after}
-use borrow.Author.Rules.{rules}
 use Rattle.read_standardised.proofs.read_standardised_f64.Goals as goal
 
 pub returns-then-iid_count-gt-COUNT_LIMIT : goal.returns-then-iid_count-gt-COUNT_LIMIT

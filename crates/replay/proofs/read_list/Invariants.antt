@@ -1,6 +1,5 @@
 -- The turns are counted down.
 use Prim.Native.Nat.{◌≤◌}
-use borrow.Author.Rules.{rules}
 use Rattle.replay.proofs.read_list.Given as goal
 
 abbrev pub invariant-loop-turns : goal.invariant-loop-turns

@@ -1,7 +1,6 @@
 -- The places stay inside.
 use Prim.Native.Nat.{◌≤◌, ◌-◌}
 use lib.ListN.{length}
-use borrow.Author.Rules.{rules}
 use Rattle.replay.proofs.read_part.Given as goal
 
 abbrev pub invariant-loop-i : goal.invariant-loop-i

@@ -1,6 +1,5 @@
 -- The calls are counted up to 23.
 use Prim.Native.Nat.{◌≤◌, ◌-◌}
-use borrow.Author.Rules.{rules}
 use Rattle.replay.proofs.say_calls.Given as goal
 
 abbrev pub invariant-loop-call : goal.invariant-loop-call

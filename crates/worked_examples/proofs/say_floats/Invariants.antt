@@ -1,6 +1,5 @@
 -- The index stays inside.
 use Prim.Native.Nat.{◌≤◌, ◌-◌}
-use borrow.Author.Rules.{rules}
 use lib.ListN.{length}
 use Rattle.worked_examples.proofs.say_floats.Given as goal
 

@@ -1,7 +1,6 @@
 -- `bed_byte_span`: what the core answers, told.
 use Rattle.bed_answer.proofs.AnswerLaws.{as_fits}
 use Rattle.bed_answer.proofs.FitLaws.{span_fits}
-use borrow.Author.Rules.{rules}
 use Rattle.mungkelas.proofs.lists.bed_byte_span.Goals as goal
 
 pub returns : goal.returns

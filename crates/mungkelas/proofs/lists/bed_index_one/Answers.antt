@@ -4,7 +4,6 @@ use mir.Syntax.{w64}
 use mir.ValLaws.{to_z-of_z}
 use Rattle.index.specs.declared.Index.TheVariants as Index
 use Rattle.mungkelas.proofs.ListLaws.{by_index}
-use borrow.Author.Rules.{rules}
 use Rattle.mungkelas.proofs.lists.bed_index_one.Goals as goal
 
 pub returns : goal.returns

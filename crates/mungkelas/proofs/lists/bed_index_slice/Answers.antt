@@ -2,7 +2,6 @@
 use mathlib.Core.Path.{ap, ◌∙◌}
 use Rattle.index.specs.declared.Index.TheVariants as Index
 use Rattle.mungkelas.proofs.ListLaws.{by_index, slice_held}
-use borrow.Author.Rules.{rules}
 use Rattle.mungkelas.proofs.lists.bed_index_slice.Goals as goal
 
 pub returns : goal.returns

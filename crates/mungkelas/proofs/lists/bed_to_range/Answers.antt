@@ -3,7 +3,6 @@ use mathlib.Core.Path.{ap, ◌∙◌}
 use Rattle.bed_answer.proofs.AnswerLaws.{as_fits}
 use Rattle.bed_answer.proofs.FitLaws.{range_fits}
 use Rattle.index.specs.Checks.{range_answer}
-use borrow.Author.Rules.{rules}
 use Rattle.mungkelas.proofs.lists.bed_to_range.Goals as goal
 
 pub returns : goal.returns

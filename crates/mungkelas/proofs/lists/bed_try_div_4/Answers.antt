@@ -1,7 +1,6 @@
 -- `bed_try_div_4`: what the core answers, told.
 use Rattle.bed_answer.proofs.AnswerLaws.{as_fits}
 use Rattle.bed_answer.proofs.FitLaws.{div_fits}
-use borrow.Author.Rules.{rules}
 use Rattle.mungkelas.proofs.lists.bed_try_div_4.Goals as goal
 
 pub returns : goal.returns

@@ -2,7 +2,6 @@
 use Rattle.bed_answer.proofs.AnswerLaws.{as_fits}
 use Rattle.bed_answer.proofs.FitLaws.{list_fits}
 use native.Mathlib.Omega.{arith}
-use borrow.Author.Rules.{rules}
 use Rattle.mungkelas.proofs.lists.list_of.Goals as goal
 
 pub returns : goal.returns

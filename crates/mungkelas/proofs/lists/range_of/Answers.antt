@@ -1,6 +1,5 @@
 -- `range_of`: both bounds.
 use Rattle.mungkelas.proofs.ListLaws.{range_is}
-use borrow.Author.Rules.{rules}
 use Rattle.mungkelas.proofs.lists.range_of.Goals as goal
 
 pub returns : goal.returns

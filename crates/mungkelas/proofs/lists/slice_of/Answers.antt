@@ -4,7 +4,6 @@ use mir.Syntax.{w64}
 use mir.ValLaws.{to_z-of_z}
 use Rattle.mungkelas.specs.Interface.{end_of}
 use Rattle.mungkelas.proofs.ListLaws.{slice_is}
-use borrow.Author.Rules.{rules}
 use Rattle.mungkelas.proofs.lists.slice_of.Goals as goal
 
 pub returns : goal.returns

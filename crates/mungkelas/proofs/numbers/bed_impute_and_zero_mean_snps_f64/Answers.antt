@@ -1,7 +1,6 @@
 -- `bed_impute_and_zero_mean_snps_f64`: what the core answers, told.
 use Rattle.bed_answer.proofs.AnswerLaws.{as_fits}
 use Rattle.bed_answer.proofs.FitLaws.{standardise_fits}
-use borrow.Author.Rules.{rules}
 use Rattle.mungkelas.proofs.numbers.bed_impute_and_zero_mean_snps_f64.Goals as goal
 
 pub returns : goal.returns

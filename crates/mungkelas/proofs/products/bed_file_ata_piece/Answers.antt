@@ -1,6 +1,5 @@
 -- `bed_file_ata_piece`: what the core answers, told.
 use Rattle.bed_answer.proofs.AnswerLaws.{as_said}
-use borrow.Author.Rules.{rules}
 use Rattle.mungkelas.proofs.products.bed_file_ata_piece.Goals as goal
 
 pub returns : goal.returns

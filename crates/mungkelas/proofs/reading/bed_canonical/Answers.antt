@@ -1,6 +1,5 @@
 -- `bed_canonical`: what the core answers, told.
 use Rattle.bed_answer.proofs.AnswerLaws.{as_said}
-use borrow.Author.Rules.{rules}
 use Rattle.mungkelas.proofs.reading.bed_canonical.Goals as goal
 
 pub returns : goal.returns

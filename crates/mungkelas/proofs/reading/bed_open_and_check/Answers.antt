@@ -1,6 +1,5 @@
 -- `bed_open_and_check`: what the core answers, told.
 use Rattle.bed_answer.proofs.AnswerLaws.{as_said}
-use borrow.Author.Rules.{rules}
 use Rattle.mungkelas.proofs.reading.bed_open_and_check.Goals as goal
 
 pub returns : goal.returns

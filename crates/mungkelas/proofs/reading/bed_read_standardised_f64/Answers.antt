@@ -2,7 +2,6 @@
 use Rattle.bed_answer.proofs.AnswerLaws.{as_fits}
 use Rattle.bed_answer.proofs.FitLaws.{joined_fits}
 use native.Mathlib.Omega.{arith}
-use borrow.Author.Rules.{rules}
 use Rattle.mungkelas.proofs.reading.bed_read_standardised_f64.Goals as goal
 
 pub returns : goal.returns

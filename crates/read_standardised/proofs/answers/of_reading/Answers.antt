@@ -6,7 +6,6 @@ use mir.Syntax.{w64}
 use mir.ValLaws.{to_z-of_z}
 use Rattle.answer.specs.Answer.{refused}
 use Rattle.bed_read.specs.Says.{read_says}
-use borrow.Author.Rules.{rules}
 use Rattle.read_standardised.proofs.answers.of_reading.Goals as goal
 
 pub returns-in-Done : goal.returns-in-Done

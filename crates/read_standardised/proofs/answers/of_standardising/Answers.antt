@@ -1,7 +1,6 @@
 -- `of_standardising`, variant by variant.
 use mathlib.Core.Path.{sym, ap}
 use Rattle.standardise.specs.Says.{standardise_says}
-use borrow.Author.Rules.{rules}
 use Rattle.read_standardised.proofs.answers.of_standardising.Goals as goal
 
 pub returns-in-Done : goal.returns-in-Done

@@ -2,7 +2,6 @@
 use mathlib.Core.Path.{refl}
 use lib.Ieee.{binary64, of_bits, div}
 use Rattle.read_standardised.proofs.JoinLaws.{in_turn_left}
-use borrow.Author.Rules.{rules}
 use Rattle.read_standardised.proofs.in_turn.read_then_standardise_f64.Goals as goal
 
 pub returns : goal.returns

@@ -1,6 +1,5 @@
 -- `bed_read_f64`: what the core answers, told.
 use Rattle.bed_answer.proofs.AnswerLaws.{as_said}
-use borrow.Author.Rules.{rules}
 use Rattle.mungkelas.proofs.reading.read_f64.bed_read_f64.Goals as goal
 
 pub returns : goal.returns

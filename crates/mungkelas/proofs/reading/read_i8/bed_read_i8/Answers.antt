@@ -1,6 +1,5 @@
 -- `bed_read_i8`: what the core answers, told.
 use Rattle.mungkelas.proofs.MissingLaws.{read_missing}
-use borrow.Author.Rules.{rules}
 use Rattle.mungkelas.proofs.reading.read_i8.bed_read_i8.Goals as goal
 
 pub returns : goal.returns

@@ -2,7 +2,6 @@
 use Rattle.bed_answer.proofs.AnswerLaws.{as_fits}
 use Rattle.bed_answer.proofs.FitLaws.{encode_fits}
 use native.Mathlib.Omega.{arith}
-use borrow.Author.Rules.{rules}
 use Rattle.mungkelas.proofs.writing.encode_f64.bed_encode1_f64.Goals as goal
 
 pub returns : goal.returns

@@ -1,7 +1,6 @@
 -- `bed_encode1_i8`: what the core answers, told.
 use native.Mathlib.Omega.{arith}
 use Rattle.mungkelas.proofs.MissingLaws.{encode_missing}
-use borrow.Author.Rules.{rules}
 use Rattle.mungkelas.proofs.writing.encode_i8.bed_encode1_i8.Goals as goal
 
 pub returns : goal.returns

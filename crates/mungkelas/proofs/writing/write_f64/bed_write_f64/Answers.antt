@@ -1,7 +1,6 @@
 -- `bed_write_f64`: what the core answers, told.
 use Rattle.bed_answer.proofs.AnswerLaws.{as_fits}
 use Rattle.bed_answer.proofs.FitLaws.{write_fits}
-use borrow.Author.Rules.{rules}
 use Rattle.mungkelas.proofs.writing.write_f64.bed_write_f64.Goals as goal
 
 pub returns : goal.returns

@@ -1,6 +1,5 @@
 -- `bed_write_i8`: what the core answers, told.
 use Rattle.mungkelas.proofs.MissingLaws.{write_missing}
-use borrow.Author.Rules.{rules}
 use Rattle.mungkelas.proofs.writing.write_i8.bed_write_i8.Goals as goal
 
 pub returns : goal.returns
