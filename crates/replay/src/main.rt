@@ -3,7 +3,7 @@
 // first word is 2 is a control, wrong on purpose: it must differ.
 #![tactic(auto)]
 
-mod calls;
+mod line_calls;
 
 use std::fs::File;
 use std::io::{Error, Read};
@@ -46,12 +46,12 @@ fn say_name(call: usize) {
 // Whether the library agrees with a line of the form.
 fn calls_agree(call: usize, words: &[usize; 715]) -> bool {
     match call {
-        1..=4 | 22 => calls::number(call, words),
-        5 | 6 | 13 => calls::read(call, words),
-        7..=11 => calls::write(call, words),
-        12 => calls::impute_and_zero_mean_snps_f64(words),
-        14..=19 => calls::list(call, words),
-        20 | 21 => calls::piece(call, words),
+        1..=4 | 22 => line_calls::number(call, words),
+        5 | 6 | 13 => line_calls::read(call, words),
+        7..=11 => line_calls::write(call, words),
+        12 => line_calls::impute_and_zero_mean_snps_f64(words),
+        14..=19 => line_calls::list(call, words),
+        20 | 21 => line_calls::piece(call, words),
         _ => false,
     }
 }
