@@ -2,14 +2,14 @@
 use mathlib.Core.Path.{sym, ap}
 use mathlib.Core.Bool.{not}
 use native.Mathlib.Omega.{arith}
+use borrow.Author.Rules.{rules}
 use Rattle.calls.proofs.PlaceLaws.{item_adds, part_of}
 use Rattle.calls.proofs.iid_part.Goals as goal
 
 pub returns-then-shape : goal.returns-then-shape
 returns-then-shape c =
     let a = c.args in
-    let e = c.item_part.ensures in
-    part_of _ _ _ _ _ (sym (ap not c.if-shape.true)) (item_adds a.shape.width a.iid.0 _ (omega arith) e.0 e.1)
+    part_of _ _ _ _ _ (sym (ap not c.if-shape.true)) (item_adds a.shape.width a.iid.0 _ (omega arith) (search rules) (search rules))
 
 pub returns : goal.returns
-returns c = part_of _ _ _ _ _ (sym (ap not c.if-shape.false)) c.block_part.ensures
+returns c = part_of _ _ _ _ _ (sym (ap not c.if-shape.false)) (search rules)
