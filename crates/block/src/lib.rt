@@ -112,7 +112,7 @@ impl<'a> MarkerBlockMut<'a> {
     }
 }
 
-// The same with plain parameters: the block is made here, so that a caller's proof needs no walk by hand.
+// The same with plain parameters: the block is made here.
 pub fn code_in_block(bytes: &[u8], iid_count: usize, iid: IidIndex) -> CodeAnswer
     ensures { code_says result ≡ code_answer bytes.now iid_count iid.0 }
 {
