@@ -2,7 +2,7 @@
 use mathlib.Core.Path.{◌≡◌, refl, sym, ◌∙◌}
 use mathlib.Core.Bool.{Bool, true, false, ◌&&◌}
 use mathlib.Core.List.{List, [], ◌∷◌, map}
-use mathlib.Core.Option.{Option, some, none}
+use Rattle.std.specs.Prelude.{Option, Some, None}
 use Prim.Native.Nat.{ℕ, zero, suc, ◌+◌, ◌-◌, ◌*◌, ◌/◌, ◌^◌, ◌≤◌, ◌<◌}
 use native.Mathlib.Omega.{arith}
 use borrow.Author.Tests.{leb-true}
@@ -58,10 +58,10 @@ count_fits : (n : ℕ) (later : Answer) → (n ≤ count_limit → Fits later) �
 unfolding check_count
 count_fits n later f = if_fits (leb n count_limit) 18 later (λ e. f (leb-true n count_limit e))
 
-entry_fits : (o : Option ℤ) (n : ℕ) (later : Answer) → carries_entry n ≡ true → (o ≡ none → Fits later) → Fits (check_entry o n later)
+entry_fits : (o : Option ℤ) (n : ℕ) (later : Answer) → carries_entry n ≡ true → (o ≡ None → Fits later) → Fits (check_entry o n later)
 unfolding check_entry Fits
-entry_fits none n later e f = f refl
-entry_fits (some z) n later e f = λ q. absurd (let p : ◌≡◌ {A = Bool} true false = sym e ∙ q in let q2 : ◌≡◌ {A = ℕ} 0 1 = cc in omega arith)
+entry_fits None n later e f = f refl
+entry_fits (Some z) n later e f = λ q. absurd (let p : ◌≡◌ {A = Bool} true false = sym e ∙ q in let q2 : ◌≡◌ {A = ℕ} 0 1 = cc in omega arith)
 
 -- ---- block widths
 width_below : (n : ℕ) → n ≤ count_limit → block_width n < 2 ^ 63
@@ -80,7 +80,7 @@ module _ (count : ℕ) where
   least_below n [] h = h
   least_below n (m ∷ ms) h = omega arith
 
-  spans_fit : (list : List ℤ) → count ≤ count_limit → first_bad count list ≡ none → Fits (done (span count list))
+  spans_fit : (list : List ℤ) → count ≤ count_limit → first_bad count list ≡ None → Fits (done (span count list))
   unfolding Fits AllBelow span first_bad
   spans_fit [] h f = (omega arith, (omega arith, tt))
   spans_fit (e ∷ es) h f =
@@ -135,13 +135,13 @@ list_fits index count vec marks room l =
 -- ---- the first bad value
 -- what is found has a property
 unfoldable Holds : {A : Type 0} → (A → Type 0) → Option A → Type 0
-Holds P none = Unit
-Holds P (some x) = P x
+Holds P None = Unit
+Holds P (Some x) = P x
 
 or_holds : {A : Type 0} (P : A → Type 0) (o later : Option A) → Holds P o → Holds P later → Holds P (or_else o later)
 unfolding Holds or_else
-or_holds P none later h k = k
-or_holds P (some x) later h k = h
+or_holds P None later h k = k
+or_holds P (Some x) later h k = h
 
 first_holds : {A : Type 0} (P : A → Type 0) (n : ℕ) (f : ℕ → Option A) → ((k : ℕ) → k < n → Holds P (f k)) → Holds P (first_of n f)
 unfolding Holds first_of
@@ -151,13 +151,13 @@ first_holds P (suc n) f h =
 
 bad_holds : {A : Type 0} (P : A → Type 0) (o : Option ℕ) (x : A) → P x → Holds P (if_bad o x)
 unfolding Holds if_bad
-bad_holds P (some c) x p = tt
-bad_holds P none x p = p
+bad_holds P (Some c) x p = tt
+bad_holds P None x p = p
 
 animal_fits : (o : Option ℕ) → Holds (λ a. a < 2 ^ 63) o → Fits (check_animal o (done []))
 unfolding check_animal Holds Fits AllBelow
-animal_fits none h = tt
-animal_fits (some a) h = λ _. (h, tt)
+animal_fits None h = tt
+animal_fits (Some a) h = λ _. (h, tt)
 
 pub encode_fits : (n : ℕ) (code : ℕ → Option ℕ) (out_length : ℕ) → n < 2 ^ 63 → Fits (encode_answer n code out_length)
 unfolding encode_answer first_bad_animal
@@ -167,8 +167,8 @@ encode_fits n code out_length l =
 
 call_fits : (o : Option (ℕ × ℕ)) → Holds (λ (p : ℕ × ℕ). (p.0 < 2 ^ 63) × (p.1 < 2 ^ 63)) o → Fits (check_call o (done []))
 unfolding check_call Holds Fits AllBelow
-call_fits none h = tt
-call_fits (some (a, m)) h = λ _. (h.0, (h.1, tt))
+call_fits None h = tt
+call_fits (Some (a, m)) h = λ _. (h.0, (h.1, tt))
 
 pub write_fits : (iids sids : ℕ) (code : ℕ → ℕ → Option ℕ) (val_length out_length : ℕ) → Fits (write_answer iids sids code val_length out_length)
 unfolding write_answer check_buffers check_size first_bad_call

@@ -2,7 +2,7 @@
 use mathlib.Core.Path.{◌≡◌, refl, sym, ap, subst, ◌∙◌}
 use mathlib.Core.Bool.{Bool, true, false, not, cond}
 use mathlib.Core.List.{List, [], ◌∷◌}
-use mathlib.Core.Option.{none}
+use Rattle.std.specs.Prelude.{None}
 use Prim.Native.Nat.{ℕ, zero, suc, ◌+◌, ◌-◌, ◌*◌, ◌/◌, ◌%◌, ◌^◌, ◌<◌, ◌≤◌}
 use native.Mathlib.Nat.{add-zero}
 use native.Mathlib.Omega.{arith}
@@ -62,7 +62,7 @@ module _ (count : ℕ) (list : List ℤ) (k n : ℕ) (f : mag (get_or list k (po
   pub meant : n ≡ means count (get_or list k (pos 0))
   meant = means_back count (get_or list k (pos 0)) (record { sfits = f }) n e
 
-  pub meant_below : first_bad count list ≡ none → k < length list → n < count
+  pub meant_below : first_bad count list ≡ None → k < length list → n < count
   meant_below g h = subst (λ (x : ℕ). x < count) (sym meant) (means_below count (get_or list k (pos 0)) (all_good count list k g h))
 
 module _ (shape : Shape) (il sl : List ℤ) where

@@ -2,7 +2,7 @@
 use mathlib.Core.Path.{◌≡◌, sym, ap, subst, ◌∙◌}
 use mathlib.Core.Bool.{Bool, true, false}
 use mathlib.Core.List.{List, [], ◌∷◌}
-use mathlib.Core.Option.{some, none}
+use Rattle.std.specs.Prelude.{Some, None}
 use Prim.Native.Nat.{ℕ, ◌*◌, ◌^◌, ◌<◌, ◌≤◌}
 use native.Mathlib.Omega.{arith}
 use borrow.Author.Tests.{eq-eqb, eqb-true}
@@ -37,18 +37,18 @@ module _ (iids sids : ℕ) (il sl : List ℤ) where
       lists_counted = count_passes iids _ hi ∙ count_passes sids _ hs
 
       -- an entry held in 64 bits is the entry
-      pub lists_5 : (e : ℤ) → first_bad iids il ≡ some e → mag e < 2 ^ 63 → refused 5 (to_z w64 (of_z w64 e) ∷ []) ≡ lists_answer iids sids il sl
+      pub lists_5 : (e : ℤ) → first_bad iids il ≡ Some e → mag e < 2 ^ 63 → refused 5 (to_z w64 (of_z w64 e) ∷ []) ≡ lists_answer iids sids il sl
       unfolding check_lists
       lists_5 e b f = ap (λ (x : ℤ). refused 5 (x ∷ [])) (to_z-of_z w64 e (record { sfits = f })) ∙ sym (lists_counted ∙ entry_refuses (first_bad iids il) 5 _ e b)
 
-      module _ (g : first_bad iids il ≡ none) where
-        pub lists_6 : (e : ℤ) → first_bad sids sl ≡ some e → mag e < 2 ^ 63 → refused 6 (to_z w64 (of_z w64 e) ∷ []) ≡ lists_answer iids sids il sl
+      module _ (g : first_bad iids il ≡ None) where
+        pub lists_6 : (e : ℤ) → first_bad sids sl ≡ Some e → mag e < 2 ^ 63 → refused 6 (to_z w64 (of_z w64 e) ∷ []) ≡ lists_answer iids sids il sl
         unfolding check_lists
         lists_6 e b f =
             ap (λ (x : ℤ). refused 6 (x ∷ [])) (to_z-of_z w64 e (record { sfits = f }))
             ∙ sym (lists_counted ∙ entry_passes (first_bad iids il) 5 _ g ∙ entry_refuses (first_bad sids sl) 6 _ e b)
 
-        pub lists_good : first_bad sids sl ≡ none → done [] ≡ lists_answer iids sids il sl
+        pub lists_good : first_bad sids sl ≡ None → done [] ≡ lists_answer iids sids il sl
         unfolding check_lists
         lists_good b = sym (lists_counted ∙ entry_passes (first_bad iids il) 5 _ g ∙ entry_passes (first_bad sids sl) 6 _ b)
 
@@ -108,12 +108,12 @@ module _ (iids sids : ℕ) (il sl : List ℤ) where
   unfolding check_lists
   lists_stage = then_stage (entry_stage (first_bad iids il) 5) (entry_stage (first_bad sids sl) 6)
 
-  pub lists_done : (later : Answer) → is_done (check_lists iids sids il sl later) ≡ true → (first_bad iids il ≡ none) × (first_bad sids sl ≡ none)
+  pub lists_done : (later : Answer) → is_done (check_lists iids sids il sl later) ≡ true → (first_bad iids il ≡ None) × (first_bad sids sl ≡ None)
   unfolding check_lists
   lists_done later d = let a = entry_done (first_bad iids il) 5 _ d in let b = entry_done (first_bad sids sl) 6 later a.1 in (a.0, b.0)
 
   -- what comes later matters where both lists are good
-  pub lists_same : (later later' : Answer) → (first_bad iids il ≡ none → first_bad sids sl ≡ none → later ≡ later') → check_lists iids sids il sl later ≡ check_lists iids sids il sl later'
+  pub lists_same : (later later' : Answer) → (first_bad iids il ≡ None → first_bad sids sl ≡ None → later ≡ later') → check_lists iids sids il sl later ≡ check_lists iids sids il sl later'
   lists_same later later' e = by_stage lists_stage
     where
       by_stage : Stage (λ later. check_lists iids sids il sl later) → check_lists iids sids il sl later ≡ check_lists iids sids il sl later'
@@ -124,7 +124,7 @@ module _ (iids sids : ℕ) (il sl : List ℤ) where
 -- an accepted file is read with good lists into a buffer of the right length
 pub read_good :
     (file : List ℕ) (iids sids : ℕ) (il sl : List ℤ) (val_length : ℕ) → is_done (accept_answer file iids sids) ≡ true
-    → length il * length sl ≡ val_length → first_bad iids il ≡ none → first_bad sids sl ≡ none → read_answer file iids sids il sl val_length ≡ done []
+    → length il * length sl ≡ val_length → first_bad iids il ≡ None → first_bad sids sl ≡ None → read_answer file iids sids il sl val_length ≡ done []
 unfolding check_lists
 read_good file iids sids il sl val_length d e gi gs =
     read_accepted file iids sids il sl val_length d
@@ -135,8 +135,8 @@ read_good file iids sids il sl val_length d e gi gs =
 pub record Readable (file : List ℕ) (iids sids : ℕ) (il sl : List ℤ) (val_length : ℕ) : Type 0 where
   pub product : length il * length sl ≡ val_length
   pub is_accepted : is_done (accept_answer file iids sids) ≡ true
-  pub iids_good : first_bad iids il ≡ none
-  pub sids_good : first_bad sids sl ≡ none
+  pub iids_good : first_bad iids il ≡ None
+  pub sids_good : first_bad sids sl ≡ None
 
 pub readable : (file : List ℕ) (iids sids : ℕ) (il sl : List ℤ) (val_length : ℕ) → is_done (read_answer file iids sids il sl val_length) ≡ true → Readable file iids sids il sl val_length
 unfolding read_answer

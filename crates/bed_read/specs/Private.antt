@@ -1,6 +1,6 @@
 -- What only private functions speak in.
 use Rattle.std.specs.Prelude.{◌≡◌, Bool, true, false, not, cond, List, map, ℕ, ◌+◌, ◌-◌, ◌*◌, ◌/◌, ◌%◌, ◌<◌, ◌≤◌, ℤ, pos, length, get_or, set}
-use Rattle.std.proofs.Math.Option.{none}
+use Rattle.std.specs.Prelude.{None}
 use Rattle.codes.specs.Code.{code_at, code_table}
 use Rattle.entries.specs.Entry.{first_bad, means}
 use Rattle.calls.specs.declared.Part.{Part}
@@ -11,8 +11,8 @@ use Rattle.bed_read.specs.Reading.{read_code}
 -- an accepted file, and both lists are good
 pub record Ready (file : List ℕ) (shape : Shape) (iid_list sid_list : List ℤ) : Type 0 where
   pub shaped : Shaped file shape
-  pub iids_good : first_bad shape.iids iid_list ≡ none
-  pub sids_good : first_bad shape.sids sid_list ≡ none
+  pub iids_good : first_bad shape.iids iid_list ≡ None
+  pub sids_good : first_bad shape.sids sid_list ≡ None
 
 -- ---- what the entries of a list add to where a call stands
 -- the length of the animal list (true) or of the marker list, and the number that its entry k means

@@ -1,7 +1,7 @@
 -- Laws of a choice without a branch.
 use mathlib.Core.Path.{◌≡◌, refl, ap, ◌∙◌}
 use mathlib.Core.Bool.{Bool, true, false, not, ◌&&◌, ◌||◌, cond}
-use mathlib.Core.Option.{some, none}
+use Rattle.std.specs.Prelude.{Some, None}
 use Prim.Native.Nat.{ℕ, ◌+◌, ◌-◌, ◌*◌, ◌<◌, ◌≤◌}
 use native.Mathlib.Omega.{arith}
 use mir.Val.{bool_byte}
@@ -32,7 +32,7 @@ small_code false x y n h g e = omega arith
 by_tests_law :
     (flag a b c d e f : Bool)
     → cond a (cond flag 3 0) (cond b 2 (cond c (cond flag 0 3) (cond d 1 (cond e 4 (cond f 4 1)))))
-    ≡ or_four (cond a (some (cond flag 3 0)) (cond b (some 2) (cond c (some (cond flag 0 3)) (cond (d || (not e && not f)) (some 1) none))))
+    ≡ or_four (cond a (Some (cond flag 3 0)) (cond b (Some 2) (cond c (Some (cond flag 0 3)) (cond (d || (not e && not f)) (Some 1) None))))
 unfolding or_four
 by_tests_law flag true b c d e f = refl
 by_tests_law flag false true c d e f = refl
@@ -61,9 +61,9 @@ code_chosen w flag missing v zer two r absent number nan one e0 e2 en eu ea t et
 -- the same of a value that is known to have a code
 by_tests_good :
     (flag a b c d : Bool)
-    → or_four (cond a (some (cond flag 3 0)) (cond b (some 2) (cond c (some (cond flag 0 3)) (cond d (some 1) none)))) < 4
+    → or_four (cond a (Some (cond flag 3 0)) (cond b (Some 2) (cond c (Some (cond flag 0 3)) (cond d (Some 1) None)))) < 4
     → cond a (cond flag 3 0) (cond b 2 (cond c (cond flag 0 3) 1))
-    ≡ or_four (cond a (some (cond flag 3 0)) (cond b (some 2) (cond c (some (cond flag 0 3)) (cond d (some 1) none))))
+    ≡ or_four (cond a (Some (cond flag 3 0)) (cond b (Some 2) (cond c (Some (cond flag 0 3)) (cond d (Some 1) None))))
 unfolding or_four
 by_tests_good flag true b c d h = refl
 by_tests_good flag false true c d h = refl

@@ -2,7 +2,7 @@
 use mathlib.Core.Path.{◌≡◌, refl, sym, ap, subst, ◌∙◌}
 use mathlib.Core.Bool.{Bool}
 use mathlib.Core.List.{List, [], ◌∷◌, ◌++◌, append-nil, append_assoc}
-use mathlib.Core.Option.{Option, some, none}
+use Rattle.std.specs.Prelude.{Option, Some, None}
 use Prim.Native.Nat.{ℕ, suc, ◌+◌, ◌-◌, ◌*◌, ◌/◌, ◌<◌, ◌≤◌}
 use native.Mathlib.Nat.{mul-one}
 use native.Mathlib.Numerals.{add-one}
@@ -73,7 +73,7 @@ module _ (n : ℕ) (code : ℕ → Option ℕ) where
       get_d_tabulate (block_width (length codes)) (packed_byte codes) b 0 (subst (λ (x : ℕ). b < block_width x) (sym l) h)
 
 -- ---- a column without bad values, a group at a time
-module _ (w : Width) (flag : Bool) (missing : w.Value) (vals : List w.Value) (good : first_bad_animal (length vals) (place_code w flag missing vals) ≡ none) where
+module _ (w : Width) (flag : Bool) (missing : w.Value) (vals : List w.Value) (good : first_bad_animal (length vals) (place_code w flag missing vals) ≡ None) where
   pub value_good : (k : ℕ) → k < length vals → or_four (place_code w flag missing vals k) < 4
   unfolding first_bad_animal
   value_good k h =
@@ -149,10 +149,10 @@ module _ (n : ℕ) (code : ℕ → Option ℕ) (old : List ℕ) where
   encode_length h = (simp (ne_eqb (length old) (block_width n) h), simp (ne_eqb (length old) (block_width n) h))
 
   module _ (l : length old ≡ block_width n) where
-    pub encode_bad : (a : ℕ) → some a ≡ first_bad_animal n code → (refused 7 (pos a ∷ []) ≡ encode_answer n code (length old)) × (old ≡ encode_buffer n code old)
+    pub encode_bad : (a : ℕ) → Some a ≡ first_bad_animal n code → (refused 7 (pos a ∷ []) ≡ encode_answer n code (length old)) × (old ≡ encode_buffer n code old)
     unfolding encode_answer encode_buffer check_animal if_done
     encode_bad a e = (simp (eq-eqb (length old) (block_width n) l, sym e), simp (eq-eqb (length old) (block_width n) l, sym e))
 
-    pub encode_done : none ≡ first_bad_animal n code → (out : List ℕ) → out ≡ packed_codes n code → (done [] ≡ encode_answer n code (length old)) × (out ≡ encode_buffer n code old)
+    pub encode_done : None ≡ first_bad_animal n code → (out : List ℕ) → out ≡ packed_codes n code → (done [] ≡ encode_answer n code (length old)) × (out ≡ encode_buffer n code old)
     unfolding encode_answer encode_buffer check_animal if_done
     encode_done e out o = (simp (eq-eqb (length old) (block_width n) l, sym e), o ∙ simp (eq-eqb (length old) (block_width n) l, sym e))

@@ -2,7 +2,7 @@
 use mathlib.Core.Path.{◌≡◌, refl, sym, ap, subst, ◌∙◌}
 use mathlib.Core.Bool.{Bool, true, false, cond}
 use mathlib.Core.List.{List}
-use mathlib.Core.Option.{Option, some, none}
+use Rattle.std.specs.Prelude.{Option, Some, None}
 use Prim.Native.Nat.{ℕ, ◌+◌, ◌-◌, ◌*◌, ◌^◌, ◌<◌}
 use native.Mathlib.Nat.{mul_comm}
 use native.Mathlib.Omega.{arith}
@@ -74,16 +74,16 @@ module _ (number : ℕ → ℕ) (order : Bool) (iids sids : ℕ) where
         let q = walk k in omega arith
 
     -- where no value is bad, no number of the group is
-    pub walk_good : first_over iids sids (placed number order iids sids) ≡ none → (k : ℕ) → k < iids - 4 * b → number (start + k * stride) < 4
+    pub walk_good : first_over iids sids (placed number order iids sids) ≡ None → (k : ℕ) → k < iids - 4 * b → number (start + k * stride) < 4
     unfolding placed
     walk_good good k h =
         subst (λ (x : ℕ). number x < 4) (sym (walk k)) (none_over iids sids (placed number order iids sids) good (4 * b + k) m (omega arith) hm)
 
     -- the byte of a group without bad values
-    module _ (good : first_over iids sids (placed number order iids sids) ≡ none) (c0 c1 c2 c3 : ℕ)
+    module _ (good : first_over iids sids (placed number order iids sids) ≡ None) (c0 c1 c2 c3 : ℕ)
         (q : Four (in_group (iids - 4 * b) (λ j. number (start + j * stride))) c0 c1 c2 c3) where
       abbrev code : ℕ → Option ℕ
-      code a = some (placed number order iids sids a m)
+      code a = Some (placed number order iids sids a m)
 
       same : (k : ℕ) → k < 4 → k < iids - 4 * b → number (start + k * stride) ≡ or_four (code (4 * b + k))
       unfolding or_four placed

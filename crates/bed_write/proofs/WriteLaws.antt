@@ -2,7 +2,7 @@
 use mathlib.Core.Path.{◌≡◌, sym, ap, ◌∙◌}
 use mathlib.Core.Bool.{Bool, true, false}
 use mathlib.Core.List.{List, [], ◌∷◌}
-use mathlib.Core.Option.{Option, some, none}
+use Rattle.std.specs.Prelude.{Option, Some, None}
 use Prim.Native.Nat.{ℕ, ◌+◌, ◌-◌, ◌*◌, ◌^◌, ◌<◌, ◌≤◌}
 use native.Mathlib.Omega.{arith}
 use borrow.Author.Tests.{eqb-true, leb-true, eq-eqb, ne_eqb}
@@ -71,7 +71,7 @@ module _ (iids sids : ℕ) (code : ℕ → ℕ → Option ℕ) (val_length : ℕ
   heard_later = heard (buffers_stage iids sids val_length (length old)) [] (sym (ap is_done d))
 
   pub write_bad :
-      (a m : ℕ) → some (call a m) ≡ first_bad_call iids sids code
+      (a m : ℕ) → Some (call a m) ≡ first_bad_call iids sids code
       → (refused 7 (pos a ∷ pos m ∷ []) ≡ write_answer iids sids code val_length (length old)) × (old ≡ write_buffer iids sids code val_length old)
   unfolding write_answer write_buffer check_call
   write_bad a m e =
@@ -80,7 +80,7 @@ module _ (iids sids : ℕ) (code : ℕ → ℕ → Option ℕ) (val_length : ℕ
       (sym q, sym (old_if_not _ _ old (ap is_done q)))
 
   pub write_done :
-      none ≡ first_bad_call iids sids code → (out : List ℕ) → out ≡ bed_file iids sids (λ a m. or_zero (code a m))
+      None ≡ first_bad_call iids sids code → (out : List ℕ) → out ≡ bed_file iids sids (λ a m. or_zero (code a m))
       → (done [] ≡ write_answer iids sids code val_length (length old)) × (out ≡ write_buffer iids sids code val_length old)
   unfolding write_answer write_buffer check_call
   write_done e out o =
@@ -103,7 +103,7 @@ write_refused iids sids code val_length old a e n =
 -- ---- the code of a value of a matrix is a code
 pub value_coded :
     (w : Width) (flag : Bool) (missing : w.Value) (order : Bool) (iids sids : ℕ) (val : List w.Value) (a m c : ℕ)
-    → value_code w flag missing order iids sids val a m ≡ some c → c < 4
+    → value_code w flag missing order iids sids val a m ≡ Some c → c < 4
 unfolding value_code
 value_coded w flag missing order iids sids val a m c e = place_coded w flag missing val (matrix_place order iids sids a m) c e
 

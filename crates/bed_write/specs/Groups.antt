@@ -1,11 +1,11 @@
 -- A group of four values, whose codes share a byte.
 use Rattle.std.specs.Prelude.{◌≡◌, cond, ℕ, ltb}
-use Rattle.std.proofs.Math.Option.{Option, some, none}
+use Rattle.std.specs.Prelude.{Option, Some, None}
 
 -- a code, and 4 where there is none
 unfoldable pub or_four : Option ℕ → ℕ
-or_four (some code) = code
-or_four none = 4
+or_four (Some code) = code
+or_four None = 4
 
 -- what place k of a group of four holds that has `left` values: past them a pad
 unfoldable pub in_group : ℕ → (ℕ → ℕ) → ℕ → ℕ

@@ -1,6 +1,6 @@
 -- What only private functions speak in.
 use Rattle.std.specs.Prelude.{◌≡◌, Bool, cond, List, ℕ, ◌+◌, ◌*◌, ◌<◌, ltb, ℤ, pos, negsuc, get_or}
-use Rattle.std.proofs.Math.Option.{Option, some, none}
+use Rattle.std.specs.Prelude.{Option, Some, None}
 use Rattle.std.specs.Int.Signed.{mag}
 use Rattle.codes.specs.Code.{packed_byte}
 use Rattle.answer.specs.Lists.{tabulate}
@@ -27,7 +27,7 @@ by_table table vals k = get_or table (byte_index (get_or vals k (pos 0))) 0
 
 -- a number that is no code, and this is found
 unfoldable pub if_over : {A : Type 0} → ℕ → A → Option A
-if_over number place = cond (ltb number 4) none (some place)
+if_over number place = cond (ltb number 4) None (Some place)
 
 -- the first marker, and in it the first animal, whose number is no code
 unfoldable pub first_over : ℕ → ℕ → (ℕ → ℕ → ℕ) → Option (ℕ × ℕ)
@@ -70,8 +70,8 @@ GoodFour w flag val start stride left c0 c1 c2 c3 =
 -- ---- a matrix, by the number of the value at each place
 -- the animal and the marker that were found, if any
 abbrev pub bad_says : BadCall → Option (ℕ × ℕ)
-bad_says (bads.At animal marker) = some (animal.0, marker.0)
-bad_says bads.Nothing = none
+bad_says (bads.At animal marker) = Some (animal.0, marker.0)
+bad_says bads.Nothing = None
 
 -- the first bad call of a matrix of values
 abbrev pub Finds : (w : Width) → Bool → w.Value → Bool → ℕ → ℕ → List w.Value → Option (ℕ × ℕ) → Type 0
@@ -79,7 +79,7 @@ Finds w flag missing order iids sids val found = found ≡ first_bad_call iids s
 
 -- there is a value for each call, and none is bad
 abbrev pub GoodMatrix : (ℕ → ℕ) → Bool → ℕ → ℕ → ℕ → Type 0
-GoodMatrix number order iids sids len = (iids * sids ≡ len) × (first_over iids sids (placed number order iids sids) ≡ none)
+GoodMatrix number order iids sids len = (iids * sids ≡ len) × (first_over iids sids (placed number order iids sids) ≡ None)
 
 -- byte b of the packed block of marker m
 abbrev pub block_byte : (ℕ → ℕ) → Bool → ℕ → ℕ → ℕ → ℕ → ℕ

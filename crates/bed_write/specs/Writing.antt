@@ -1,6 +1,6 @@
 -- Writing a whole file.
 use Rattle.std.specs.Prelude.{◌≡◌, Bool, List, [], ◌∷◌, ◌++◌, ℕ, zero, suc, ◌*◌, eqb, pos, length}
-use Rattle.std.proofs.Math.Option.{Option, some, none}
+use Rattle.std.specs.Prelude.{Option, Some, None}
 use Rattle.answer.specs.Answer.{Answer, done, refused, check, check_count, if_done}
 use Rattle.blocks.specs.Block.{file_length, check_size}
 use Rattle.codes.specs.Code.{packed}
@@ -20,8 +20,8 @@ first_bad_call iids sids code = first_of sids (λ m. first_of iids (λ a. if_bad
 
 -- 7: "carries the first one's animal, in the whole-file writer its marker too"
 unfoldable pub check_call : Option (ℕ × ℕ) → Answer → Answer
-check_call none later = later
-check_call (some (animal, marker)) later = refused 7 (pos animal ∷ pos marker ∷ [])
+check_call None later = later
+check_call (Some (animal, marker)) later = refused 7 (pos animal ∷ pos marker ∷ [])
 
 -- "18, 4, 15, 16", of counts and of how long the buffers are. 15: "value buffer is not the product of .. the two counts";
 -- 16: "packed buffer has the wrong length"

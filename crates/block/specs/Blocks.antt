@@ -1,7 +1,7 @@
 -- "One marker's block travels as its bytes together with its animal count.": what its functions answer and leave. Throughout, `bytes` and
 -- `iids` are a block's bytes and its animal count.
 use Rattle.std.specs.Prelude.{◌≡◌, Bool, List, [], ◌∷◌, ℕ, eqb, pos, length}
-use Rattle.std.proofs.Math.Option.{Option}
+use Rattle.std.specs.Prelude.{Option}
 use Rattle.answer.specs.Answer.{Answer, done, check, check_count, check_entry, if_done}
 use Rattle.blocks.specs.Block.{block_width}
 use Rattle.codes.specs.Code.{item_code}

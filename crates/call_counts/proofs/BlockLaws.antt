@@ -2,7 +2,7 @@
 use mathlib.Core.Path.{◌≡◌, sym, ap, subst, ◌∙◌}
 use mathlib.Core.Bool.{Bool, true, false}
 use mathlib.Core.List.{List}
-use mathlib.Core.Option.{none}
+use Rattle.std.specs.Prelude.{None}
 use Prim.Native.Nat.{ℕ, suc, ◌+◌, ◌-◌, ◌*◌, ◌/◌, ◌%◌, ◌^◌, ◌<◌, ◌≤◌}
 use native.Mathlib.Omega.{arith}
 use lib.IntN.{ℤ, pos}
@@ -74,7 +74,7 @@ module _ (file : List ℕ) (start : ℕ) where
         omega (arith, m, g)
 
 -- ---- entries in file order, in mode 1: n of them from `from` on are items of the marker's block
-module _ (file : List ℕ) (shape : Shape) (sh : Shaped file shape) (il : List ℤ) (gi : first_bad shape.iids il ≡ none) (mode : shape.mode1 ≡ true)
+module _ (file : List ℕ) (shape : Shape) (sh : Shaped file shape) (il : List ℤ) (gi : first_bad shape.iids il ≡ None) (mode : shape.mode1 ≡ true)
     (order : InOrder shape.iids il (length il)) (m from n start : ℕ) (hm : m < shape.sids) (l : from + n ≤ length il) (whole : from % 4 ≡ 0)
     (fits : length file < 2 ^ 64) (em : start ≡ in_word (part_byte (is_block shape.mode1 false) shape.width m)) (small : m < 2 ^ 64) where
   width_is : shape.width ≡ block_width shape.iids

@@ -2,7 +2,7 @@
 use mathlib.Core.Path.{◌≡◌, sym, ap, subst, ◌∙◌}
 use mathlib.Core.Bool.{Bool, true, false}
 use mathlib.Core.List.{List, []}
-use mathlib.Core.Option.{none}
+use Rattle.std.specs.Prelude.{None}
 use Prim.Native.Nat.{ℕ, ◌*◌, ◌<◌, ◌≤◌}
 use borrow.Author.Tests.{eqb-true}
 use lib.Dec.{eqb}
@@ -63,8 +63,8 @@ module _ (file : List ℕ) (iids sids : ℕ) (il sl : List ℤ) (size : ℕ) whe
 pub record Countable (file : List ℕ) (iids sids : ℕ) (il sl : List ℤ) (size : ℕ) : Type 0 where
   pub size_is : 4 * length sl ≡ size
   pub length_is : length file ≡ file_length (items (is_mode1 file) iids sids) (blocks (is_mode1 file) iids sids)
-  pub iids_good : first_bad iids il ≡ none
-  pub sids_good : first_bad sids sl ≡ none
+  pub iids_good : first_bad iids il ≡ None
+  pub sids_good : first_bad sids sl ≡ None
 
 pub countable :
     (file : List ℕ) (iids sids : ℕ) (il sl : List ℤ) (size : ℕ) → is_done (counts_answer file iids sids il sl size) ≡ true

@@ -2,7 +2,7 @@
 use mathlib.Core.Path.{◌≡◌, sym, ap, subst, ◌∙◌}
 use mathlib.Core.Bool.{Bool, true, false, cond}
 use mathlib.Core.List.{List}
-use mathlib.Core.Option.{none}
+use Rattle.std.specs.Prelude.{None}
 use Prim.Native.Nat.{ℕ, ◌+◌, ◌-◌, ◌*◌, ◌/◌, ◌%◌, ◌^◌, ◌<◌, ◌≤◌}
 use native.Mathlib.Omega.{arith}
 use lib.IntN.{ℤ, pos}
@@ -55,7 +55,7 @@ one_adds true x y = omega arith
 one_adds false x y = omega arith
 
 -- ---- resolved entries at the marker m
-module _ (file : List ℕ) (shape : Shape) (sh : Shaped file shape) (fits : length file < 2 ^ 64) (il : List ℤ) (gi : first_bad shape.iids il ≡ none)
+module _ (file : List ℕ) (shape : Shape) (sh : Shaped file shape) (fits : length file < 2 ^ 64) (il : List ℤ) (gi : first_bad shape.iids il ≡ None)
     (m from n : ℕ) (hm : m < shape.sids) (small : m < 2 ^ 64) (few : shape.iids < 2 ^ 64) (l : from + n ≤ length il) (part : Part)
     (pm : IsPart (is_block shape.mode1 false) shape.width m part) (bytes places : List ℕ) where
   module _ (r : EntryParts shape il from n bytes places) where

@@ -1,6 +1,6 @@
 -- What only private functions speak in.
 use Rattle.std.specs.Prelude.{◌≡◌, true, List, [], ◌∷◌, ℕ, zero, suc, ◌+◌, ◌*◌, ◌/◌, ◌%◌, ◌<◌, ◌≤◌, ℤ, pos, length, get_or}
-use Rattle.std.proofs.Math.Option.{none}
+use Rattle.std.specs.Prelude.{None}
 use Rattle.answer.specs.Lists.{tabulate, how_many}
 use Rattle.entries.specs.Entry.{first_bad, means}
 use Rattle.codes.specs.Code.{copies, code_at}
@@ -12,8 +12,8 @@ use Rattle.call_counts.specs.Counts.{same_copies, code_named, counted}
 -- an accepted file, and both lists are good
 pub record Ready (file : List ℕ) (shape : Shape) (iid_list sid_list : List ℤ) : Type 0 where
   pub shaped : Shaped file shape
-  pub iids_good : first_bad shape.iids iid_list ≡ none
-  pub sids_good : first_bad shape.sids sid_list ≡ none
+  pub iids_good : first_bad shape.iids iid_list ≡ None
+  pub sids_good : first_bad shape.sids sid_list ≡ None
 
 -- the first n entries of a list mean 0, 1, 2 and so on
 abbrev pub InOrder : ℕ → List ℤ → ℕ → Type 0

@@ -1,6 +1,6 @@
 -- Values: what a code stands for at a width of values, and the code of a value.
 use Rattle.std.specs.Prelude.{Bool, true, false, not, ◌&&◌, ◌||◌, cond, List, [], ◌∷◌, ℕ, ℤ, pos, negsuc, eqb, get_or, Float}
-use Rattle.std.proofs.Math.Option.{Option, some, none}
+use Rattle.std.specs.Prelude.{Option, Some, None}
 use Rattle.std.specs.Float.{fin}
 use Rattle.std.specs.Float.Ieee.{eq}
 
@@ -45,7 +45,7 @@ value_of w flag missing code = get_or (values w flag missing) code missing
 unfoldable pub code_of : (w : Width) → Bool → w.Value → w.Value → Option ℕ
 unfolding same_or_nan
 code_of w flag missing v =
-    cond (w.same v w.zero) (some (cond flag 3 0))
-    (cond (w.same v w.one) (some 2)
-    (cond (w.same v w.two) (some (cond flag 0 3))
-    (cond (same_or_nan w v missing) (some 1) none)))
+    cond (w.same v w.zero) (Some (cond flag 3 0))
+    (cond (w.same v w.one) (Some 2)
+    (cond (w.same v w.two) (Some (cond flag 0 3))
+    (cond (same_or_nan w v missing) (Some 1) None)))

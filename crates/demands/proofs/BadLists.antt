@@ -3,7 +3,7 @@
 use mathlib.Core.Path.{◌≡◌, refl, sym, ap, subst, ◌∙◌}
 use mathlib.Core.Bool.{Bool, true, false, cond}
 use mathlib.Core.List.{List, [], ◌∷◌}
-use mathlib.Core.Option.{Option, some, none}
+use Rattle.std.specs.Prelude.{Option, Some, None}
 use Prim.Native.Nat.{ℕ, zero, suc, ◌*◌, ◌<◌, ◌≤◌}
 use native.Mathlib.Omega.{arith}
 use borrow.Author.Tests.{eq-eqb}
@@ -33,15 +33,15 @@ good_from count e es n g h (suc k) l = h k (omega arith)
 
 -- what is in an option that holds something
 held : ℤ → Option ℤ → ℤ
-held d none = d
-held d (some e) = e
+held d None = d
+held d (Some e) = e
 
-first_bad_at : (count : ℕ) (list : List ℤ) (e : ℤ) → first_bad count list ≡ some e → CarriesFirstBad count list (e ∷ [])
+first_bad_at : (count : ℕ) (list : List ℤ) (e : ℤ) → first_bad count list ≡ Some e → CarriesFirstBad count list (e ∷ [])
 unfolding first_bad held
 first_bad_at count [] e q = absurd (let r : ◌≡◌ {A = ℕ} 0 1 = cc in omega arith)
 first_bad_at count (x ∷ xs) e q = go (is_good count x) refl (first_bad_at count xs e) q
   where
-    go : (b : Bool) → is_good count x ≡ b → (first_bad count xs ≡ some e → CarriesFirstBad count xs (e ∷ [])) → cond b (first_bad count xs) (some x) ≡ some e
+    go : (b : Bool) → is_good count x ≡ b → (first_bad count xs ≡ Some e → CarriesFirstBad count xs (e ∷ [])) → cond b (first_bad count xs) (Some x) ≡ Some e
         → CarriesFirstBad count (x ∷ xs) (e ∷ [])
     go true g rest q =
         let r = rest q in
@@ -72,8 +72,8 @@ unfolding check_entry carried
 entry_own count list n later vs o e = go (first_bad count list) refl e
   where
     go : (b : Option ℤ) → first_bad count list ≡ b → check_entry b n later ≡ refused n vs → CarriesFirstBad count list vs
-    go none q e = absurd (o e)
-    go (some z) q e = subst (CarriesFirstBad count list) (ap carried e) (first_bad_at count list z q)
+    go None q e = absurd (o e)
+    go (Some z) q e = subst (CarriesFirstBad count list) (ap carried e) (first_bad_at count list z q)
 
 -- refused by 13 or more, if at all
 abbrev High : Answer → Type 0
@@ -158,11 +158,11 @@ module _ (file : List ℕ) (iids sids : ℕ) (acc : IsAccepted file iids sids) (
         read_accepted file iids sids iid_list sid_list val_length (ap is_done acc)
         ∙ check_passes (eqb (length iid_list * length sid_list) val_length) 15 _ (eq-eqb (length iid_list * length sid_list) val_length for_15)
 
-    pub bad_animal : first_bad iids iid_list ≡ some e → read_answer file iids sids iid_list sid_list val_length ≡ refused 5 (e ∷ [])
+    pub bad_animal : first_bad iids iid_list ≡ Some e → read_answer file iids sids iid_list sid_list val_length ≡ refused 5 (e ∷ [])
     unfolding check_lists
     bad_animal b = read_left ∙ entry_refuses (first_bad iids iid_list) 5 _ e b
 
-    pub bad_marker : GoodList iids iid_list → first_bad sids sid_list ≡ some e → read_answer file iids sids iid_list sid_list val_length ≡ refused 6 (e ∷ [])
+    pub bad_marker : GoodList iids iid_list → first_bad sids sid_list ≡ Some e → read_answer file iids sids iid_list sid_list val_length ≡ refused 6 (e ∷ [])
     unfolding check_lists
     bad_marker g b = read_left ∙ entry_passes (first_bad iids iid_list) 5 _ g ∙ entry_refuses (first_bad sids sid_list) 6 _ e b
 
@@ -174,10 +174,10 @@ module _ (file : List ℕ) (iids sids : ℕ) (acc : IsAccepted file iids sids) (
         ∙ check_passes (eqb (length iid_list * length sid_list) (length val)) 15 _ (eq-eqb (length iid_list * length sid_list) (length val) len.for_15)
         ∙ check_passes (eqb (stats_per_marker * length sid_list) (length stats)) 17 _ (eq-eqb (stats_per_marker * length sid_list) (length stats) len.for_17)
 
-    pub joined_bad_animal : first_bad iids iid_list ≡ some e → joined_answer f file iids sids flag iid_list sid_list order val stats ≡ refused 5 (e ∷ [])
+    pub joined_bad_animal : first_bad iids iid_list ≡ Some e → joined_answer f file iids sids flag iid_list sid_list order val stats ≡ refused 5 (e ∷ [])
     unfolding joined_answer check_lists
     joined_bad_animal b = joined_left _ ∙ entry_refuses (first_bad iids iid_list) 5 _ e b
 
-    pub joined_bad_marker : GoodList iids iid_list → first_bad sids sid_list ≡ some e → joined_answer f file iids sids flag iid_list sid_list order val stats ≡ refused 6 (e ∷ [])
+    pub joined_bad_marker : GoodList iids iid_list → first_bad sids sid_list ≡ Some e → joined_answer f file iids sids flag iid_list sid_list order val stats ≡ refused 6 (e ∷ [])
     unfolding joined_answer check_lists
     joined_bad_marker g b = joined_left _ ∙ entry_passes (first_bad iids iid_list) 5 _ g ∙ entry_refuses (first_bad sids sid_list) 6 _ e b

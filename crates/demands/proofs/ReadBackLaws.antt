@@ -2,7 +2,7 @@
 use mathlib.Core.Path.{◌≡◌, sym, ap, ◌∙◌}
 use mathlib.Core.Bool.{Bool, true}
 use mathlib.Core.List.{List, []}
-use mathlib.Core.Option.{none}
+use Rattle.std.specs.Prelude.{None}
 use Prim.Native.Nat.{ℕ, ◌*◌, ◌<◌}
 use native.Mathlib.Omega.{arith}
 use borrow.Author.Tests.{lt-ltb}
@@ -28,7 +28,7 @@ order_at : (n k : ℕ) → k < n → get_or (file_order n) k (pos 0) ≡ pos k
 unfolding file_order
 order_at n k h = get_d_tabulate n pos k (pos 0) h
 
-pub order_good : (n : ℕ) → first_bad n (file_order n) ≡ none
+pub order_good : (n : ℕ) → first_bad n (file_order n) ≡ None
 unfolding is_good
 order_good n =
     none_bad n (file_order n)

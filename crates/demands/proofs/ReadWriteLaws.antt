@@ -2,7 +2,7 @@
 use mathlib.Core.Path.{◌≡◌, sym, ap, ◌∙◌}
 use mathlib.Core.Bool.{Bool, true}
 use mathlib.Core.List.{List, []}
-use mathlib.Core.Option.{some}
+use Rattle.std.specs.Prelude.{Some}
 use Prim.Native.Nat.{ℕ, ◌-◌, ◌^◌, ◌<◌, ◌≤◌}
 use lib.IntN.{ℤ}
 use lib.ListN.{length, get_or}
@@ -27,7 +27,7 @@ module _ (w : Width) (numbers : Numbers w) (flag : Bool) (missing : w.Value) (ot
   is_read : read ≡ values_read w flag missing order file iids sids il sl
   is_read = buffer_values w file iids sids flag il sl missing order val d
 
-  code_back : (k m : ℕ) → k < n → m < s → value_code w flag missing order n s read k m ≡ some (read_code file iids sids il sl k m)
+  code_back : (k m : ℕ) → k < n → m < s → value_code w flag missing order n s read k m ≡ Some (read_code file iids sids il sl k m)
   unfolding value_code place_code
   code_back k m hk hm =
       ap (λ (l : List w.Value). code_of w flag missing (get_or l (matrix_place order n s k m) missing)) is_read

@@ -3,7 +3,7 @@ ghost use Rattle.std.specs.Prelude.{◌≡◌, length};
 ghost use Rattle.codes.specs.Value.{i8};
 ghost use Rattle.bed_write.specs.Packing.{place_code, packed_codes, first_bad_animal, Encodes};
 ghost use Rattle.blocks.specs.Block.{block_width};
-ghost use Rattle.std.proofs.Math.Option.{none};
+ghost use Rattle.std.specs.Prelude.{None};
 ghost use Rattle.bed_write.specs.Says.{encode_says};
 
 use super::EncodeAnswer;
@@ -13,7 +13,7 @@ use crate::search::{BadCall, search_i8};
 // Packs one marker's values, none of which is bad: the groups of four that are full, then the one that is not.
 pub(crate) fn pack_i8(column: &[i8], is_a1_counted: bool, missing: i8, out: &mut [u8])
     requires { (length out.old ≡ block_width (length column.now))
-        × (first_bad_animal (length column.now) (place_code i8 is_a1_counted missing column.now) ≡ none) }
+        × (first_bad_animal (length column.now) (place_code i8 is_a1_counted missing column.now) ≡ None) }
     ensures { out.new ≡ packed_codes (length column.now) (place_code i8 is_a1_counted missing column.now) }
 {
     let full = column.len() / 4;

@@ -1,6 +1,6 @@
 use mathlib.Core.Path.{◌≡◌, sym, ◌∙◌}
 use mathlib.Core.List.{List}
-use mathlib.Core.Option.{none}
+use Rattle.std.specs.Prelude.{None}
 use Prim.Native.Nat.{ℕ}
 use native.Mathlib.Omega.{arith}
 use lib.ListN.{length, length-set}
@@ -16,9 +16,9 @@ use Rattle.bed_write.proofs.encode.encode_i8.pack_i8.Goals as goal
 
 -- no value is bad, with `missing` as the machine holds it
 none_bad :
-    (flag : Bool) (missing : ℤ) (column : List ℤ) → SFits w8 missing → first_bad_animal (length column) (place_code i8 flag missing column) ≡ none
-    → first_bad_animal (length column) (place_code i8 flag (held missing) column) ≡ none
-none_bad flag missing column f = as_held missing f (λ m. first_bad_animal (length column) (place_code i8 flag m column) ≡ none)
+    (flag : Bool) (missing : ℤ) (column : List ℤ) → SFits w8 missing → first_bad_animal (length column) (place_code i8 flag missing column) ≡ None
+    → first_bad_animal (length column) (place_code i8 flag (held missing) column) ≡ None
+none_bad flag missing column f = as_held missing f (λ m. first_bad_animal (length column) (place_code i8 flag m column) ≡ None)
 
 given :
     (flag : Bool) (missing : ℤ) (column : List ℤ) (out : List ℕ) → SFits w8 missing → out ≡ packed_codes (length column) (place_code i8 flag (held missing) column)
