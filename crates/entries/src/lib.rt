@@ -136,11 +136,11 @@ pub fn byte_span(count: usize, list: &[i64]) -> Result<(usize, usize), SpanError
         return Err(SpanError::CountTooLarge);
     }
     let mut sofar = None;
-    for &entry in list {
-        if !is_good(count, entry) {
-            return Err(SpanError::IidIndexTooBig(entry));
+    for &next in list {
+        if !is_good(count, next) {
+            return Err(SpanError::IidIndexTooBig(next));
         }
-        sofar = widened(count, sofar, entry);
+        sofar = widened(count, sofar, next);
     }
     match sofar {
         None => Ok((0, 0)),

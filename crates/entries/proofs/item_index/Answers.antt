@@ -1,6 +1,5 @@
 -- `item_index` is `entry_answer`.
-use Rattle.std.proofs.Common.{sym, ap, ◌∙◌}
-use Rattle.answer.specs.Answer.{done, refused}
+use Rattle.std.proofs.Common.{◌∙◌}
 use Rattle.entries.proofs.EntryLaws.{entry_good, entry_bad}
 use Rattle.entries.proofs.item_index.Goals as goal
 
