@@ -46,7 +46,7 @@ map_codes f g e false file iids sids il sl =
 
 -- the values of the codes, by the list of the four values
 values_read_law :
-    (w : Width) (flag : Bool) (missing d : w.Value) (order : Bool) (file : List ℕ) (iids sids : ℕ) (il sl : List ℤ)
+    {V : Type 0} (w : Width V) (flag : Bool) (missing d : V) (order : Bool) (file : List ℕ) (iids sids : ℕ) (il sl : List ℤ)
     → map (λ code. get_or (values w flag missing) code d) (codes_read order file iids sids il sl) ≡ values_read w flag missing order file iids sids il sl
 unfolding values_read value_of
 values_read_law w flag missing d order file iids sids il sl =
@@ -55,11 +55,11 @@ values_read_law w flag missing d order file iids sids il sl =
     order file iids sids il sl
 
 -- ---- what is read by lists of n and s entries
-module _ (w : Width) (flag : Bool) (missing : w.Value) (order : Bool) (file : List ℕ) (iids sids : ℕ) (il sl : List ℤ) (n s : ℕ) (li : length il ≡ n) (ls : length sl ≡ s) where
-  abbrev read : List w.Value
+module _ {V : Type 0} (w : Width V) (flag : Bool) (missing : V) (order : Bool) (file : List ℕ) (iids sids : ℕ) (il sl : List ℤ) (n s : ℕ) (li : length il ≡ n) (ls : length sl ≡ s) where
+  abbrev read : List V
   read = values_read w flag missing order file iids sids il sl
 
-  abbrev cell : ℕ → ℕ → w.Value
+  abbrev cell : ℕ → ℕ → V
   cell k m = value_of w flag missing (read_code file iids sids il sl k m)
 
   -- is the matrix of the values of the codes
@@ -74,12 +74,12 @@ module _ (w : Width) (flag : Bool) (missing : w.Value) (order : Bool) (file : Li
   read_length = ap length read_matrix ∙ length_matrix order n s cell
 
   -- with the value of each code at its place
-  pub read_cell : (d : w.Value) (k m : ℕ) → k < n → m < s → get_or read (matrix_place order n s k m) d ≡ cell k m
-  read_cell d k m hk hm = ap (λ (l : List w.Value). get_or l (matrix_place order n s k m) d) read_matrix ∙ get_d_matrix n s k m hk hm order cell d
+  pub read_cell : (d : V) (k m : ℕ) → k < n → m < s → get_or read (matrix_place order n s k m) d ≡ cell k m
+  read_cell d k m hk hm = ap (λ (l : List V). get_or l (matrix_place order n s k m) d) read_matrix ∙ get_d_matrix n s k m hk hm order cell d
 
 -- and it is left where reading is done
 pub buffer_values :
-    (w : Width) (file : List ℕ) (iids sids : ℕ) (flag : Bool) (il sl : List ℤ) (missing : w.Value) (order : Bool) (old : List w.Value)
+    {V : Type 0} (w : Width V) (file : List ℕ) (iids sids : ℕ) (flag : Bool) (il sl : List ℤ) (missing : V) (order : Bool) (old : List V)
     → is_done (read_answer file iids sids il sl (length old)) ≡ true → read_buffer w file iids sids flag il sl missing order old ≡ values_read w flag missing order file iids sids il sl
 unfolding read_buffer
 buffer_values w file iids sids flag il sl missing order old d = new_if_done (read_answer file iids sids il sl (length old)) _ old d
@@ -96,7 +96,7 @@ module _ (file : List ℕ) (iids sids : ℕ) (il sl : List ℤ) (n : ℕ) (r : R
 
   -- the buffer where reading is done
   pub buffer_read :
-      (W : Width) (flag : Bool) (missing d : W.Value) (order : Bool) (old new table : List W.Value)
+      {V : Type 0} (W : Width V) (flag : Bool) (missing d : V) (order : Bool) (old new table : List V)
       → is_done (read_answer file iids sids il sl (length old)) ≡ true → table ≡ map (λ code. get_or (values W flag missing) code d) code_table
       → new ≡ map (value_in table d) (codes_read order file shape.iids shape.sids il sl)
       → new ≡ read_buffer W file iids sids flag il sl missing order old
@@ -110,7 +110,7 @@ module _ (file : List ℕ) (iids sids : ℕ) (il sl : List ℤ) (n : ℕ) (r : R
 
 -- and where it is refused
 pub buffer_kept :
-    (W : Width) (file : List ℕ) (iids sids : ℕ) (flag : Bool) (il sl : List ℤ) (missing : W.Value) (order : Bool) (old : List W.Value)
+    {V : Type 0} (W : Width V) (file : List ℕ) (iids sids : ℕ) (flag : Bool) (il sl : List ℤ) (missing : V) (order : Bool) (old : List V)
     → is_done (read_answer file iids sids il sl (length old)) ≡ false → old ≡ read_buffer W file iids sids flag il sl missing order old
 unfolding read_buffer
 buffer_kept W file iids sids flag il sl missing order old d = sym (old_if_not (read_answer file iids sids il sl (length old)) (values_read W flag missing order file iids sids il sl) old d)

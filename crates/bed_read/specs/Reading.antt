@@ -45,20 +45,20 @@ codes_read animal_order file iids sids iid_list sid_list =
     matrix animal_order (length iid_list) (length sid_list) (read_code file iids sids iid_list sid_list)
 
 -- the matrix read: the value of each code
-unfoldable pub values_read : (w : Width) → Bool → w.Value → Bool → List ℕ → ℕ → ℕ → List ℤ → List ℤ → List w.Value
+unfoldable pub values_read : {V : Type 0} (w : Width V) → Bool → V → Bool → List ℕ → ℕ → ℕ → List ℤ → List ℤ → List V
 values_read w flag missing animal_order file iids sids iid_list sid_list =
     map (value_of w flag missing) (codes_read animal_order file iids sids iid_list sid_list)
 
 -- the later value buffer
 unfoldable pub read_buffer :
-    (w : Width) → List ℕ → ℕ → ℕ → Bool → List ℤ → List ℤ → w.Value → Bool → List w.Value → List w.Value
+    {V : Type 0} (w : Width V) → List ℕ → ℕ → ℕ → Bool → List ℤ → List ℤ → V → Bool → List V → List V
 read_buffer w file iids sids flag iid_list sid_list missing animal_order old =
     if_done (read_answer file iids sids iid_list sid_list (length old))
     (values_read w flag missing animal_order file iids sids iid_list sid_list) old
 
 -- reading into a lent buffer: what it answers, and the later values
 abbrev pub Reads :
-    (w : Width) → List ℕ → ℕ → ℕ → Bool → List ℤ → List ℤ → w.Value → Bool → Answer → List w.Value → List w.Value → Type 0
+    {V : Type 0} (w : Width V) → List ℕ → ℕ → ℕ → Bool → List ℤ → List ℤ → V → Bool → Answer → List V → List V → Type 0
 Reads w file iids sids flag iid_list sid_list missing animal_order said old new =
     (said ≡ read_answer file iids sids iid_list sid_list (length old))
     × (new ≡ read_buffer w file iids sids flag iid_list sid_list missing animal_order old)

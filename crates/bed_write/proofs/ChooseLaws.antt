@@ -43,7 +43,7 @@ by_tests_law flag false false false false false true = refl
 by_tests_law flag false false false false false false = refl
 
 pub code_chosen :
-    (w : Width) (flag : Bool) (missing v : w.Value) (zer two r absent number nan one : ℕ)
+    {V : Type 0} (w : Width V) (flag : Bool) (missing v : V) (zer two r absent number nan one : ℕ)
     → zer ≡ cond flag 3 0 → two ≡ cond flag 0 3
     → nan ≡ cond (w.same missing missing) 4 1 → number ≡ cond (w.same v v) 4 nan → absent ≡ cond (w.same v missing) 1 number
     → (t : ℕ) → t ≡ cond (w.same v w.two) two absent → one ≡ cond (w.same v w.one) 2 t → r ≡ cond (w.same v w.zero) zer one
@@ -72,10 +72,10 @@ by_tests_good flag false false false true h = refl
 by_tests_good flag false false false false h = absurd (omega arith)
 
 pub good_chosen :
-    (w : Width) (flag : Bool) (v : w.Value) (zer two r t one : ℕ)
+    {V : Type 0} (w : Width V) (flag : Bool) (v : V) (zer two r t one : ℕ)
     → zer ≡ cond flag 3 0 → two ≡ cond flag 0 3
     → t ≡ cond (w.same v w.two) two 1 → one ≡ cond (w.same v w.one) 2 t → r ≡ cond (w.same v w.zero) zer one
-    → (missing : w.Value) → or_four (code_of w flag missing v) < 4 → r ≡ or_four (code_of w flag missing v)
+    → (missing : V) → or_four (code_of w flag missing v) < 4 → r ≡ or_four (code_of w flag missing v)
 unfolding code_of same_or_nan
 good_chosen w flag v zer two r t one e0 e2 et eo er missing h =
     er

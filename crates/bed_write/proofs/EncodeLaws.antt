@@ -73,7 +73,7 @@ module _ (n : ℕ) (code : ℕ → Option ℕ) where
       get_d_tabulate (block_width (length codes)) (packed_byte codes) b 0 (subst (λ (x : ℕ). b < block_width x) (sym l) h)
 
 -- ---- a column without bad values, a group at a time
-module _ (w : Width) (flag : Bool) (missing : w.Value) (vals : List w.Value) (good : first_bad_animal (length vals) (place_code w flag missing vals) ≡ None) where
+module _ {V : Type 0} (w : Width V) (flag : Bool) (missing : V) (vals : List V) (good : first_bad_animal (length vals) (place_code w flag missing vals) ≡ None) where
   pub value_good : (k : ℕ) → k < length vals → or_four (place_code w flag missing vals k) < 4
   unfolding first_bad_animal
   value_good k h =

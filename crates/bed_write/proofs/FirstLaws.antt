@@ -93,7 +93,7 @@ Coded code = (k c : ℕ) → code k ≡ Some c → c < 4
 some_below : (k c : ℕ) → k < 4 → ◌≡◌ {A = Option ℕ} (Some k) (Some c) → c < 4
 some_below k c h e = let q : k ≡ c = cc in omega arith
 
-pub code_small : (w : Width) (flag : Bool) (missing v : w.Value) (c : ℕ) → code_of w flag missing v ≡ Some c → c < 4
+pub code_small : {V : Type 0} (w : Width V) (flag : Bool) (missing v : V) (c : ℕ) → code_of w flag missing v ≡ Some c → c < 4
 unfolding code_of
 code_small w flag missing v c e = by_tests_law flag (w.same v w.zero) (w.same v w.one) (w.same v w.two) (same_or_nan w v missing) c e
   where
@@ -108,13 +108,13 @@ code_small w flag missing v c e = by_tests_law flag (w.same v w.zero) (w.same v 
     by_tests_law flag false false false true c e = some_below 1 c (omega arith) e
     by_tests_law flag false false false false c e = absurd (let q : ◌≡◌ {A = ℕ} 0 1 = cc in omega arith)
 
-pub place_coded : (w : Width) (flag : Bool) (missing : w.Value) (vals : List w.Value) → Coded (place_code w flag missing vals)
+pub place_coded : {V : Type 0} (w : Width V) (flag : Bool) (missing : V) (vals : List V) → Coded (place_code w flag missing vals)
 unfolding place_code
 place_coded w flag missing vals k c e = code_small w flag missing (get_or vals k missing) c e
 
 -- a code that is read, of a value that has one
 pub good_read :
-    (w : Width) (flag : Bool) (missing : w.Value) (vals : List w.Value) (k : ℕ) (d : w.Value) (r : ℕ) → k < length vals
+    {V : Type 0} (w : Width V) (flag : Bool) (missing : V) (vals : List V) (k : ℕ) (d : V) (r : ℕ) → k < length vals
     → or_four (place_code w flag missing vals k) < 4
     → (or_four (code_of w flag missing (get_or vals k d)) < 4 → r ≡ or_four (code_of w flag missing (get_or vals k d)))
     → r ≡ or_four (place_code w flag missing vals k)
@@ -124,6 +124,6 @@ good_read w flag missing vals k d r h g e =
     ap (λ v. or_four (code_of w flag missing v)) (get_d_inside vals k d missing h) in
     e (omega arith) ∙ s
 
-pub code_read : (w : Width) (flag : Bool) (missing : w.Value) (vals : List w.Value) (k : ℕ) (d : w.Value) (r : ℕ) → k < length vals → r ≡ or_four (code_of w flag missing (get_or vals k d)) → r ≡ or_four (place_code w flag missing vals k)
+pub code_read : {V : Type 0} (w : Width V) (flag : Bool) (missing : V) (vals : List V) (k : ℕ) (d : V) (r : ℕ) → k < length vals → r ≡ or_four (code_of w flag missing (get_or vals k d)) → r ≡ or_four (place_code w flag missing vals k)
 unfolding place_code
 code_read w flag missing vals k d r h e = e ∙ ap (λ v. or_four (code_of w flag missing v)) (get_d_inside vals k d missing h)

@@ -48,11 +48,11 @@ unfolding matrix_place
 order_false order iids sids i m e = ap (λ (o : Bool). matrix_place o iids sids i m) (sym e)
 
 -- the number of the value that was read at the place of an animal and a marker
-module _ (w : Width) (flag : Bool) (missing : w.Value) (order : Bool) (iids sids : ℕ) (val : List w.Value) (long : iids * sids ≡ length val) (a m at : ℕ) (ha : a < iids) (hm : m < sids) (e : at ≡ matrix_place order iids sids a m) where
+module _ {V : Type 0} (w : Width V) (flag : Bool) (missing : V) (order : Bool) (iids sids : ℕ) (val : List V) (long : iids * sids ≡ length val) (a m at : ℕ) (ha : a < iids) (hm : m < sids) (e : at ≡ matrix_place order iids sids a m) where
   pub read_inside : at < length val
   read_inside = let p : matrix_place order iids sids a m < iids * sids = place_below iids sids a m ha hm order in omega arith
 
-  pub read_number : (d : w.Value) (r : ℕ) → r ≡ or_four (code_of w flag missing (get_or val at d)) → r ≡ or_four (value_code w flag missing order iids sids val a m)
+  pub read_number : (d : V) (r : ℕ) → r ≡ or_four (code_of w flag missing (get_or val at d)) → r ≡ or_four (value_code w flag missing order iids sids val a m)
   unfolding value_code
   read_number d r f = code_read w flag missing val at d r read_inside f ∙ ap (λ (k : ℕ). or_four (place_code w flag missing val k)) e
 

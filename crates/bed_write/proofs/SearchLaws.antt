@@ -114,7 +114,7 @@ none_counted number i bad n before e z k l =
 
 -- no value at any place is bad
 pub all_good :
-    (w : Width) (flag : Bool) (missing : w.Value) (order : Bool) (iids sids : ℕ) (val : List w.Value) → iids * sids ≡ length val
+    {V : Type 0} (w : Width V) (flag : Bool) (missing : V) (order : Bool) (iids sids : ℕ) (val : List V) → iids * sids ≡ length val
     → ((k : ℕ) → k < length val → or_four (place_code w flag missing val k) < 4) → None ≡ first_bad_call iids sids (value_code w flag missing order iids sids val)
 unfolding value_code
 all_good w flag missing order iids sids val e g =

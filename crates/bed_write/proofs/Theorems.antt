@@ -118,7 +118,7 @@ only_animal (suc n) o x = go (o 0) (only_animal n (λ k. o (suc k)) (λ k. x (su
     go (Some c) later = later
     go None later = refl
 
-pub one_marker_first_bad : (w : Width) (flag : Bool) (missing : w.Value) (order : Bool) (n : ℕ) (val : List w.Value)
+pub one_marker_first_bad : {V : Type 0} (w : Width V) (flag : Bool) (missing : V) (order : Bool) (n : ℕ) (val : List V)
     → animal_of (first_bad_call n 1 (value_code w flag missing order n 1 val)) ≡ first_bad_animal n (place_code w flag missing val)
 unfolding first_bad_call first_bad_animal first_of or_else value_code
 one_marker_first_bad w flag missing order n val =

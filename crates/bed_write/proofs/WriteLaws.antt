@@ -102,7 +102,7 @@ write_refused iids sids code val_length old a e n =
 
 -- ---- the code of a value of a matrix is a code
 pub value_coded :
-    (w : Width) (flag : Bool) (missing : w.Value) (order : Bool) (iids sids : ℕ) (val : List w.Value) (a m c : ℕ)
+    {V : Type 0} (w : Width V) (flag : Bool) (missing : V) (order : Bool) (iids sids : ℕ) (val : List V) (a m c : ℕ)
     → value_code w flag missing order iids sids val a m ≡ Some c → c < 4
 unfolding value_code
 value_coded w flag missing order iids sids val a m c e = place_coded w flag missing val (matrix_place order iids sids a m) c e

@@ -8,7 +8,7 @@ use Rattle.answer.specs.Lists.{tabulate}
 use Rattle.codes.specs.Value.{Width, code_of}
 
 -- the code of the value at a place of a list, if it has one
-unfoldable pub place_code : (w : Width) → Bool → w.Value → List w.Value → ℕ → Option ℕ
+unfoldable pub place_code : {V : Type 0} (w : Width V) → Bool → V → List V → ℕ → Option ℕ
 place_code w flag missing vals k = code_of w flag missing (get_or vals k missing)
 
 -- a code to be packed; a value that has none is never packed
@@ -54,7 +54,7 @@ unfoldable pub encode_buffer : ℕ → (ℕ → Option ℕ) → List ℕ → Lis
 encode_buffer n code old = if_done (encode_answer n code (length old)) (packed_codes n code) old
 
 -- `encode1` of a column of values: what it answers, and the later bytes
-abbrev pub Encodes : (w : Width) → Bool → w.Value → List w.Value → Answer → List ℕ → List ℕ → Type 0
+abbrev pub Encodes : {V : Type 0} (w : Width V) → Bool → V → List V → Answer → List ℕ → List ℕ → Type 0
 Encodes w flag missing column said old new =
     (said ≡ encode_answer (length column) (place_code w flag missing column) (length old))
     × (new ≡ encode_buffer (length column) (place_code w flag missing column) old)

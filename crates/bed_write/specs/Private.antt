@@ -34,7 +34,7 @@ unfoldable pub first_over : ℕ → ℕ → (ℕ → ℕ → ℕ) → Option (�
 first_over iids sids number = first_of sids (λ m. first_of iids (λ a. if_over (number a m) (a, m)))
 
 -- the number of the value at a place of a list, by tests
-abbrev pub by_tests : (w : Width) → Bool → w.Value → List w.Value → ℕ → ℕ
+abbrev pub by_tests : {V : Type 0} (w : Width V) → Bool → V → List V → ℕ → ℕ
 by_tests w flag missing vals k = or_four (place_code w flag missing vals k)
 
 -- the number of animal a at marker m of a matrix, by that of each place
@@ -54,17 +54,17 @@ abbrev pub FourInside : ℕ → ℕ → ℕ → ℕ → Type 0
 FourInside len start stride left = (k : ℕ) → k < left → k < 4 → start + k * stride < len
 
 -- the code of a value, of the value at place k, and of those at four places, if none of them is bad; `missing` is any
-abbrev pub GoodCode : (w : Width) → Bool → w.Value → ℕ → Type 0
-GoodCode w flag v r = (missing : w.Value) → or_four (code_of w flag missing v) < 4 → r ≡ or_four (code_of w flag missing v)
+abbrev pub GoodCode : {V : Type 0} (w : Width V) → Bool → V → ℕ → Type 0
+GoodCode w flag v r = (missing : V) → or_four (code_of w flag missing v) < 4 → r ≡ or_four (code_of w flag missing v)
 
-abbrev pub GoodPlace : (w : Width) → Bool → List w.Value → ℕ → ℕ → ℕ → ℕ → ℕ → Type 0
+abbrev pub GoodPlace : {V : Type 0} (w : Width V) → Bool → List V → ℕ → ℕ → ℕ → ℕ → ℕ → Type 0
 GoodPlace w flag val start stride left k r =
-    (missing : w.Value) → (k < left → strided (by_tests w flag missing val) start stride k < 4)
+    (missing : V) → (k < left → strided (by_tests w flag missing val) start stride k < 4)
     → r ≡ in_group left (strided (by_tests w flag missing val) start stride) k
 
-abbrev pub GoodFour : (w : Width) → Bool → List w.Value → ℕ → ℕ → ℕ → ℕ → ℕ → ℕ → ℕ → Type 0
+abbrev pub GoodFour : {V : Type 0} (w : Width V) → Bool → List V → ℕ → ℕ → ℕ → ℕ → ℕ → ℕ → ℕ → Type 0
 GoodFour w flag val start stride left c0 c1 c2 c3 =
-    (missing : w.Value) → ((k : ℕ) → k < left → k < 4 → strided (by_tests w flag missing val) start stride k < 4)
+    (missing : V) → ((k : ℕ) → k < left → k < 4 → strided (by_tests w flag missing val) start stride k < 4)
     → Four (in_group left (strided (by_tests w flag missing val) start stride)) c0 c1 c2 c3
 
 -- ---- a matrix, by the number of the value at each place
@@ -74,7 +74,7 @@ bad_says (bads.At animal marker) = Some (animal.0, marker.0)
 bad_says bads.Nothing = None
 
 -- the first bad call of a matrix of values
-abbrev pub Finds : (w : Width) → Bool → w.Value → Bool → ℕ → ℕ → List w.Value → Option (ℕ × ℕ) → Type 0
+abbrev pub Finds : {V : Type 0} (w : Width V) → Bool → V → Bool → ℕ → ℕ → List V → Option (ℕ × ℕ) → Type 0
 Finds w flag missing order iids sids val found = found ≡ first_bad_call iids sids (value_code w flag missing order iids sids val)
 
 -- there is a value for each call, and none is bad

@@ -52,20 +52,20 @@ module _ {A : Type 0} (f : ℕ → A) (d : A) (n : ℕ) where
   filled_all out k p h = is_tabulate out n f d p.long (λ j b. p.front j (let l = p.long in omega arith))
 
 -- ---- the later column
-module _ (w : Width) (flag : Bool) (missing : w.Value) (bytes : List ℕ) (iids : ℕ) where
+module _ {V : Type 0} (w : Width V) (flag : Bool) (missing : V) (bytes : List ℕ) (iids : ℕ) where
   -- by the list of the four values, whatever the default
   column_by_values :
-      (d : w.Value) (vs : List w.Value) → vs ≡ values w flag missing
+      (d : V) (vs : List V) → vs ≡ values w flag missing
       → tabulate iids (λ a. get_or vs (item_code bytes a) d) ≡ column_of w flag missing bytes iids
   unfolding column_of value_of
   column_by_values d vs e =
       tabulate_ext iids _ _
-      (λ a h. ap (λ (l : List w.Value). get_or l (item_code bytes a) d) e
+      (λ a h. ap (λ (l : List V). get_or l (item_code bytes a) d) e
       ∙ get_d_inside (values w flag missing) (item_code bytes a) d missing
       (let n = four_values w flag missing in let b = item_below bytes a in omega arith))
 
   pub column_new :
-      (d : w.Value) (vs old new : List w.Value) → vs ≡ values w flag missing
+      (d : V) (vs old new : List V) → vs ≡ values w flag missing
       → is_done (decode_answer (length bytes) iids (length old)) ≡ true → length old ≡ iids
       → new ≡ tabulate (length old) (λ a. get_or vs (item_code bytes a) d) → new ≡ decode_buffer w flag missing bytes iids old
   unfolding decode_buffer
@@ -76,6 +76,6 @@ module _ (w : Width) (flag : Bool) (missing : w.Value) (bytes : List ℕ) (iids 
       ∙ sym (new_if_done (decode_answer (length bytes) iids (length old)) (column_of w flag missing bytes iids) old done)
 
   pub column_kept :
-      (old : List w.Value) → is_done (decode_answer (length bytes) iids (length old)) ≡ false → old ≡ decode_buffer w flag missing bytes iids old
+      (old : List V) → is_done (decode_answer (length bytes) iids (length old)) ≡ false → old ≡ decode_buffer w flag missing bytes iids old
   unfolding decode_buffer
   column_kept old d = sym (old_if_not (decode_answer (length bytes) iids (length old)) (column_of w flag missing bytes iids) old d)

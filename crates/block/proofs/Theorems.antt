@@ -66,8 +66,8 @@ module _ (iids : ℕ) (code : ℕ → Option ℕ) (small : (k : ℕ) → or_zero
   code_back k h = packed_code (tabulate iids (λ a. or_zero (code a))) codes_small k ∙ get_d_tabulate iids (λ a. or_zero (code a)) k 0 h
 
 -- ---- packed, then decoded
-module _ (w : Width) (flag : Bool) (missing : w.Value) (iids : ℕ) (val : List w.Value) (old : List ℕ)
-    (d : is_done (pack_answer iids (length val) (place_code w flag missing val) (length old)) ≡ true) (out : List w.Value) (l : length out ≡ iids) where
+module _ {V : Type 0} (w : Width V) (flag : Bool) (missing : V) (iids : ℕ) (val : List V) (old : List ℕ)
+    (d : is_done (pack_answer iids (length val) (place_code w flag missing val) (length old)) ≡ true) (out : List V) (l : length out ≡ iids) where
   abbrev code : ℕ → Option ℕ
   code = place_code w flag missing val
 
@@ -99,9 +99,9 @@ module _ (w : Width) (flag : Bool) (missing : w.Value) (iids : ℕ) (val : List 
 -- "Under one flag and one missing value, an accepted writing read back gives every value, equal by number or NaN for NaN.": of one block. Where packing is done,
 -- decoding the bytes that it left into a column of the right length is done, and gives every value.
 pub packed_read_back :
-    (w : Width) (flag : Bool) (missing : w.Value) (iids : ℕ) (val : List w.Value) (old : List ℕ)
+    {V : Type 0} (w : Width V) (flag : Bool) (missing : V) (iids : ℕ) (val : List V) (old : List ℕ)
     → is_done (pack_answer iids (length val) (place_code w flag missing val) (length old)) ≡ true
-    → (out : List w.Value) → length out ≡ iids
+    → (out : List V) → length out ≡ iids
     → (decode_answer (length (pack_buffer iids (length val) (place_code w flag missing val) old)) iids (length out) ≡ done [])
     × ((k : ℕ) → k < iids
     → same_or_nan w (get_or val k missing)

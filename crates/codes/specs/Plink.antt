@@ -40,7 +40,7 @@ copies_of_second heterozygous = Some 1
 copies_of_second homozygous_second = Some 2
 
 -- a number of copies as a value, and `missing` where there is none
-unfoldable pub copies_value : (w : Width) → w.Value → Option ℕ → w.Value
+unfoldable pub copies_value : {V : Type 0} (w : Width V) → V → Option ℕ → V
 copies_value w absent None = absent
 copies_value w absent (Some zero) = w.zero
 copies_value w absent (Some (suc zero)) = w.one

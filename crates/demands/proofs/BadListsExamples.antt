@@ -106,7 +106,7 @@ module _ (mode1 : Bool) where
 
 -- ---- the two files, which agree: good and bad lists, at every width, in both orders and in every way
 module _ (a m : Bool) where
-  pub read_alike : (w : Width) (flag : Bool) (missing : w.Value) (order : Bool) (val : List w.Value)
+  pub read_alike : {V : Type 0} (w : Width V) (flag : Bool) (missing : V) (order : Bool) (val : List V)
       → (read_answer F 5 2 (animals a) (markers m) (length val) ≡ read_answer in_mode0 5 2 (animals a) (markers m) (length val))
       × (read_buffer w F 5 2 flag (animals a) (markers m) missing order val ≡ read_buffer w in_mode0 5 2 flag (animals a) (markers m) missing order val)
   read_alike = agree_read F in_mode0 5 2 (accepted true) (accepted false) modes_calls (animals a) (markers m)

@@ -22,11 +22,11 @@ use Rattle.bed_write.proofs.FirstLaws.{zero_below, code_small}
 use Rattle.demands.proofs.WriteLaws.{codes_written}
 
 -- ---- the code that is written where a code was read: the code of its value
-unfoldable pub code_again : (w : Width) → Bool → w.Value → ℕ → ℕ
+unfoldable pub code_again : {V : Type 0} (w : Width V) → Bool → V → ℕ → ℕ
 unfolding or_zero
 code_again w flag missing code = or_zero (code_of w flag missing (value_of w flag missing code))
 
-missing_value : (w : Width) (flag : Bool) (missing : w.Value) → value_of w flag missing 1 ≡ missing
+missing_value : {V : Type 0} (w : Width V) (flag : Bool) (missing : V) → value_of w flag missing 1 ≡ missing
 unfolding value_of values
 missing_value w true missing = refl
 missing_value w false missing = refl
@@ -41,7 +41,7 @@ by_tests_law false false true d x y e = refl
 by_tests_law false false false true x y e = refl
 by_tests_law false false false false x y e = absurd (true≢false (sym e))
 
-module _ (w : Width) (n : Numbers w) (flag : Bool) (missing : w.Value) where
+module _ {V : Type 0} (w : Width V) (n : Numbers w) (flag : Bool) (missing : V) where
   abbrev again : ℕ → ℕ
   again = code_again w flag missing
 
@@ -71,9 +71,9 @@ module _ (w : Width) (n : Numbers w) (flag : Bool) (missing : w.Value) where
   missing_coded : code_of w flag missing (value_of w flag missing 1) ≡ Some (again 1)
   unfolding code_again code_of or_zero
   missing_coded =
-      ap (λ (v : w.Value). code_of w flag missing v) (missing_value w flag missing)
+      ap (λ (v : V). code_of w flag missing v) (missing_value w flag missing)
       ∙ by_tests_law (w.same missing w.zero) (w.same missing w.one) (w.same missing w.two) (same_or_nan w missing missing) (cond flag 3 0) (cond flag 0 3) (self_same w missing)
-      ∙ ap (λ (v : w.Value). Some (or_zero (code_of w flag missing v))) (sym (missing_value w flag missing))
+      ∙ ap (λ (v : V). Some (or_zero (code_of w flag missing v))) (sym (missing_value w flag missing))
 
   has_code : (code : ℕ) → code < 4 → code_of w flag missing (value_of w flag missing code) ≡ Some (again code)
   has_code code h =
@@ -81,11 +81,11 @@ module _ (w : Width) (n : Numbers w) (flag : Bool) (missing : w.Value) where
       (λ t. let one = eqb-true code 1 t in ap (λ (c : ℕ). code_of w flag missing (value_of w flag missing c)) one ∙ missing_coded ∙ ap (λ (c : ℕ). Some (again c)) (sym one))
       (λ t. let o = eqb-false code 1 t in number_back w n flag missing code h o ∙ ap Some (sym (number_again code h o)))
 
-module _ (w : Width) (numbers : Numbers w) (flag : Bool) (missing : w.Value) (order : Bool)
-    (file : List ℕ) (iids sids : ℕ) (il sl : List ℤ) (val : List w.Value) (d : is_done (read_answer file iids sids il sl (length val)) ≡ true)
+module _ {V : Type 0} (w : Width V) (numbers : Numbers w) (flag : Bool) (missing : V) (order : Bool)
+    (file : List ℕ) (iids sids : ℕ) (il sl : List ℤ) (val : List V) (d : is_done (read_answer file iids sids il sl (length val)) ≡ true)
     -- lists of n and s entries
     (n s : ℕ) (li : length il ≡ n) (ls : length sl ≡ s) where
-  abbrev read : List w.Value
+  abbrev read : List V
   read = read_buffer w file iids sids flag il sl missing order val
 
   abbrev written : ℕ → ℕ → ℕ
@@ -97,7 +97,7 @@ module _ (w : Width) (numbers : Numbers w) (flag : Bool) (missing : w.Value) (or
   coded : (k m : ℕ) → k < n → m < s → value_code w flag missing order n s read k m ≡ Some (written k m)
   unfolding value_code place_code
   coded k m hk hm =
-      ap (λ (l : List w.Value). code_of w flag missing (get_or l (matrix_place order n s k m) missing)) is_read
+      ap (λ (l : List V). code_of w flag missing (get_or l (matrix_place order n s k m) missing)) is_read
       ∙ ap (code_of w flag missing) (read_cell w flag missing order file iids sids il sl n s li ls missing k m hk hm)
       ∙ has_code w numbers flag missing (read_code file iids sids il sl k m) (read_below file iids sids il sl k m)
 

@@ -174,13 +174,13 @@ abbrev in_order : List ℤ
 in_order = pos 0 ∷ pos 1 ∷ []
 
 -- "in marker order (a marker's values adjacent) or animal order", from either mode
-pub read_in_animal_order : (mode1 : Bool) (w : Width) (missing : w.Value)
+pub read_in_animal_order : (mode1 : Bool) {V : Type 0} (w : Width V) (missing : V)
     → read_buffer w (two_by_two mode1) 2 2 true second_first in_order missing true (missing ∷ missing ∷ missing ∷ missing ∷ []) ≡ w.one ∷ missing ∷ w.two ∷ w.zero ∷ []
 unfolding read_buffer read_answer is_mode1 items blocks block_width first_bad is_good means values_read codes_read matrix tabulate read_code call_code code_in block item_code code_at value_of values if_done
 read_in_animal_order true w missing = refl
 read_in_animal_order false w missing = refl
 
-pub read_in_marker_order : (mode1 : Bool) (w : Width) (missing : w.Value)
+pub read_in_marker_order : (mode1 : Bool) {V : Type 0} (w : Width V) (missing : V)
     → read_buffer w (two_by_two mode1) 2 2 true second_first in_order missing false (missing ∷ missing ∷ missing ∷ missing ∷ []) ≡ w.one ∷ w.two ∷ missing ∷ w.zero ∷ []
 unfolding read_buffer read_answer is_mode1 items blocks block_width first_bad is_good means values_read codes_read matrix tabulate read_code call_code code_in block item_code code_at value_of values if_done
 read_in_marker_order true w missing = refl

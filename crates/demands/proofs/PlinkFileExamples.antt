@@ -72,7 +72,7 @@ order_good = (refl, refl)
 
 -- everything read, marker by marker: its dosages, at every width
 pub published_read :
-    (w : Width) (absent : w.Value) (val : List w.Value) → 18 ≡ length val
+    {V : Type 0} (w : Width V) (absent : V) (val : List V) → 18 ≡ length val
     → read_buffer w published 6 3 true (file_order 6) (file_order 3) absent false val
     ≡ w.two ∷ w.zero ∷ absent ∷ w.zero ∷ w.zero ∷ w.zero
     ∷ w.zero ∷ absent ∷ w.one ∷ w.zero ∷ w.zero ∷ w.zero
@@ -93,7 +93,7 @@ unfolding first_bad is_good
 some_good = (refl, refl)
 
 pub published_picked :
-    (w : Width) (absent : w.Value) (val : List w.Value) → 4 ≡ length val
+    {V : Type 0} (w : Width V) (absent : V) (val : List V) → 4 ≡ length val
     → read_buffer w published 6 3 false some_samples some_variants absent true val ≡ w.zero ∷ w.two ∷ w.one ∷ absent ∷ []
 unfolding tabulate matrix meant means genotype_in variant_bit block_bit plink_width genotype_of copies_by copies_of_second copies_value
 published_picked w absent val l =

@@ -84,7 +84,7 @@ same_genotype g h e = sym (by_copies_law g) ∙ ap by_copies e ∙ by_copies_law
 named : (c : ℕ) (g : Genotype) → copies c ≡ copies_of_first g → by_copies (copies c) ≡ g
 named c g e = ap by_copies e ∙ by_copies_law g
 
-module _ (w : Width) (absent : w.Value) (flag : Bool) where
+module _ {V : Type 0} (w : Width V) (absent : V) (flag : Bool) where
   value_named : (b : Bool) (c : ℕ) → c < 4 → value_of w b absent c ≡ copies_value w absent (copies_by b (by_copies (copies c)))
   unfolding value_of copies_value copies_by copies_of_first copies_of_second by_copies copies
   value_named true zero h = refl
@@ -102,7 +102,7 @@ module _ (w : Width) (absent : w.Value) (flag : Bool) where
   value_copies c g h e = value_named flag c h ∙ ap (λ (x : Genotype). copies_value w absent (copies_by flag x)) (named c g e)
 
   -- and a value that has a code stands in a genotype with the code's copies
-  module _ (apart : Apart w) (v : w.Value) (c : ℕ) (g : Genotype) (coded : code_of w flag absent v ≡ Some c) (same : copies c ≡ copies_of_first g) where
+  module _ (apart : Apart w) (v : V) (c : ℕ) (g : Genotype) (coded : code_of w flag absent v ≡ Some c) (same : copies c ≡ copies_of_first g) where
     by_code_law : (k : ℕ) → Some k ≡ code_of w flag absent v → g ≡ by_copies (copies k)
     by_code_law k e =
         let q : ◌≡◌ {A = Option ℕ} (Some k) (Some c) = e ∙ coded in

@@ -53,12 +53,12 @@ module _ (file : List ℕ) (iids sids : ℕ) (d : is_done (accept_answer file ii
       (order_good iids) (order_good sids)
 
   -- each value read is that of the call's code
-  pub read_at : (w : Width) (flag : Bool) (missing : w.Value) (order : Bool) (buffer : List w.Value) → length buffer ≡ iids * sids
+  pub read_at : {V : Type 0} (w : Width V) (flag : Bool) (missing : V) (order : Bool) (buffer : List V) → length buffer ≡ iids * sids
       → (a m : ℕ) → a < iids → m < sids
       → get_or (read_buffer w file iids sids flag (file_order iids) (file_order sids) missing order buffer) (matrix_place order iids sids a m) missing
       ≡ value_of w flag missing (call_code file iids sids a m)
   read_at w flag missing order buffer l a m ha hm =
-      ap (λ (x : List w.Value). get_or x (matrix_place order iids sids a m) missing)
+      ap (λ (x : List V). get_or x (matrix_place order iids sids a m) missing)
       (buffer_values w file iids sids flag (file_order iids) (file_order sids) missing order buffer (ap is_done (all_answer (length buffer) l)))
       ∙ read_cell w flag missing order file iids sids (file_order iids) (file_order sids) iids sids (order_length iids) (order_length sids) missing a m ha hm
       ∙ ap (value_of w flag missing) (order_code file iids sids a m ha hm)

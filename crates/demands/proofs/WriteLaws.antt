@@ -81,7 +81,7 @@ module _ (iids sids : ℕ) (code : ℕ → ℕ → Option ℕ) (val_length : ℕ
         (sym r.0, sym r.1 ∙ bed_ext iids sids (λ a m. or_zero (code a m)) c (λ a m ha hm. ap or_zero (coded a m ha hm)))
 
 -- ---- a matrix of values whose writing is done
-module _ (w : Width) (flag : Bool) (missing : w.Value) (order : Bool) (iids sids : ℕ) (val : List w.Value) (old : List ℕ)
+module _ {V : Type 0} (w : Width V) (flag : Bool) (missing : V) (order : Bool) (iids sids : ℕ) (val : List V) (old : List ℕ)
     (d : is_done (write_answer iids sids (value_code w flag missing order iids sids val) (length val) (length old)) ≡ true) where
   abbrev code : ℕ → ℕ → Option ℕ
   code = value_code w flag missing order iids sids val

@@ -30,16 +30,16 @@ abbrev pub ten : {A : Type 0} → A → List A
 ten v = v ∷ v ∷ v ∷ v ∷ v ∷ v ∷ v ∷ v ∷ v ∷ v ∷ []
 
 -- "2, missing, 1, 0, 2 and 0, 0, 1, 2, 1", marker by marker
-abbrev pub values_of_f : (w : Width) → w.Value → List w.Value
+abbrev pub values_of_f : {V : Type 0} (w : Width V) → V → List V
 values_of_f w missing =
     w.two ∷ missing ∷ w.one ∷ w.zero ∷ w.two
     ∷ w.zero ∷ w.zero ∷ w.one ∷ w.two ∷ w.one ∷ []
 
 pub record SmallHerds : Type 1 where
   -- "F counted: 2, missing, 1, 0, 2 and 0, 0, 1, 2, 1.", at every width and whatever stands for missing; "Last byte F2: same."
-  pub read_F : (w : Width) (missing : w.Value)
+  pub read_F : {V : Type 0} (w : Width V) (missing : V)
       → read_buffer w F 5 2 true (file_order 5) (file_order 2) missing false (ten w.zero) ≡ values_of_f w missing
-  pub read_F2 : (w : Width) (missing : w.Value)
+  pub read_F2 : {V : Type 0} (w : Width V) (missing : V)
       → read_buffer w last_byte_f2 5 2 true (file_order 5) (file_order 2) missing false (ten w.zero) ≡ values_of_f w missing
   -- "6C 1B 00 0C 0D 0A 03 08 has canonical file F."
   pub mode_0_canonical : canonical_buffer in_mode0 5 2 (0 ∷ 0 ∷ 0 ∷ 0 ∷ 0 ∷ 0 ∷ 0 ∷ []) ≡ F

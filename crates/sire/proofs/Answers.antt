@@ -22,7 +22,7 @@ use Rattle.sire.proofs.Limit.{made_is}
 module _ (file : List ℕ) (iids sids : ℕ) (offspring : ℤ) (candidates : List ℤ) where
   -- the calls that are compared, as they are read under either flag
   pub opposes_by_values :
-      (w : Width) → Numbers w → NotTwo w → (missing : w.Value) → w.same missing w.zero ≡ false → w.same missing w.two ≡ false
+      {V : Type 0} (w : Width V) → Numbers w → NotTwo w → (missing : V) → w.same missing w.zero ≡ false → w.same missing w.two ≡ false
       → (flag : Bool) (k m : ℕ)
       → opposing_values w (value_of w flag missing (call_code file iids sids (means iids offspring) m)) (value_of w flag missing (call_code file iids sids (means iids (get_or candidates k (pos 0))) m))
       ≡ opposes_in file iids sids offspring candidates k m

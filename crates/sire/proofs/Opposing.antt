@@ -77,11 +77,11 @@ opposing_by_copies c d h k = (then_copies (code_of_law c h) (code_of_law d k), i
 
 -- ---- by values
 -- what `Numbers` does not say of 2
-pub record NotTwo (w : Width) : Type 0 where
+pub record NotTwo {V : Type 0} (w : Width V) : Type 0 where
   pub zero_two : w.same w.zero w.two ≡ false
   pub one_two : w.same w.one w.two ≡ false
 
-module _ (w : Width) (numbers : Numbers w) (not_two : NotTwo w) (missing : w.Value)
+module _ {V : Type 0} (w : Width V) (numbers : Numbers w) (not_two : NotTwo w) (missing : V)
     (no_zero : w.same missing w.zero ≡ false) (no_two : w.same missing w.two ≡ false) where
   zero_test : (flag : Bool) {c : ℕ} → Code c → w.same (value_of w flag missing c) w.zero ≡ eqb c (cond flag 3 0)
   unfolding value_of values

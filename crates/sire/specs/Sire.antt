@@ -17,7 +17,7 @@ unfoldable pub opposing : ℕ → ℕ → Bool
 opposing c d = (eqb c 3 && eqb d 0) || (eqb c 0 && eqb d 3)
 
 -- the same of two values
-unfoldable pub opposing_values : (w : Width) → w.Value → w.Value → Bool
+unfoldable pub opposing_values : {V : Type 0} (w : Width V) → V → V → Bool
 opposing_values w u v = (w.same u w.zero && w.same v w.two) || (w.same u w.two && w.same v w.zero)
 
 -- ---- what the limit leaves. k is a candidate's place in the list, from 0

@@ -12,7 +12,7 @@ back : (k : ℕ) → negsuc 0 -ℤ pos k ≡ negsuc k
 back zero = refl
 back (suc k) = ap negsuc (omega arith)
 
-module _ (w : Width) (k : ℕ) where
+module _ {V : Type 0} (w : Width V) (k : ℕ) where
   -- −1 − k
   below : k < 2 ^ hbits w → negsuc 0 -ℤ to_z w k ≡ negsuc k
   below h = ap (λ z. negsuc 0 -ℤ z) (to_z_pos w k h) ∙ back k
@@ -26,7 +26,7 @@ module _ (w : Width) (k : ℕ) where
   signed_is n h e = to_z-of_z w (negsuc 0 -ℤ to_z w k) (fits_back h) ∙ below h ∙ sym (to_z-neg w k h) ∙ ap (to_z w) (sym e)
 
 -- the word of what a word stands for, and what is read back from it
-module _ (w : Width) (z : ℤ) (n m : ℕ) (ez : z ≡ to_z w n) (h : Fits w n) (en : n ≡ m) where
+module _ {V : Type 0} (w : Width V) (z : ℤ) (n m : ℕ) (ez : z ≡ to_z w n) (h : Fits w n) (en : n ≡ m) where
   pub held_word : of_z w z ≡ m
   held_word = ap (of_z w) ez ∙ of_z-to_z w n h ∙ en
 
