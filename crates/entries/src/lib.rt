@@ -1,7 +1,7 @@
 // Entries of a list: what they mean for a count.
 #![tactic(auto)]
 
-ghost use Rattle.std.specs.Prelude.{◌≡◌, ℕ, true, List, [], ◌∷◌, ◌++◌, ℤ, nat_lt};
+ghost use Rattle.std.specs.Prelude.{◌≡◌, ℕ, Bool, true, false, List, [], ◌∷◌, ◌++◌, ℤ, nat_lt};
 ghost use Rattle.entries.specs.Entry.{is_good, means, first_bad, entry_answer, span_answer};
 ghost use Rattle.entries.specs.Says.{item_says, span_says};
 ghost use Rattle.entries.specs.Private.{IsSpan};
@@ -15,32 +15,60 @@ pub struct SidIndex(pub usize);
 
 // What the entries of a list name: animals, or markers.
 pub trait Item: Copy {
+    ghost is_animal: { Bool };
+
     ghost number: { Self → ℕ };
 
     // The number by which a bad entry of such a list is refused.
     ghost refusal: { ℕ };
 
+    fn is_animal() -> bool
+        ensures { result ≡ is_animal };
+
     fn from_number(n: usize) -> Self
         ensures { number result ≡ n };
+
+    fn number(self) -> usize
+        ensures { result ≡ number self };
 }
 
 impl Item for IidIndex {
+    ghost is_animal = { true };
+
     ghost number = { λ iid. iid.0 };
 
     ghost refusal = { 5 };
 
+    fn is_animal() -> bool {
+        true
+    }
+
     fn from_number(n: usize) -> IidIndex {
         IidIndex(n)
+    }
+
+    fn number(self) -> usize {
+        self.0
     }
 }
 
 impl Item for SidIndex {
+    ghost is_animal = { false };
+
     ghost number = { λ sid. sid.0 };
 
     ghost refusal = { 6 };
 
+    fn is_animal() -> bool {
+        false
+    }
+
     fn from_number(n: usize) -> SidIndex {
         SidIndex(n)
+    }
+
+    fn number(self) -> usize {
+        self.0
     }
 }
 
