@@ -2,7 +2,7 @@
 use mathlib.Core.Path.{◌≡◌, refl, sym, ap, ◌∙◌}
 use mathlib.Core.Bool.{Bool, true, false}
 use mathlib.Core.List.{List, [], ◌∷◌}
-use Rattle.std.specs.Prelude.{Option, Some, None}
+use Rattle.std.specs.Prelude.{Option, Some, None, Result, Ok, Err, IsErrAnd}
 use Prim.Native.Nat.{ℕ, ◌≤◌, ◌<◌}
 use native.Mathlib.Omega.{arith}
 use borrow.Author.Tests.{leb-true, le-leb, lt-leb}
@@ -148,3 +148,15 @@ pub before_later : {F : Answer → Answer} → Stage F → (later : Answer) → 
 before_later (lets f) later e = ap is_done (f (done []))
 before_later (refuses n ws f) later e =
     absurd (let q : ◌≡◌ {A = Bool} false true = sym (ap is_done (f later)) ∙ e in let r : ◌≡◌ {A = ℕ} 0 1 = cc in omega arith)
+
+-- ---- what `?` hands on at the same type of errors
+pub same_error : {T E : Type 0} (r : Result T E) (e : E) → IsErrAnd r (λ error. error ≡ e) → r ≡ Err e
+same_error (Ok _) e h = absurd h
+same_error (Err error) e h = ap Err h
+
+-- and what it turns into another error, one of the same number
+pub error_told :
+    {T E : Type 0} (says : Result T E → Answer) (number_of : E → ℕ) → ((error : E) → says (Err error) ≡ refused (number_of error) [])
+    → (r : Result T E) (n : ℕ) → IsErrAnd r (λ error. n ≡ number_of error) → says r ≡ refused n []
+error_told says number_of told (Ok _) n h = absurd h
+error_told says number_of told (Err error) n h = told error ∙ ap (λ (k : ℕ). refused k []) (sym h)

@@ -11,9 +11,6 @@ use lib.ListN.{length, get_or}
 use Rattle.answer.specs.Answer.{Answer, done, refused, check, check_count, count_limit, is_done}
 use Rattle.blocks.specs.Block.{block_width, file_length, check_size, div_answer}
 use Rattle.answer.proofs.AnswerLaws.{check_passes, check_refuses, count_passes, count_refuses, check_done, count_done, check_other, Stage, check_stage, then_stage, heard, stays}
-use Rattle.std.specs.Prelude.{Result, Ok, Err, IsErrAnd}
-use Rattle.bed_file.specs.declared.FileError.{FileError}
-use Rattle.bed_file.specs.Says.{file_number, accept_says}
 use Rattle.blocks.proofs.Widths.{Sized, width_given, size_stage}
 use Rattle.bed_file.specs.File.{check_open, open_answer, check_mode, is_mode1, items, blocks, check_length, length_answer, check_file, accept_answer}
 
@@ -234,8 +231,3 @@ accepted file iids sids d =
       length_is = file_length_law file iids sids [] b.1;
       heard_later = heard (file_stage file iids sids) [] b.1;
     }
-
--- ---- what `?` turns into a file's refusal: one of the same number
-pub error_told : (r : Result Unit FileError) (n : ℕ) → IsErrAnd r (λ error. n ≡ file_number error) → accept_says r ≡ refused n []
-error_told (Ok _) n h = absurd h
-error_told (Err error) n h = ap (λ (k : ℕ). refused k []) (sym h)

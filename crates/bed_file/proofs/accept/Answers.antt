@@ -1,6 +1,8 @@
 -- `accept`: 18, the header by `open_and_check`, then the mode, then the length.
-use Rattle.std.proofs.Common.{◌∙◌, rules}
-use Rattle.bed_file.proofs.FileLaws.{error_told, accept_first, accept_second, accept_not_open, accept_bad_mode, accept_mode_1, accept_mode_0}
+use Rattle.std.proofs.Common.{refl, ◌∙◌, rules}
+use Rattle.answer.proofs.AnswerLaws.{error_told}
+use Rattle.bed_file.specs.Says.{file_number, accept_says}
+use Rattle.bed_file.proofs.FileLaws.{accept_first, accept_second, accept_not_open, accept_bad_mode, accept_mode_1, accept_mode_0}
 use Rattle.bed_file.proofs.accept.Goals as goal
 
 pub returns-then-iid_count-gt-COUNT_LIMIT : goal.returns-then-iid_count-gt-COUNT_LIMIT
@@ -11,7 +13,7 @@ returns-then-sid_count-gt-COUNT_LIMIT c = accept_second _ _ _ c.if-iid_count-gt-
 
 pub returns-in_err-open_and_check : goal.returns-in_err-open_and_check
 returns-in_err-open_and_check c =
-    error_told _ _ c.from_residual.ensures.1
+    error_told accept_says file_number (λ _. refl) _ _ c.from_residual.ensures.1
     ∙ accept_not_open _ _ _ c.if-iid_count-gt-COUNT_LIMIT.false c.if-sid_count-gt-COUNT_LIMIT.false _ (c.in_err-open_and_check.ensures)
 
 pub returns-in-1 : goal.returns-in-1
