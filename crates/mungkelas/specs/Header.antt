@@ -60,10 +60,10 @@ BedReadStandardised file iids sids flag iid_list sid_list order r val val_after 
     × (val_after ≡ joined_values binary64 file iids sids flag iid_list sid_list order val stats)
     × (stats_after ≡ joined_stats binary64 file iids sids flag iid_list sid_list order val stats)
 
--- `bed_index_all` and the five that follow it, each by its index; a list and marks that it does not take are empty
-abbrev pub BedIndex : Index → ℕ → List ℤ → List ℕ → BedAnswer → List ℤ → List ℤ → Type 0
-BedIndex index count vec marks r old new =
-    (r ≡ bed_answer (index_answer index count vec marks (length old))) × (new ≡ index_buffer index count vec marks old)
+-- `bed_index_all` and the five that follow it, each by its index
+abbrev pub BedIndex : Index → ℕ → BedAnswer → List ℤ → List ℤ → Type 0
+BedIndex index count r old new =
+    (r ≡ bed_answer (index_answer index count (length old))) × (new ≡ index_buffer index count old)
 
 -- `bed_file_ata_piece`
 abbrev pub BedAtaPiece : List ℕ → ℕ → ℕ → ℕ → ℕ → ℕ → ℕ → BedAnswer → List Float → List Float → Type 0
