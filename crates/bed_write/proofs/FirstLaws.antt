@@ -1,14 +1,15 @@
 -- Laws of what is found first, and of codes that a value may lack.
-use mathlib.Core.Path.{◌≡◌, refl, ap, ◌∙◌}
+use mathlib.Core.Path.{◌≡◌, refl, sym, ap, ◌∙◌}
 use mathlib.Core.Bool.{Bool, true, false, cond}
 use mathlib.Core.List.{List}
 use Rattle.std.specs.Prelude.{Option, Some, None}
 use Prim.Native.Nat.{ℕ, zero, suc, ◌<◌}
 use native.Mathlib.Omega.{arith}
 use lib.ListN.{length, get_or}
+use Rattle.std.specs.Option.{is_none}
 use Rattle.codes.specs.Value.{Width, code_of, same_or_nan}
 use Rattle.bed_write.specs.Packing.{place_code, or_zero, or_else, first_of, if_bad}
-use Rattle.bed_write.specs.Groups.{or_four}
+use Rattle.bed_write.specs.Groups.{or_four, CodesGood}
 use Rattle.answer.proofs.Tabulate.{get_d_inside}
 
 pub first_none : {A : Type 0} (n : ℕ) (f : ℕ → Option A) → ((k : ℕ) → k < n → f k ≡ None) → first_of n f ≡ None
@@ -86,6 +87,17 @@ unfolding or_zero
 zero_below (Some c) h = h c refl
 zero_below None h = omega arith
 
+-- by whether there is a code
+pub coded_if : (o : Option ℕ) → ((c : ℕ) → o ≡ Some c → c < 4) → is_none o ≡ false → or_four o < 4
+unfolding or_four
+coded_if (Some c) h e = h c refl
+coded_if None h e = absurd (let q : ◌≡◌ {A = ℕ} 0 1 = cc in omega arith)
+
+pub lacking_if : (o : Option ℕ) → is_none o ≡ true → 3 < or_four o
+unfolding or_four
+lacking_if (Some c) e = absurd (let q : ◌≡◌ {A = ℕ} 0 1 = cc in omega arith)
+lacking_if None e = omega arith
+
 -- ---- the code of a value is a code
 abbrev pub Coded : (ℕ → Option ℕ) → Type 0
 Coded code = (k c : ℕ) → code k ≡ Some c → c < 4
@@ -112,18 +124,14 @@ pub place_coded : {V : Type 0} (w : Width V) (flag : Bool) (missing : V) (vals :
 unfolding place_code
 place_coded w flag missing vals k c e = code_small w flag missing (get_or vals k missing) c e
 
--- a code that is read, of a value that has one
-pub good_read :
-    {V : Type 0} (w : Width V) (flag : Bool) (missing : V) (vals : List V) (k : ℕ) (d : V) (r : ℕ) → k < length vals
-    → or_four (place_code w flag missing vals k) < 4
-    → (or_four (code_of w flag missing (get_or vals k d)) < 4 → r ≡ or_four (code_of w flag missing (get_or vals k d)))
-    → r ≡ or_four (place_code w flag missing vals k)
-unfolding place_code
-good_read w flag missing vals k d r h g e =
-    let s : or_four (code_of w flag missing (get_or vals k d)) ≡ or_four (code_of w flag missing (get_or vals k missing)) =
-    ap (λ v. or_four (code_of w flag missing v)) (get_d_inside vals k d missing h) in
-    e (omega arith) ∙ s
+-- a value that is read: its code, if it has one, and that it has one
+module _ {V : Type 0} (w : Width V) (flag : Bool) (missing : V) (vals : List V) (k : ℕ) (v d : V) (h : k < length vals) (e : v ≡ get_or vals k d) where
+  pub value_read : code_of w flag missing v ≡ place_code w flag missing vals k
+  unfolding place_code
+  value_read = ap (code_of w flag missing) (e ∙ get_d_inside vals k d missing h)
 
-pub code_read : {V : Type 0} (w : Width V) (flag : Bool) (missing : V) (vals : List V) (k : ℕ) (d : V) (r : ℕ) → k < length vals → r ≡ or_four (code_of w flag missing (get_or vals k d)) → r ≡ or_four (place_code w flag missing vals k)
-unfolding place_code
-code_read w flag missing vals k d r h e = e ∙ ap (λ v. or_four (code_of w flag missing v)) (get_d_inside vals k d missing h)
+  pub good_read : (r : ℕ) → CodesGood w flag missing v r → or_four (place_code w flag missing vals k) < 4 → r ≡ or_four (place_code w flag missing vals k)
+  good_read r g b = let s = ap or_four value_read in g (omega arith) ∙ s
+
+  pub coded_read : (bad : Bool) → bad ≡ is_none (code_of w flag missing v) → bad ≡ false → or_four (place_code w flag missing vals k) < 4
+  coded_read bad b f = coded_if (place_code w flag missing vals k) (place_coded w flag missing vals k) (ap is_none (sym value_read) ∙ sym b ∙ f)

@@ -11,7 +11,8 @@ use lib.IntN.{ℤ, pos}
 use lib.Ieee.{Float}
 use lib.ListN.{length, get_or}
 use lib.Signed.{mag}
-use Rattle.codes.specs.Value.{Width, i8, float, code_of}
+use Rattle.std.specs.Option.{is_none}
+use Rattle.codes.specs.Value.{Width, code_of}
 use Rattle.codes.specs.Code.{group_byte, packed_byte}
 use Rattle.answer.specs.Lists.{tabulate}
 use Rattle.answer.specs.Matrix.{matrix_place}
@@ -19,11 +20,11 @@ use Rattle.answer.proofs.MatrixLaws.{place_below}
 use Rattle.bed_write.specs.Packing.{place_code, or_zero}
 use Rattle.bed_write.specs.Writing.{value_code}
 use Rattle.bed_write.specs.Groups.{or_four, in_group, Four}
-use Rattle.bed_write.specs.Private.{CodesOfBytes, by_table, by_tests, first_over, placed}
-use Rattle.bed_write.proofs.FirstLaws.{code_read}
-use Rattle.bed_write.proofs.ByteLaws.{by_table_law}
+use Rattle.bed_write.specs.Private.{by_tests, first_over, placed}
+use Rattle.bed_write.proofs.FirstLaws.{value_read, coded_if, lacking_if}
 use Rattle.bed_write.proofs.GroupLaws.{good_four, group_byte_law}
 use Rattle.bed_write.proofs.SearchLaws.{none_over}
+use Rattle.bed_write.proofs.WriteLaws.{value_coded}
 
 -- ---- places of a matrix
 module _ (i m iids sids : ℕ) (hi : i < iids) (hm : m < sids) (f : iids * sids < 2 ^ 64) where
@@ -52,9 +53,16 @@ module _ {V : Type 0} (w : Width V) (flag : Bool) (missing : V) (order : Bool) (
   pub read_inside : at < length val
   read_inside = let p : matrix_place order iids sids a m < iids * sids = place_below iids sids a m ha hm order in omega arith
 
-  pub read_number : (d : V) (r : ℕ) → r ≡ or_four (code_of w flag missing (get_or val at d)) → r ≡ or_four (value_code w flag missing order iids sids val a m)
-  unfolding value_code
-  read_number d r f = code_read w flag missing val at d r read_inside f ∙ ap (λ (k : ℕ). or_four (place_code w flag missing val k)) e
+  module _ (v d : V) (q : v ≡ get_or val at d) where
+    read_code : code_of w flag missing v ≡ value_code w flag missing order iids sids val a m
+    unfolding value_code
+    read_code = value_read w flag missing val at v d read_inside q ∙ ap (place_code w flag missing val) e
+
+    pub read_good : (bad : Bool) → bad ≡ is_none (code_of w flag missing v) → bad ≡ false → or_four (value_code w flag missing order iids sids val a m) < 4
+    read_good bad b f = coded_if (value_code w flag missing order iids sids val a m) (value_coded w flag missing order iids sids val a m) (ap is_none (sym read_code) ∙ sym b ∙ f)
+
+    pub read_bad : (bad : Bool) → bad ≡ is_none (code_of w flag missing v) → bad ≡ true → 3 < or_four (value_code w flag missing order iids sids val a m)
+    read_bad bad b t = lacking_if (value_code w flag missing order iids sids val a m) (ap is_none (sym read_code) ∙ sym b ∙ t)
 
 -- ---- a matrix whose numbers are found by place
 module _ (number : ℕ → ℕ) (order : Bool) (iids sids : ℕ) where
@@ -100,18 +108,8 @@ module _ (number : ℕ → ℕ) (order : Bool) (iids sids : ℕ) where
       matrix_byte v e = group_byte_law iids code b (λ j. number (start + j * stride)) same c0 c1 c2 c3 q v e matrix_codes
 
 -- ---- the numbers of a matrix are those of its codes
-pub float_same :
-    (flag : Bool) (missing : Float) (order : Bool) (iids sids : ℕ) (val : List Float) (a m : ℕ) → a < iids → m < sids
-    → placed (by_tests float flag missing val) order iids sids a m ≡ or_four (value_code float flag missing order iids sids val a m)
+pub placed_same :
+    {V : Type 0} (w : Width V) (flag : Bool) (missing : V) (order : Bool) (iids sids : ℕ) (val : List V) (a m : ℕ) → a < iids → m < sids
+    → placed (by_tests w flag missing val) order iids sids a m ≡ or_four (value_code w flag missing order iids sids val a m)
 unfolding placed value_code
-float_same flag missing order iids sids val a m ha hm = refl
-
-pub byte_same :
-    (flag : Bool) (missing : ℤ) (table : List ℕ) (order : Bool) (iids sids : ℕ) (val : List ℤ) → CodesOfBytes flag missing table → iids * sids ≡ length val
-    → ((k : ℕ) → k < length val → mag (get_or val k (pos 0)) < 128) → (a m : ℕ) → a < iids → m < sids
-    → placed (by_table table val) order iids sids a m ≡ or_four (value_code i8 flag missing order iids sids val a m)
-unfolding placed value_code
-byte_same flag missing table order iids sids val t e f a m ha hm =
-    let p : matrix_place order iids sids a m < iids * sids = place_below iids sids a m ha hm order in
-    let q : matrix_place order iids sids a m < length val = omega arith in
-    by_table_law flag missing table val (matrix_place order iids sids a m) t q (f (matrix_place order iids sids a m) q)
+placed_same w flag missing order iids sids val a m ha hm = refl

@@ -1,11 +1,12 @@
 -- Laws of the search for the first bad value.
 use mathlib.Core.Path.{◌≡◌, refl, sym, subst, ◌∙◌}
-use mathlib.Core.Bool.{Bool}
+use mathlib.Core.Bool.{Bool, true, false, ◌||◌}
 use mathlib.Core.List.{List}
 use Rattle.std.specs.Prelude.{Option, Some, None}
 use Prim.Native.Nat.{ℕ, ◌+◌, ◌*◌, ◌<◌, ◌≤◌, ◌/◌}
 use native.Mathlib.Nat.{le_refl}
 use native.Mathlib.Omega.{arith}
+use borrow.Author.Count.{below_more}
 use borrow.Author.Tests.{lt-ltb, le-ltb}
 use lib.ListN.{length}
 use Rattle.codes.specs.Value.{Width}
@@ -101,16 +102,13 @@ module _ (iids sids : ℕ) (code : ℕ → ℕ → Option ℕ) (coded : (a m c :
       → 3 < or_four (code animal marker) → Some (call animal marker) ≡ first_bad_call iids sids code
   called_at marker animal hm ha before here b = found_at iids sids (λ a m. or_four (code a m)) marker animal hm ha before here b ∙ found
 
--- ---- a scan of all values that keeps the worst
-pub grow :
-    (Q : ℕ → ℕ → Type 0) → ((k x y : ℕ) → x ≤ y → Q k x → Q k y) → (i x y : ℕ) → x ≤ y → ((k : ℕ) → k < i → Q k x) → Q i y → (k : ℕ) → k < i + 1 → Q k y
-grow Q mono i x y h before here k l =
-    by_lt k i (λ b. mono k x y h (before k b)) (λ b. let e : i ≡ k = omega arith in subst (λ (j : ℕ). Q j y) e here)
-
--- nothing counted so far and nothing here: a number of 4 or more would be counted
-pub none_counted : (number : ℕ → ℕ) (i bad n : ℕ) → (bad ≡ 0 → (k : ℕ) → k < i → number k < 4) → n ≡ number i → bad + n / 4 ≡ 0 → (k : ℕ) → k < i + 1 → number k < 4
-none_counted number i bad n before e z k l =
-    by_lt k i (λ b. before (omega arith) k b) (λ b. let q : i ≡ k = omega arith in subst (λ (j : ℕ). number j < 4) q (let h : n < 4 = omega arith in omega arith))
+-- ---- a look at all values
+-- none was bad so far, and this one is not
+pub none_so_far :
+    (number : ℕ → ℕ) (i : ℕ) (bad here : Bool) → (bad ≡ false → (k : ℕ) → k < i → number k < 4) → (here ≡ false → number i < 4)
+    → (bad || here) ≡ false → (k : ℕ) → k < i + 1 → number k < 4
+none_so_far number i true here before h e = absurd (let q : ◌≡◌ {A = ℕ} 0 1 = cc in omega arith)
+none_so_far number i false here before h e = below_more _ _ (before refl) (h e)
 
 -- no value at any place is bad
 pub all_good :

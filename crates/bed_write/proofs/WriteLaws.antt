@@ -1,8 +1,8 @@
 -- Laws of the whole-file writer: its checks, and what it answers and leaves by what was found.
-use mathlib.Core.Path.{◌≡◌, sym, ap, ◌∙◌}
+use mathlib.Core.Path.{◌≡◌, refl, sym, ap, ◌∙◌}
 use mathlib.Core.Bool.{Bool, true, false}
 use mathlib.Core.List.{List, [], ◌∷◌}
-use Rattle.std.specs.Prelude.{Option, Some, None}
+use Rattle.std.specs.Prelude.{Option, Some, None, Result, Ok, Err, IsErrAnd}
 use Prim.Native.Nat.{ℕ, ◌+◌, ◌-◌, ◌*◌, ◌^◌, ◌<◌, ◌≤◌}
 use native.Mathlib.Omega.{arith}
 use borrow.Author.Tests.{eqb-true, leb-true, eq-eqb, ne_eqb}
@@ -17,6 +17,9 @@ use Rattle.answer.proofs.AnswerLaws.{Stage, lets, refuses, check_stage, then_sta
 use Rattle.blocks.proofs.Widths.{Sized, width_given, size_stage}
 use Rattle.bed_write.specs.Packing.{or_zero}
 use Rattle.bed_write.specs.Writing.{value_code, first_bad_call, check_call, check_buffers, write_answer, bed_file, write_buffer}
+use Rattle.bed_write.specs.declared.write.WriteError.{WriteError}
+use Rattle.bed_write.specs.declared.write.WriteError.TheVariants as writes
+use Rattle.bed_write.specs.Says.{write_refusal, write_says}
 use Rattle.bed_write.proofs.FirstLaws.{place_coded}
 use Rattle.bed_write.proofs.SearchLaws.{call}
 
@@ -128,3 +131,21 @@ passed iids sids val_length out_length a e t =
     let d3 = check_done (eqb (iids * sids) val_length) 15 _ d2.1 in
     let d4 = check_done (eqb out_length (file_length iids sids)) 16 _ d3.1 in
     record { is_done_law = e ∙ h; pass = sym h; product = eqb-true (iids * sids) val_length d3.0; out_long = eqb-true out_length (file_length iids sids) d4.0; iids_fit = d0.0; sids_fit = d1.0; file_fits = leb-true (file_length iids sids) (2 ^ 64 - 1) d2.0 }
+
+-- ---- refusals as the code gives them
+-- of counts, by `?`
+pub size_told : (r : Result Unit WriteError) (n : ℕ) → IsErrAnd r (λ error. write_refusal error ≡ refused n []) → write_says r ≡ refused n []
+size_told (Ok _) n h = absurd h
+size_told (Err error) n h = h
+
+-- a refusal that is handed on
+pub error_kept : (r : Result Unit WriteError) (e : WriteError) → IsErrAnd r (λ error. error ≡ e) → write_says r ≡ write_refusal e
+error_kept (Ok _) e h = absurd h
+error_kept (Err error) e h = ap write_refusal h
+
+pub not_done : (e : WriteError) → is_done (write_refusal e) ≡ false
+not_done writes.CountTooLarge = refl
+not_done writes.IndexesTooBigForFiles = refl
+not_done writes.IndexMismatch = refl
+not_done writes.EncodingLength = refl
+not_done (writes.BadValue animal marker) = refl
