@@ -2,7 +2,6 @@
 use mathlib.Core.Path.{◌≡◌, refl, sym, ap, subst, ◌∙◌}
 use mathlib.Core.Bool.{Bool, true, false, cond}
 use mathlib.Core.List.{List}
-use Rattle.std.specs.Prelude.{Option}
 use Prim.Native.Nat.{ℕ, suc, ◌+◌, ◌<◌}
 use native.Mathlib.Omega.{arith}
 use borrow.Author.Tests.{eq-eqb, ne_eqb, eqb-true, le-ltb, ltb-true}
@@ -14,17 +13,13 @@ use lib.Signed.{mag, lt_z, non_neg}
 use mir.Syntax.{w8, w64}
 use mir.Val.{Fits, SFits, of_z, to_z}
 use mir.ValLaws.{to_z-of_z}
-use Rattle.answer.specs.Answer.{Answer}
 use Rattle.codes.specs.Value.{i8, same_int, code_of}
 use Rattle.codes.proofs.ValueLaws.{same_int_refl, same_int_eq}
 use Rattle.answer.proofs.Tests.{by_test}
 use Rattle.codes.proofs.ValueLaws.{zero_code, one_code_law, two_code, missing_code, number_bad}
-use Rattle.bed_write.specs.Packing.{place_code, encode_answer, encode_buffer}
-use Rattle.bed_write.specs.Writing.{value_code, first_bad_call}
 use Rattle.bed_write.specs.Groups.{or_four}
 use Rattle.bed_write.specs.Private.{byte_index, CodesOfBytes}
 use Rattle.bed_write.proofs.FirstLaws.{code_found, code_lacking}
-use Rattle.answer.proofs.Tabulate.{get_d_inside}
 
 -- ---- the place of an i8
 turn : (z : ℤ) → lt_z z (pos 0) ≡ true → (negsuc 0 -ℤ z ≡ pos (mag z)) × (128 + mag z ≡ byte_index z)

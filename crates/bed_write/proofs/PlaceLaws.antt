@@ -7,10 +7,7 @@ use Prim.Native.Nat.{ℕ, ◌+◌, ◌-◌, ◌*◌, ◌^◌, ◌<◌}
 use native.Mathlib.Nat.{mul_comm}
 use native.Mathlib.Omega.{arith}
 use lib.Arith.{digits_lt}
-use lib.IntN.{ℤ, pos}
-use lib.Ieee.{Float}
 use lib.ListN.{length, get_or}
-use lib.Signed.{mag}
 use Rattle.std.specs.Option.{is_none}
 use Rattle.codes.specs.Value.{Width, code_of}
 use Rattle.codes.specs.Code.{group_byte, packed_byte}

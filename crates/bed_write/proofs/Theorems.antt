@@ -129,3 +129,8 @@ one_marker_first_bad w flag missing order n val =
     last : (o : Option (ℕ × ℕ)) → or_else o None ≡ o
     last (Some x) = refl
     last None = refl
+
+pub one_marker_found :
+    {V : Type 0} (w : Width V) (flag : Bool) (missing : V) (order : Bool) (n : ℕ) (val : List V) (found : Option (ℕ × ℕ))
+    → found ≡ first_bad_call n 1 (value_code w flag missing order n 1 val) → animal_of found ≡ first_bad_animal n (place_code w flag missing val)
+one_marker_found w flag missing order n val found e = ap animal_of e ∙ one_marker_first_bad w flag missing order n val

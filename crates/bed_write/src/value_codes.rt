@@ -57,7 +57,7 @@ pub trait WriteVal: EncodeVal {
 }
 
 impl WriteVal for i8 {
-    // By the three tests, writing a matrix of i8 takes three times as long as by a table.
+    // By the three tests, writing a matrix of i8 takes twice as long as by a table, and more.
     type Across = ByteTable;
 
     fn across(coding: Coding<i8>) -> ByteTable
@@ -100,16 +100,14 @@ fn code_of_two(is_a1_counted: bool) -> u8
     if is_a1_counted { 0 } else { 3 }
 }
 
-// One of two numbers by a test. An `if` in its place takes twice the time, since it is compiled to a branch.
+// One of two codes by a test, both of them made before.
 fn choose(test: bool, yes: u8, no: u8) -> u8
-    requires { (yes < 5) × (no < 5) }
-    ensures { (result ≡ cond test yes no) × (result < 5) }
+    ensures { result ≡ cond test yes no }
 {
-    let k = u8::from(test);
-    k * yes + (1 - k) * no
+    if test { yes } else { no }
 }
 
-// The code of a value that is known not to be bad.
+// The code of a value that is known not to be bad. Every test is made: as a chain of `else if`, of which some are jumped over, it takes 3 to 14 times as long.
 fn good_code<T: EncodeVal>(value: T, is_a1_counted: bool) -> u8
     ensures { GoodCode T.width is_a1_counted value result }
 {

@@ -81,13 +81,11 @@ impl<'a, T: BedVal, C: Coder<T>> Writer<'a, T, C> {
         codes::byte_of(group.codes(&self.coder))
     }
 
-    // The end of the markers that are packed together from `from` on: one in marker order, and 16 in animal order, whose rows are read along.
-    fn tile_end(&self, from: usize) -> usize
-        requires { from < self.now.matrix.sid_count }
-        ensures { (from < result) × (result ≤ self.now.matrix.sid_count) }
+    // How many markers are packed together: one in marker order, and 16 in animal order, whose rows are read along.
+    fn tile(&self) -> usize
+        ensures { 0 < result }
     {
-        let tile = if self.matrix.animal_order { 16 } else { 1 };
-        from + tile.min(self.matrix.sid_count - from)
+        if self.matrix.animal_order { 16 } else { 1 }
     }
 
     // The file.
@@ -104,15 +102,14 @@ impl<'a, T: BedVal, C: Coder<T>> Writer<'a, T, C> {
         if width == 0 {
             return;
         }
-        let mut from = 0;
-        while from < self.matrix.sid_count {
-            let until = self.tile_end(from);
+        let tile = self.tile();
+        for from in (0..self.matrix.sid_count).step_by(tile) {
+            let until = from + tile.min(self.matrix.sid_count - from);
             for b in 0..width {
                 for m in from..until {
                     out[3 + m * width + b] = self.byte_at(m, b);
                 }
             }
-            from = until;
         }
     }
 }

@@ -10,16 +10,6 @@ use Rattle.product.proofs.StraightLaws.{straight_fits, straight_runs}
 use Rattle.product.proofs.LineLaws.{from_tile, from_bytes}
 use Rattle.product.proofs.sums.add_products.Goals as goal
 
-pub place-at-requires : goal.place-at-requires
-place-at-requires c =
-    let b = c.args.block.now in
-    (omega (arith, b.within, b.ready.some_lines), b.ready.some_terms)
-
-pub along-line-requires : goal.along-line-requires
-along-line-requires c =
-    let b = c.args.block.now in
-    (omega (arith, b.within), b.ready.some_terms)
-
 pub add_finite-requires : goal.add_finite-requires
 add_finite-requires c =
     let b = c.args.block.now in

@@ -1,5 +1,5 @@
-use mathlib.Core.Path.{◌≡◌, refl, ap, ◌∙◌}
-use Prim.Native.Nat.{ℕ, ◌+◌}
+use mathlib.Core.Path.{◌≡◌, refl, ◌∙◌}
+use Prim.Native.Nat.{◌+◌}
 use native.Mathlib.Omega.{arith}
 use lib.Ieee.{binary64}
 use Rattle.product.specs.Private.{block_more}
@@ -33,10 +33,3 @@ loop-r-preserved c =
       c.add_block.auto.piece ∙ w.invariant.3,
       turn (goal.at.loop-r-preserved c).After-add_block,
     )
-
-pub returns : goal.returns
-returns c =
-    let a = c.args in
-    let l = a.lines.now in
-    c.loop-r.invariant.4
-    ∙ ap (λ (z : ℕ). block_more binary64 a.width (line_value l) l.terms a.top z 0 a.width a.piece.now) (let u : c.loop-r.r ≡ a.bottom = omega arith in u)

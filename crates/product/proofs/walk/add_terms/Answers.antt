@@ -45,10 +45,3 @@ returns-2 c =
     let l = a.lines.now in
     turn (goal.at.returns-2 c).After-add_blocks
     ∙ ap (λ (z : ℕ). block_more binary64 a.width (line_value l) z a.top a.bottom 0 a.width a.piece.now) (let u : c.loop-k.k + c.min.result ≡ l.terms = omega arith in u)
-
-pub returns : goal.returns
-returns c =
-    let a = c.args in
-    let l = a.lines.now in
-    c.loop-k.invariant.3
-    ∙ ap (λ (z : ℕ). block_more binary64 a.width (line_value l) z a.top a.bottom 0 a.width a.piece.now) (let u : c.loop-k.k ≡ l.terms = omega arith in u)

@@ -1,7 +1,7 @@
-use Rattle.std.proofs.Common.{ℕ, ◌+◌, ◌*◌, sym, ap, ◌∙◌, arith}
+use Rattle.std.proofs.Common.{◌≡◌, ℕ, subst, rules, ◌+◌, ◌*◌, sym, ap, ◌∙◌, arith}
 use Rattle.bed_write.specs.Writing.{bed_file}
 use Rattle.bed_write.specs.Private.{by_tests, placed}
-use Rattle.bed_write.proofs.RowLaws.{byte_in, stored, row_done, tile_done, tile_starts, row_starts, all_done, whole_size, first_in, whole_byte, headed_rows, headed_done}
+use Rattle.bed_write.proofs.RowLaws.{Rows, stored, row_done, tile_done, tile_starts, row_starts, all_done, whole_size, first_in, whole_byte, headed_rows, headed_done}
 use Rattle.bed_write.proofs.write.Writer.write.Goals as goal
 
 pub returns-then-width-eq0 : goal.returns-then-width-eq0
@@ -24,7 +24,7 @@ loop-b-init g c =
     let m = s.matrix in
     let code = placed (by_tests g.T.BedVal.width (g.C.Coder.flag s.coder) (g.C.Coder.missing s.coder) m.val.now) m.animal_order m.iid_count m.sid_count in
     let written = bed_file m.iid_count m.sid_count code in
-    tile_starts written _ m.sid_count _ _ _ _ _ c.loop-from.invariant _ c.tile_end-until.ensures.1
+    tile_starts written _ m.sid_count _ _ _ _ _ c.loop-from.invariant _ (search rules)
 
 pub loop-m-init : goal.loop-m-init
 loop-m-init g c =
@@ -58,21 +58,28 @@ loop-b-preserved g c =
     let written = bed_file m.iid_count m.sid_count code in
     row_done written _ m.sid_count _ _ _ _ _ c.loop-m.invariant c.loop-m-test.false
 
-pub loop-from-smaller : goal.loop-from-smaller
-loop-from-smaller g c = omega (arith, c.tile_end-until.ensures.0, c.tile_end-until.ensures.1, c.loop-from-test.true)
-
 pub loop-from-preserved : goal.loop-from-preserved
 loop-from-preserved g c =
     let s = c.args.self.now in
     let m = s.matrix in
     let code = placed (by_tests g.T.BedVal.width (g.C.Coder.flag s.coder) (g.C.Coder.missing s.coder) m.val.now) m.animal_order m.iid_count m.sid_count in
     let written = bed_file m.iid_count m.sid_count code in
-    tile_done written _ m.sid_count _ _ _ _ _ c.loop-b.invariant c.loop-b-test.false
+    let e : c.loop-from.from + c.min.result ≡ c.loop-from.from + c.tile-tile.result = search rules in
+    subst (λ (x : ℕ). Rows written c.block_width-width.result m.sid_count c.loop-b.out x x 0 0) e (tile_done written _ m.sid_count _ _ _ _ _ c.loop-b.invariant c.loop-b-test.false)
 
-pub returns : goal.returns
-returns g c =
+pub returns-else-width-eq0 : goal.returns-else-width-eq0
+returns-else-width-eq0 g c =
     let s = c.args.self.now in
     let m = s.matrix in
     let code = placed (by_tests g.T.BedVal.width (g.C.Coder.flag s.coder) (g.C.Coder.missing s.coder) m.val.now) m.animal_order m.iid_count m.sid_count in
     let written = bed_file m.iid_count m.sid_count code in
     all_done written _ m.sid_count _ _ _ _ _ c.loop-from.invariant (whole_size m.iid_count m.sid_count code _ c.block_width-width.ensures) c.loop-from-test.false
+
+pub returns-else-width-eq0-2 : goal.returns-else-width-eq0-2
+returns-else-width-eq0-2 g c =
+    let s = c.args.self.now in
+    let m = s.matrix in
+    let code = placed (by_tests g.T.BedVal.width (g.C.Coder.flag s.coder) (g.C.Coder.missing s.coder) m.val.now) m.animal_order m.iid_count m.sid_count in
+    let written = bed_file m.iid_count m.sid_count code in
+    all_done written _ m.sid_count _ _ _ _ _ (tile_done written _ m.sid_count _ _ _ _ _ c.loop-b.invariant c.loop-b-test.false)
+    (whole_size m.iid_count m.sid_count code _ c.block_width-width.ensures) (search rules)
