@@ -19,16 +19,20 @@ unfoldable pub lists_answer : ℕ → ℕ → List ℤ → List ℤ → Answer
 unfolding check_count check_lists
 lists_answer iids sids iid_list sid_list = check_count iids (check_count sids (check_lists iids sids iid_list sid_list (done [])))
 
+-- what reading checks, and counting: 18; 15 for a buffer that has not m values for each marker named; the file's own checks; 5 and 6
+abbrev pub checks_answer : ℕ → List ℕ → ℕ → ℕ → List ℤ → List ℤ → ℕ → Answer
+checks_answer m file iids sids iid_list sid_list val_length =
+    check_count iids
+    (check_count sids
+    (check (eqb (m * length sid_list) val_length) 15
+    (check_file file iids sids
+    (check_lists iids sids iid_list sid_list (done [])))))
+
 -- "Reading checks 18, 15, 1 (under 3 bytes), 2 (first two bytes), 3, 4, 2 (length), 5, 6."
 -- 15: "value buffer is not the product of the two list lengths"
 unfoldable pub read_answer : List ℕ → ℕ → ℕ → List ℤ → List ℤ → ℕ → Answer
 unfolding check_count check check_file check_lists
-read_answer file iids sids iid_list sid_list val_length =
-    check_count iids
-    (check_count sids
-    (check (eqb (length iid_list * length sid_list) val_length) 15
-    (check_file file iids sids
-    (check_lists iids sids iid_list sid_list (done [])))))
+read_answer file iids sids iid_list sid_list val_length = checks_answer (length iid_list) file iids sids iid_list sid_list val_length
 
 -- "file order is the list 0, 1, 2 and so on": with it, reading reads everything
 unfoldable pub file_order : ℕ → List ℤ

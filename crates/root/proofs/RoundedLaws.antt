@@ -76,10 +76,10 @@ scaled_subnormal f K s e l (least, most) p = record {
 }
 
 -- and in the code, which moves them in 64 bits
-pub shifted_subnormal : (K l s : ℕ) → K < 2 ^ 52 → 2 ^ l ≤ K → K < 2 * 2 ^ l → l + s ≡ 52 → IsScaled binary64 (of_bits binary64 K) (K * 2 ^ s % 2 ^ 64) (1022 - s)
+pub shifted_subnormal : (K l s : ℕ) → K < 2 ^ 52 → 2 ^ l ≤ K → K < 2 * 2 ^ l → l + s ≡ 52 → IsScaled binary64 (of_bits binary64 K) (K * 2 ^ s % 2 ^ 64 % 2 ^ 52 + 2 ^ 52) (1022 - s)
 shifted_subnormal K l s k a b e =
     let m = moved_up l s 52 K a b e in
-    let fits : K * 2 ^ s ≡ K * 2 ^ s % 2 ^ 64 = omega (arith, m.1) in
+    let fits : K * 2 ^ s ≡ K * 2 ^ s % 2 ^ 64 % 2 ^ 52 + 2 ^ 52 = omega (arith, m.0, m.1) in
     subst (λ (d : ℕ). IsScaled binary64 (of_bits binary64 K) d (1022 - s)) fits
     (scaled_subnormal binary64 K s (1022 - s) k m (omega arith))
 

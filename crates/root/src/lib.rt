@@ -116,7 +116,7 @@ fn digits_of(bits: u64) -> Scaled
     }
     let shift = 52 - bits.ilog2();
     Scaled {
-        digits: bits << shift,
+        digits: (bits << shift) % LEADING + LEADING, // the leading digit once more, so that the compiler knows it
         exponent: 1022 - u64::from(shift),
     }
 }

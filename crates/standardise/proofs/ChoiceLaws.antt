@@ -7,13 +7,12 @@ use native.Mathlib.Nat.{add-zero}
 use native.Mathlib.Omega.{arith}
 use lib.ListN.{get_or, set}
 use lib.Ieee.{Float, nan, Format, div}
-use Rattle.answer.specs.Answer.{Answer, is_done, if_done}
 use Rattle.statistics.specs.declared.Stats.{Stats}
 use Rattle.std.specs.Prelude.{Option, Some, None, Result, Ok, Err}
 use Rattle.statistics.specs.declared.MarkerStats.{MarkerStats}
 use Rattle.statistics.specs.declared.MarkerError.{MarkerError}
 use Rattle.statistics.specs.declared.MarkerError.TheVariants.{NoIndividuals, IllegalSnpMean}
-use Rattle.statistics.specs.Statistics.{lent, found_with, one, is_infinite, standardised, in_places, stats_per_marker, marker_stats, found_for}
+use Rattle.statistics.specs.Statistics.{lent, one, is_infinite, standardised, in_places, stats_per_marker, marker_stats, found_for}
 use Rattle.standardise.specs.Standardised.{lent_or_new, kept_or_new, applied}
 use Rattle.standardise.specs.Private.{later_value, written, changed, stored_stats}
 use Rattle.statistics.specs.Statistics.{scaled_by}

@@ -10,7 +10,7 @@ use lib.Dec.{lit≤}
 use lib.IntN.{pos}
 use lib.ListN.{get_or}
 use lib.Ieee.{Float, nan, inf, binary64, of_int, add, mul, div, is_nan}
-use Rattle.std.specs.Prelude.{Result, Ok, Err}
+use Rattle.std.specs.Prelude.{Result, Err}
 use Rattle.statistics.specs.declared.MarkerStats.{MarkerStats}
 use Rattle.statistics.specs.declared.MarkerError.{MarkerError}
 use Rattle.statistics.specs.declared.MarkerError.TheVariants.{NoIndividuals, IllegalSnpMean}

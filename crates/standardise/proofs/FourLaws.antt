@@ -11,7 +11,7 @@ use Rattle.statistics.specs.declared.Accumulator.{Accumulator}
 use Rattle.statistics.specs.Statistics.{one, counted, accumulated}
 use Rattle.statistics.proofs.CountLaws.{accumulated_more}
 use Rattle.statistics.proofs.FloatLaws.{number_counted}
-use Rattle.standardise.specs.Private.{from, counted_four}
+use Rattle.standardise.specs.Private.{from, counted_four, Accumulates}
 
 -- one after the other
 pub each_counted :
@@ -47,6 +47,29 @@ accumulated_four f column n {a} {b} e s =
     let e2 = accumulated_more f column (n + 1) {a = counted f a (column n)} {b = counted f (counted f a (column n)) (column (n + 1))} refl e1 ∙ ap (accumulated f column) k2 in
     let e3 = accumulated_more f column (n + 2) {a = counted f (counted f a (column n)) (column (n + 1))} {b = counted f (counted f (counted f a (column n)) (column (n + 1))) (column (n + 2))} refl e2 ∙ ap (accumulated f column) k3 in
     accumulated_more f column (n + 3) e e3 ∙ ap (accumulated f column) k4
+
+-- one value more, and four numbers more, of any column
+module _ (f : Format) (a : Accumulator) (i : ℕ) (v0 v1 v2 v3 : Float) where
+  pub one_passed :
+      (b : Accumulator) (j : ℕ) → j ≡ i + 1 → b ≡ counted f a v0 → Accumulates f a i v0 v1 v2 v3 b j
+  one_passed b j k e =
+      (omega arith, omega arith, λ column e0 e1 e2 e3 s. accumulated_more f column i (e ∙ ap (counted f a) e0) s ∙ ap (accumulated f column) (sym k))
+
+  pub four_passed :
+      is_nan v0 ≡ false → is_nan v1 ≡ false → is_nan v2 ≡ false → is_nan v3 ≡ false
+      → Accumulates f a i v0 v1 v2 v3 (more f (more f (more f (more f a v0) v1) v2) v3) (i + 4)
+  four_passed n0 n1 n2 n3 = (
+    omega arith,
+    omega arith,
+    λ column e0 e1 e2 e3 s.
+        accumulated_four f column i {a = a} {b = more f (more f (more f (more f a v0) v1) v2) v3}
+        (four_counted f a v0 v1 v2 v3 n0 n1 n2 n3
+        ∙ ap (λ (x : Float). counted_four f a x v1 v2 v3) e0
+        ∙ ap (λ (x : Float). counted_four f a (column i) x v2 v3) e1
+        ∙ ap (λ (x : Float). counted_four f a (column i) (column (i + 1)) x v3) e2
+        ∙ ap (λ (x : Float). counted_four f a (column i) (column (i + 1)) (column (i + 2)) x) e3)
+        s,
+  )
 
 -- a place of a column
 pub column_place : (val : List Float) (start i j : ℕ) → get_or val (start + i + j) nan ≡ from val start (i + j)

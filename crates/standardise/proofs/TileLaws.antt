@@ -1,21 +1,21 @@
 -- Accumulators of neighbouring markers, animal by animal.
 use mathlib.Core.Path.{◌≡◌, refl, sym, ap, subst, ◌∙◌}
-use mathlib.Core.Bool.{Bool, true, false, cond}
+use mathlib.Core.Bool.{true, false}
 use mathlib.Core.List.{List}
 use Prim.Native.Nat.{ℕ, suc, ◌+◌, ◌*◌, ◌<◌, ◌≤◌}
 use native.Mathlib.Nat.{suc-mul, mul-le-mul_right, add_assoc, add-zero, add-mul}
 use native.Mathlib.Omega.{arith}
-use lib.Dec.{ltb, eqb}
-use lib.ListN.{length, get_or, set, length-set, replicate, get_or-replicate}
+use lib.Dec.{eqb}
+use lib.ListN.{length, get_or, replicate, get_or-replicate}
 use lib.Seq.{get_or-set_same, get_or-set_other}
 use lib.Ieee.{Float, nan, Format}
-use borrow.Author.Tests.{eqb-true, eqb-false, lt-ltb, le-ltb}
+use borrow.Author.Tests.{eqb-true, eqb-false}
 use Rattle.answer.specs.Answer.{Answer, if_done}
 use Rattle.answer.specs.Matrix.{matrix_place}
-use Rattle.answer.proofs.Tests.{by_test, leb_both}
+use Rattle.answer.proofs.Tests.{by_test}
 use Rattle.statistics.specs.declared.Accumulator.{Accumulator}
 use Rattle.standardise.specs.declared.animal_order.Accumulators.{Accumulators}
-use Rattle.std.specs.Prelude.{Result, Ok, Err}
+use Rattle.std.specs.Prelude.{Result}
 use Rattle.statistics.specs.declared.MarkerStats.{MarkerStats}
 use Rattle.statistics.specs.declared.MarkerError.{MarkerError}
 use Rattle.statistics.specs.Statistics.{plus_zero, start, counted, accumulated, found_for}

@@ -63,6 +63,14 @@ stored_stats found m stats =
 unfoldable pub counted_four : Format → Accumulator → Float → Float → Float → Float → Accumulator
 counted_four f a v0 v1 v2 v3 = counted f (counted f (counted f (counted f a v0) v1) v2) v3
 
+-- one to four values more: of each column whose values from place i on are v0 to v3, from the accumulator of its first i values to that of
+-- its first k
+abbrev pub Accumulates : Format → Accumulator → ℕ → Float → Float → Float → Float → Accumulator → ℕ → Type 0
+Accumulates f a i v0 v1 v2 v3 b k =
+    (i < k) × (k ≤ i + 4)
+    × ((column : ℕ → Float) → v0 ≡ column i → v1 ≡ column (i + 1) → v2 ≡ column (i + 2) → v3 ≡ column (i + 3)
+    → a ≡ accumulated f column i → b ≡ accumulated f column k)
+
 -- ---- a tile: neighbouring markers in animal order
 -- how many are taken at a time
 abbrev pub tile_width : ℕ

@@ -5,11 +5,11 @@ ghost use Rattle.answer.specs.Answer.{is_done};
 ghost use Rattle.statistics.specs.Statistics.{start, counted, accumulated, stats_per_marker, stats_at};
 ghost use Rattle.standardise.specs.Standardised.{value};
 ghost use Rattle.standardise.specs.Says.{standardise_says};
-ghost use Rattle.standardise.specs.Private.{BuffersFit, from, written, Processes, FindsStats, counted_rows, accumulator_at};
+ghost use Rattle.standardise.specs.Private.{BuffersFit, from, written, Processes, FindsStats, counted_four, counted_rows, accumulator_at};
 ghost use Rattle.standardise.specs.Private.{tile_width, accumulators_set, AreLong, TileStep, scale_at, scale_of, scaled_at, markers_applied, all_applied};
 
 use crate::answers::StandardiseError;
-use crate::{answers, four, stats_buffer};
+use crate::{answers, stats_buffer};
 use statistics::{Accumulator, Scale};
 
 // How many neighbouring markers are accumulated at a time in animal order.
@@ -30,6 +30,13 @@ struct Scales {
     means: [f64; TILE],
     deviations: [f64; TILE],
     factors: [f64; TILE],
+}
+
+// Four values more, each with its test.
+fn add_each(a: Accumulator, v0: f64, v1: f64, v2: f64, v3: f64) -> Accumulator
+    ensures { result ≡ counted_four binary64 a v0 v1 v2 v3 }
+{
+    a.add_value(v0).add_value(v1).add_value(v2).add_value(v3)
 }
 
 impl Accumulators {
@@ -85,7 +92,7 @@ impl Accumulators {
         let start2 = start1 + stride;
         let start3 = start2 + stride;
         for j in 0..width {
-            let a = four::add_each(
+            let a = add_each(
                 self.at(j),
                 val[start + j],
                 val[start1 + j],
@@ -160,7 +167,8 @@ impl Scales {
     {
         for j in 0..width {
             let at = start + j;
-            val[at] = self.at(j).scaled(val[at]);
+            let v = val[at];
+            val[at] = self.at(j).scaled(v);
         }
     }
 }

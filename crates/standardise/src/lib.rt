@@ -7,7 +7,6 @@ ghost use Rattle.standardise.specs.Says.{standardise_says};
 
 mod animal_order;
 mod answers;
-mod four;
 mod marker_order;
 mod stats_buffer;
 

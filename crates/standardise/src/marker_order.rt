@@ -1,13 +1,32 @@
 // A matrix in marker order: each marker in turn, whose values stand together.
-ghost use Rattle.std.specs.Prelude.{◌≡◌, false, ◌+◌, ◌≤◌, length};
+ghost use Rattle.std.specs.Prelude.{◌≡◌, false, ◌+◌, ◌^◌, ◌≤◌, ◌<◌, length};
 ghost use Rattle.std.specs.Float.{binary64};
 ghost use Rattle.statistics.specs.Statistics.{marker_stats, found_for, stats_at, standardised};
 ghost use Rattle.standardise.specs.Says.{standardise_says};
-ghost use Rattle.standardise.specs.Private.{StatsIn, BuffersFit, from, changed, later_value, stored_stats, Processes};
+ghost use Rattle.standardise.specs.Private.{StatsIn, BuffersFit, from, changed, later_value, stored_stats, Accumulates, Processes};
 
 use crate::answers::StandardiseError;
-use crate::{answers, four, stats_buffer};
+use crate::{answers, stats_buffer};
 use statistics::{Accumulator, MarkerError, MarkerStats, Stats};
+
+// Four values more where none is a NaN, so that no sum waits for a test; else one more, or a NaN passed over. With how many animals are passed then.
+fn add_some(a: Accumulator, i: usize, v0: f64, v1: f64, v2: f64, v3: f64) -> (Accumulator, usize)
+    requires { i + 4 < 2 ^ 64 }
+    ensures { Accumulates binary64 a i v0 v1 v2 v3 result.0 result.1 }
+{
+    if v0.is_nan() {
+        return (a, i + 1);
+    }
+    if v1.is_nan() || v2.is_nan() || v3.is_nan() {
+        return (a.add_value(v0), i + 1);
+    }
+    let four = Accumulator {
+        count: a.count + 1.0 + 1.0 + 1.0 + 1.0,
+        sum: a.sum + v0 + v1 + v2 + v3,
+        squares: a.squares + v0 * v0 + v1 * v1 + v2 * v2 + v3 * v3,
+    };
+    (four, i + 4)
+}
 
 // The statistics of the `iid_count` values from `start` on.
 fn column_stats(val: &[f64], start: usize, iid_count: usize) -> Result<MarkerStats, MarkerError>
@@ -15,11 +34,15 @@ fn column_stats(val: &[f64], start: usize, iid_count: usize) -> Result<MarkerSta
     ensures { result ≡ marker_stats binary64 iid_count (from val.now start) }
 {
     let mut a = Accumulator::default();
-    for four in 0..iid_count / 4 {
-        let at = start + four * 4;
-        a = four::add_four(a, val[at], val[at + 1], val[at + 2], val[at + 3]);
+    let mut passed = 0;
+    // A `while`, whose step is one or four: a `for` over fours, which tests each of a four with a NaN, took 1.03 of the time (2 % missing).
+    while iid_count - passed > 3 {
+        let at = start + passed;
+        let some = add_some(a, passed, val[at], val[at + 1], val[at + 2], val[at + 3]);
+        a = some.0;
+        passed = some.1;
     }
-    for i in iid_count / 4 * 4..iid_count {
+    for i in passed..iid_count {
         a = a.add_value(val[start + i]);
     }
     a.find_stats()

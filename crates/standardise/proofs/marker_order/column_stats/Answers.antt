@@ -1,26 +1,28 @@
--- `column_stats`: four values more, or one.
-use Rattle.std.proofs.Common.{◌≡◌, ◌+◌, ◌*◌, arith, ap, ◌∙◌}
+-- `column_stats`: some values more, or one.
+use Rattle.std.proofs.Common.{arith, refl}
 use lib.Ieee.{binary64}
 use Rattle.statistics.specs.Statistics.{accumulated}
 use Rattle.statistics.proofs.CountLaws.{accumulated_more, column_found}
-use Rattle.standardise.specs.Private.{from, counted_four}
-use Rattle.standardise.proofs.FourLaws.{column_place, accumulated_four}
+use Rattle.standardise.specs.Private.{from}
+use Rattle.standardise.proofs.FourLaws.{column_place}
 use Rattle.standardise.proofs.marker_order.column_stats.Goals as goal
 
-pub loop-four-init : goal.loop-four-init
+pub loop-passed-init : goal.loop-passed-init
 unfolding accumulated
-loop-four-init c = c.default-a.ensures
+loop-passed-init c = (omega arith, c.default-a.ensures)
 
-pub loop-four-preserved : goal.loop-four-preserved
-loop-four-preserved c =
-    let l = c.loop-four in
+pub loop-passed-smaller : goal.loop-passed-smaller
+loop-passed-smaller c = omega (arith, c.add_some-some.ensures.0, c.add_some-some.ensures.1, c.loop-passed-test.true)
+
+pub loop-passed-preserved : goal.loop-passed-preserved
+loop-passed-preserved c =
+    let l = c.loop-passed in
     let v = c.args.val.now in
     let b = c.args.start in
-    let n = l.four * 4 in
-    let next : n + 4 ≡ (l.four + 1) * 4 = omega arith in
-    accumulated_four binary64 (from v b) n
-    (c.add_four-a.ensures ∙ (λ k. counted_four binary64 l.a (from v b n) (column_place v b n 1 k) (column_place v b n 2 k) (column_place v b n 3 k))) l.invariant
-    ∙ ap (accumulated binary64 (from v b)) next
+    let e = c.add_some-some.ensures in (
+      omega (arith, e.1, c.loop-passed-test.true),
+      e.2 (from v b) refl (column_place v b l.passed 1) (column_place v b l.passed 2) (column_place v b l.passed 3) l.invariant.1,
+    )
 
 pub loop-i-preserved : goal.loop-i-preserved
 loop-i-preserved c = accumulated_more binary64 (from c.args.val.now c.args.start) c.loop-i.i c.add_value-a.ensures c.loop-i.invariant

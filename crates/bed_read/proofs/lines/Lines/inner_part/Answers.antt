@@ -1,0 +1,10 @@
+-- What the number adds that the entry means.
+use Rattle.std.proofs.Common.{rules, ◌≡◌, ap, subst, ◌<◌, ℕ, ◌^◌, Bool}
+use Rattle.bed_read.specs.Private.{count_of}
+use Rattle.bed_read.proofs.PartLaws.{entry_there}
+use Rattle.bed_read.proofs.lines.Lines.inner_part.Goals as goal
+
+pub returns : goal.returns
+returns g c =
+    let s = c.args.self.now in
+    entry_there _ _ _ s.file.now s.ready.shaped (search rules) s.ready.inner_good _ c.args.self.now.other c.item_at.ensures.1 _ _ _ c.requires c.item_at.ensures.0 c.part_of.ensures
