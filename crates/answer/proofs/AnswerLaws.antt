@@ -160,3 +160,7 @@ pub error_told :
     → (r : Result T E) (n : ℕ) → IsErrAnd r (λ error. n ≡ number_of error) → says r ≡ refused n []
 error_told says number_of told (Ok _) n h = absurd h
 error_told says number_of told (Err error) n h = told error ∙ ap (λ (k : ℕ). refused k []) (sym h)
+
+pub error_said : {T E : Type 0} (says : Result T E → Answer) (r : Result T E) (a : Answer) → IsErrAnd r (λ error. says (Err error) ≡ a) → says r ≡ a
+error_said says (Ok _) a h = absurd h
+error_said says (Err error) a h = h
