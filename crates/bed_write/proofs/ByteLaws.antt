@@ -5,13 +5,13 @@ use mathlib.Core.List.{List}
 use Prim.Native.Nat.{ℕ, suc, ◌+◌, ◌<◌}
 use native.Mathlib.Omega.{arith}
 use borrow.Author.Tests.{eq-eqb, ne_eqb, eqb-true, le-ltb, ltb-true}
-use lib.Dec.{T, eqb}
+use lib.Dec.{eqb}
 use lib.IntN.{ℤ, pos, negsuc, nat_abs, ◌-ℤ◌}
 use lib.ListN.{length, get_or, set, length-set, replicate, get_or-replicate, length-replicate}
 use lib.Seq.{get_or-set_same, get_or-set_other}
-use lib.Signed.{mag, lt_z, non_neg}
-use mir.Syntax.{w8, w64}
-use mir.Val.{Fits, SFits, of_z, to_z}
+use lib.Signed.{mag, lt_z}
+use mir.Syntax.{w8}
+use mir.Val.{SFits, of_z, to_z}
 use mir.ValLaws.{to_z-of_z}
 use Rattle.codes.specs.Value.{i8, same_int, code_of}
 use Rattle.codes.proofs.ValueLaws.{same_int_refl, same_int_eq}
@@ -37,12 +37,6 @@ module _ (x : ℤ) (m : ℕ) (e : x ≡ pos m) (h : m < 128) where
   told : to_z w8 (of_z w8 x) ≡ pos m
   told = ap (λ (y : ℤ). to_z w8 (of_z w8 y)) e ∙ to_z-of_z w8 (pos m) (record { sfits = h })
 
-  pub casts : T (non_neg (to_z w8 (of_z w8 x))) × Fits w64 (nat_abs (to_z w8 (of_z w8 x)))
-  casts = (
-    subst (λ (y : ℤ). T (non_neg y)) (sym told) tt,
-    subst (λ (y : ℤ). Fits w64 (nat_abs y)) (sym told) (record { fits = omega arith }),
-  )
-
   pub cast_is : nat_abs (to_z w8 (of_z w8 x)) ≡ m
   cast_is = ap nat_abs told
 
@@ -56,9 +50,6 @@ module _ (z : ℤ) (f : SFits w8 z) where
   module _ (h : lt_z (to_z w8 (of_z w8 z)) (pos 0) ≡ true) where
     pub turned : negsuc 0 -ℤ to_z w8 (of_z w8 z) ≡ pos (mag z)
     turned = ap (λ (y : ℤ). negsuc 0 -ℤ y) back ∙ (turn z (subst (λ (y : ℤ). lt_z y (pos 0) ≡ true) back h)).0
-
-    pub turned_fits : SFits w8 (negsuc 0 -ℤ to_z w8 (of_z w8 z))
-    turned_fits = subst (λ (y : ℤ). SFits w8 y) (sym turned) (record { sfits = f.sfits })
 
     pub index_turned : (x : ℕ) → x ≡ mag z → (128 + x ≡ byte_index z) × (128 + x < 256)
     index_turned x e = let b = small in let t = (turn z (subst (λ (y : ℤ). lt_z y (pos 0) ≡ true) back h)).1 in (omega arith, omega arith)

@@ -121,9 +121,6 @@ module _ {V : Type 0} (w : Width V) (flag : Bool) (missing : V) (vals : List V) 
             front_more new old out b p (omega arith) v (column_byte b c0 c1 c2 c3 full_four (omega arith) v e)
 
     module _ (h : b < length out) where
-      pub last_there : 4 * b < length vals
-      last_there = let l = out_long in let r = (width_room (length vals)).1 in omega arith
-
       module _ (c0 c1 c2 c3 : ℕ)
           (g : ((k : ℕ) → k < length vals - 4 * b → k < 4 → number b k < 4) → Four (in_group (length vals - 4 * b) (number b)) c0 c1 c2 c3) where
         last_four : Four (in_group (length vals - 4 * b) (number b)) c0 c1 c2 c3

@@ -3,10 +3,8 @@ use mathlib.Core.Path.{◌≡◌, refl, sym, ap, subst, ◌∙◌}
 use mathlib.Core.Bool.{Bool, true, false, cond}
 use mathlib.Core.List.{List}
 use Rattle.std.specs.Prelude.{Option, Some, None}
-use Prim.Native.Nat.{ℕ, ◌+◌, ◌-◌, ◌*◌, ◌^◌, ◌<◌}
-use native.Mathlib.Nat.{mul_comm}
+use Prim.Native.Nat.{ℕ, ◌+◌, ◌-◌, ◌*◌, ◌<◌}
 use native.Mathlib.Omega.{arith}
-use lib.Arith.{digits_lt}
 use lib.ListN.{length, get_or}
 use Rattle.std.specs.Option.{is_none}
 use Rattle.codes.specs.Value.{Width, code_of}
@@ -23,20 +21,7 @@ use Rattle.bed_write.proofs.GroupLaws.{good_four, group_byte_law}
 use Rattle.bed_write.proofs.SearchLaws.{none_over}
 use Rattle.bed_write.proofs.WriteLaws.{value_coded}
 
--- ---- places of a matrix
-module _ (i m iids sids : ℕ) (hi : i < iids) (hm : m < sids) (f : iids * sids < 2 ^ 64) where
-  pub by_animal : i * sids + m < 2 ^ 64
-  by_animal = let d : i * sids + m < iids * sids = digits_lt hi hm in omega arith
-
-  pub by_animal_times : i * sids < 2 ^ 64
-  by_animal_times = let d = by_animal in omega arith
-
-  pub by_marker : m * iids + i < 2 ^ 64
-  by_marker = let d : m * iids + i < sids * iids = digits_lt hm hi in let c = mul_comm sids iids in omega arith
-
-  pub by_marker_times : m * iids < 2 ^ 64
-  by_marker_times = let d = by_marker in omega arith
-
+-- ---- places of a matrix, by the order
 pub order_true : (order : Bool) (iids sids i m : ℕ) → order ≡ true → i * sids + m ≡ matrix_place order iids sids i m
 unfolding matrix_place
 order_true order iids sids i m e = ap (λ (o : Bool). matrix_place o iids sids i m) (sym e)

@@ -15,7 +15,7 @@ use statistics::{Accumulator, Scale};
 // How many neighbouring markers are accumulated at a time in animal order.
 const TILE: usize = 1024;
 
-// The accumulators of the markers of a tile: three arrays, so that neighbouring markers are counted at once.
+// The accumulators of the markers of a tile: three arrays, each walked from front to back.
 #[derive(Drop)]
 struct Accumulators {
     counts: [f64; TILE],
@@ -23,8 +23,7 @@ struct Accumulators {
     squares: [f64; TILE],
 }
 
-// The statistics of the markers of a tile, with the reciprocals of the deviations: three arrays, so that neighbouring markers are
-// standardised at once.
+// The statistics of the markers of a tile, with the reciprocals of the deviations: three arrays, each walked from front to back.
 #[derive(Drop)]
 struct Scales {
     means: [f64; TILE],
@@ -227,6 +226,7 @@ fn apply_all(val: &mut [f64], iid_count: usize, sid_count: usize, stats: &[f64])
     ensures { val.new ≡ all_applied binary64 iid_count sid_count stats.now val.old }
 {
     let mut base = 0;
+    // A `while`, since the last tile may be narrower.
     while base < sid_count {
         let width = (sid_count - base).min(TILE);
         apply_tile(val, iid_count, sid_count, base, width, stats);
