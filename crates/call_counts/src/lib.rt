@@ -7,36 +7,22 @@ ghost use Rattle.call_counts.specs.Private.{Ready, InOrder, Along, EntryParts, c
 ghost use Rattle.bed_read.specs.Says.{read_says};
 
 mod bits;
-mod checks;
 mod table;
 mod tallies;
 
-use bed_read::ReadAnswer;
+use bed_read::ReadError;
 use calls::Shape;
-
-// All counts 0.
-fn clear(counts: &mut [u64])
-    ensures { (length counts.new ≡ length counts.old)
-        × ((p : ℕ) → p < length counts.old → get_or counts.new p 0 ≡ 0) }
-{
-    let mut i = 0;
-    while i < counts.len() {
-        counts[i] = 0;
-        i += 1;
-    }
-}
+use entries::{IidIndex, SidIndex};
 
 // Whether the entries of the animal list mean 0, 1, 2 and so on.
 fn is_in_order(iid_count: usize, iid_index: &[i64]) -> bool
     ensures { result ≡ true → InOrder iid_count iid_index.now (length iid_index.now) }
 {
-    let mut k = 0;
-    while k < iid_index.len() {
-        let iid = entries::iid_of(iid_count, iid_index[k]);
+    for k in 0..iid_index.len() {
+        let iid: IidIndex = entries::item_of(iid_count, iid_index[k]);
         if iid.0 != k {
             return false;
         }
-        k += 1;
     }
     true
 }
@@ -45,10 +31,7 @@ fn is_in_order(iid_count: usize, iid_index: &[i64]) -> bool
 fn is_along(shape: Shape, iid_index: &[i64]) -> bool
     ensures { result ≡ true → Along shape iid_index.now }
 {
-    if shape.mode1 {
-        return is_in_order(shape.iids, iid_index);
-    }
-    false
+    shape.mode1 && is_in_order(shape.iids, iid_index)
 }
 
 // How many entries are tallied together: in order what a tally holds, in whole bytes, else as many as are resolved, fewer where each is a block.
@@ -69,10 +52,7 @@ fn run_length(from: usize, len: usize, limit: usize) -> usize
     requires { (from < len) × (0 < limit) }
     ensures { (0 < result) × (from + result ≤ len) × (result ≤ limit) × (from + result < len → result ≡ limit) }
 {
-    if len - from < limit {
-        return len - from;
-    }
-    limit
+    limit.min(len - from)
 }
 
 // What n entries of the animal list, from `from` on, add to where a call stands.
@@ -87,14 +67,11 @@ fn resolve(
     requires { (from + n ≤ length iid_index.now) × (n ≤ 2048) × (length bytes.old ≡ 2048) × (length places.old ≡ 2048) }
     ensures { EntryParts shape iid_index.now from n bytes.new places.new }
 {
-    let mut k = 0;
-    while k < n {
-        let at = from + k;
-        let iid = entries::iid_of(shape.iids, iid_index[at]);
-        let part = calls::iid_part(shape, iid);
+    for k in 0..n {
+        let iid: IidIndex = entries::item_of(shape.iids, iid_index[from + k]);
+        let part = calls::part_of(shape, iid);
         bytes[k] = part.byte;
         places[k] = part.place as u8;
-        k += 1;
     }
 }
 
@@ -143,13 +120,11 @@ fn count_run(
         (4 * length sid_index.now) (from + n) counts.new }
 {
     let first = from / 4;
-    let mut m = 0;
-    while m < sid_index.len() {
-        let sid = entries::sid_of(shape.sids, sid_index[m]);
-        let part = calls::sid_part(shape, sid);
+    for m in 0..sid_index.len() {
+        let sid: SidIndex = entries::item_of(shape.sids, sid_index[m]);
+        let part = calls::part_of(shape, sid);
         let packed = tallies::tally_run(file, part, along, first, bytes, places, n, table, weights);
         tallies::add_tally(counts, 4 * m, packed);
-        m += 1;
     }
 }
 
@@ -165,7 +140,7 @@ fn count_all(file: &[u8], shape: Shape, iid_index: &[i64], sid_index: &[i64], co
     let limit = run_limit(shape.mode1, along);
     let mut bytes = [0usize; 2048];
     let mut places = [0u8; 2048];
-    clear(counts);
+    counts.fill(0);
     let mut from = 0;
     while from < iid_index.len() {
         let n = run_length(from, iid_index.len(), limit);
@@ -186,21 +161,20 @@ pub fn count_calls(
     iid_index: &[i64],
     sid_index: &[i64],
     counts: &mut [u64],
-) -> ReadAnswer
+) -> Result<(), ReadError>
     ensures { CountsCalls file.now iid_count sid_count iid_index.now sid_index.now
         (read_says result) counts.old counts.new }
 {
-    let checked = checks::check_counts(
+    bed_read::check_read(
         file,
         iid_count,
         sid_count,
         iid_index,
         sid_index,
+        4,
         counts.len(),
-    );
-    if bed_read::is_done(checked) {
-        let shape = calls::shape_of(file, iid_count, sid_count);
-        count_all(file, shape, iid_index, sid_index, counts);
-    }
-    checked
+    )?;
+    let shape = calls::shape_of(file, iid_count, sid_count);
+    count_all(file, shape, iid_index, sid_index, counts);
+    Ok(())
 }

@@ -21,10 +21,6 @@ use Rattle.bed_read.proofs.BufferLaws.{read_length, buffer_values, buffer_kept}
 use Rattle.statistics.specs.Statistics.{stats_per_marker}
 use Rattle.standardise.specs.Standardised.{buffer_checks, lowest_refused, new_stats, new_values, standardise_answer, later_stats, later_values}
 use Rattle.standardise.proofs.CallLaws.{checks_pass}
-use Rattle.std.specs.Prelude.{Err}
-use Rattle.bed_read.specs.Says.{read_says}
-use Rattle.bed_read.specs.declared.checks.ReadError.{ReadError}
-use Rattle.bed_read.specs.declared.checks.ReadError.TheVariants as errors
 use Rattle.read_standardised.specs.Joined.{joined_checks, read_nan, joined_answer, joined_stats, joined_values, Joins}
 use Rattle.read_standardised.specs.Ways.{in_turn, as_read, answers_of, values_left, stats_left, GoesBy}
 
@@ -255,10 +251,3 @@ module _ (f : Format) (file : List ℕ) (iids sids : ℕ) (flag : Bool) (il sl :
       ≡ new_stats f order (length il) (length sl) (read_nan f file iids sids flag il sl order val stats) false stats
   unfolding joined_stats
   stats_are = ap (λ (x : Answer). if_done x (new_stats f order (length il) (length sl) (read_nan f file iids sids flag il sl order val stats) false stats) stats) (hears (done []))
-
--- ---- a refusal of the reading is no answer
-pub read_refuses : (error : ReadError) → is_done (read_says (Err error)) ≡ false
-read_refuses errors.IndexMismatch = refl
-read_refuses (errors.File error) = refl
-read_refuses (errors.IidIndexTooBig e) = refl
-read_refuses (errors.SidIndexTooBig e) = refl

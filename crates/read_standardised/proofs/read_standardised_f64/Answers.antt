@@ -8,8 +8,9 @@ use borrow.Author.Tests.{not-true, not-false}
 use mathlib.Core.Bool.{true, false}
 use Rattle.answer.specs.Answer.{done, refused}
 use Rattle.answer.proofs.AnswerLaws.{error_said}
+use Rattle.bed_read.proofs.ReadLaws.{error_refuses}
 use Rattle.read_standardised.specs.Says.{joined_says}
-use Rattle.read_standardised.proofs.JoinLaws.{read_refuses, iids_too_large, sids_too_large, values_mismatch, stats_mismatch, call_refused, standardised_after, refused_after}
+use Rattle.read_standardised.proofs.JoinLaws.{iids_too_large, sids_too_large, values_mismatch, stats_mismatch, call_refused, standardised_after, refused_after}
 use Rattle.read_standardised.proofs.Never14.{never_14_after}
 use Rattle.read_standardised.proofs.read_standardised_f64.Goals as goal
 
@@ -48,5 +49,5 @@ unfolding of_bits div
 returns-in_err-read_no_alloc c =
     let read = c.in_err-read_no_alloc.ensures in
     let kept = refused_after binary64 c.args.file.now c.args.iid_count c.args.sid_count c.args.is_a1_counted c.args.iid_index.now c.args.sid_index.now c.args.animal_order c.args.val.now c.args.stats.now (omega (arith, c.well_formed.1.1.1.1.0.1)) (omega (arith, c.well_formed.1.1.1.1.1.0.1)) (sym c.product_is-2.ensures ∙ not-false _ c.if-not-product_is-2.false-raw)
-    _ _ _ refl read.0 read.1 false (sym (read_refuses _)) refl in
+    _ _ _ refl read.0 read.1 false (sym (error_refuses _)) refl in
     (error_said joined_says _ _ c.from_residual.ensures.1 ∙ kept.0, kept.1, kept.2)
