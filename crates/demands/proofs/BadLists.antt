@@ -18,7 +18,9 @@ use Rattle.bed_read.specs.Reading.{check_lists, read_answer}
 use Rattle.bed_file.proofs.FileLaws.{file_other}
 use Rattle.bed_read.proofs.ReadLaws.{read_accepted}
 use Rattle.statistics.specs.declared.MarkerStats.{MarkerStats}
-use Rattle.statistics.specs.declared.MarkerStats.TheVariants.{Lent, Found, NoIndividuals, IllegalSnpMean}
+use Rattle.statistics.specs.declared.MarkerError.{MarkerError}
+use Rattle.statistics.specs.declared.MarkerError.TheVariants.{NoIndividuals, IllegalSnpMean}
+use Rattle.std.specs.Prelude.{Result, Ok, Err}
 use Rattle.statistics.specs.Statistics.{stats_per_marker}
 use Rattle.standardise.specs.Standardised.{marker_answer, markers_answer, found, lowest_refused}
 use Rattle.read_standardised.specs.Joined.{joined_checks, read_nan, joined_answer}
@@ -118,14 +120,13 @@ unfolding if_done
 if_high (done vs) b ha hb = hb
 if_high (refused n vs) b ha hb = ha
 
-marker_high : (m : ℕ) (x : MarkerStats) → High (marker_answer m x)
+marker_high : (m : ℕ) (x : Result MarkerStats MarkerError) → High (marker_answer m x)
 unfolding marker_answer number
-marker_high m (Lent s) n vs e = done_high n vs e
-marker_high m (Found s observed) n vs e = done_high n vs e
-marker_high m NoIndividuals n vs e = let q : 13 ≡ n = ap number e in omega arith
-marker_high m IllegalSnpMean n vs e = let q : 14 ≡ n = ap number e in omega arith
+marker_high m (Ok s) n vs e = done_high n vs e
+marker_high m (Err NoIndividuals) n vs e = let q : 13 ≡ n = ap number e in omega arith
+marker_high m (Err IllegalSnpMean) n vs e = let q : 14 ≡ n = ap number e in omega arith
 
-markers_high : (stats : ℕ → MarkerStats) (n : ℕ) → High (markers_answer stats n)
+markers_high : (stats : ℕ → Result MarkerStats MarkerError) (n : ℕ) → High (markers_answer stats n)
 unfolding markers_answer
 markers_high stats zero = done_high
 markers_high stats (suc n) = if_high (markers_answer stats n) (marker_answer n (stats n)) (markers_high stats n) (marker_high n (stats n))

@@ -57,7 +57,7 @@ module _ (file : List ℕ) (iids sids : ℕ) (d : is_done (accept_answer file ii
       → (a m : ℕ) → a < iids → m < sids
       → get_or (read_buffer w file iids sids flag (file_order iids) (file_order sids) missing order buffer) (matrix_place order iids sids a m) missing
       ≡ value_of w flag missing (call_code file iids sids a m)
-  read_at w flag missing order buffer l a m ha hm =
+  read_at {V} w flag missing order buffer l a m ha hm =
       ap (λ (x : List V). get_or x (matrix_place order iids sids a m) missing)
       (buffer_values w file iids sids flag (file_order iids) (file_order sids) missing order buffer (ap is_done (all_answer (length buffer) l)))
       ∙ read_cell w flag missing order file iids sids (file_order iids) (file_order sids) iids sids (order_length iids) (order_length sids) missing a m ha hm

@@ -1,11 +1,10 @@
 -- The worked examples that document 01 marks P, about the definitions that the contracts cite.
-use Rattle.std.specs.Prelude.{◌≡◌, true, false, List, [], ◌∷◌, ℕ, ◌-◌, ◌^◌, pos, negsuc}
+use Rattle.std.specs.Prelude.{◌≡◌, true, false, List, [], ◌∷◌, ℕ, ◌-◌, ◌^◌, pos, negsuc, Some}
 use Rattle.answer.specs.Answer.{done, refused}
 use Rattle.blocks.specs.Block.{div_answer}
 use Rattle.entries.specs.Entry.{entry_answer}
 use Rattle.codes.specs.Value.{Width, i8}
 use Rattle.index.specs.declared.Index.TheVariants as Index
-use Rattle.index.specs.declared.slice.SliceEnd.TheVariants as SliceEnd
 use Rattle.index.specs.Checks.{index_buffer}
 use Rattle.bed_file.specs.File.{accept_answer}
 use Rattle.bed_read.specs.Reading.{file_order, read_buffer}
@@ -59,7 +58,7 @@ pub record SmallHerds : Type 1 where
   pub seven_markers : div_answer (2 ^ 63 - 1) 7 ≡ done (pos (2 ^ 61) ∷ [])
   -- "Count 6, slice 1 to 6 step −2: 5, 3, 1."
   pub slice_down :
-      index_buffer (Index.NDSliceInfo (record { start = pos 1; end = SliceEnd.At (pos 6); step = negsuc 1 })) 6 [] [] (pos 0 ∷ pos 0 ∷ pos 0 ∷ [])
+      index_buffer (Index.NDSliceInfo (record { start = pos 1; end = Some (pos 6); step = negsuc 1 })) 6 (pos 0 ∷ pos 0 ∷ pos 0 ∷ [])
       ≡ pos 5 ∷ pos 3 ∷ pos 1 ∷ []
   -- "i8 column 0, −127, 1, 2, 2, counted, missing −127: 27 00."
   pub column_packed :
