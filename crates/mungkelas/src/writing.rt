@@ -1,16 +1,29 @@
 // Packing one marker's values, and writing a whole file.
+ghost use Rattle.codes.specs.Value.{i8, float};
 ghost use Rattle.mungkelas.specs.Header.{BedEncode1, BedWrite};
 
 use bed_answer::BedAnswer;
-use bed_write::{EncodeVal, WriteVal};
+use bed_write::WriteVal;
 
-pub fn bed_encode1<T: EncodeVal>(
-    in_vector: &[T],
+// One for each type: of a type parameter a slice may have 2^63 values and more, and the place of a bad one would not fit.
+pub fn bed_encode1_i8(
+    in_vector: &[i8],
     out_vector: &mut [u8],
     is_a1_counted: bool,
-    missing: T,
+    missing: i8,
 ) -> BedAnswer
-    ensures { BedEncode1 T.width in_vector.now is_a1_counted missing result out_vector.old out_vector.new }
+    ensures { BedEncode1 i8 in_vector.now is_a1_counted missing result out_vector.old out_vector.new }
+{
+    BedAnswer::from(bed_write::encode1(in_vector, out_vector, is_a1_counted, missing))
+}
+
+pub fn bed_encode1_f64(
+    in_vector: &[f64],
+    out_vector: &mut [u8],
+    is_a1_counted: bool,
+    missing: f64,
+) -> BedAnswer
+    ensures { BedEncode1 float in_vector.now is_a1_counted missing result out_vector.old out_vector.new }
 {
     BedAnswer::from(bed_write::encode1(in_vector, out_vector, is_a1_counted, missing))
 }
