@@ -14,7 +14,7 @@ pub fn bed_encode1_i8(
 ) -> BedAnswer
     ensures { BedEncode1 i8 in_vector.now is_a1_counted missing result out_vector.old out_vector.new }
 {
-    BedAnswer::from(bed_write::encode1(in_vector, out_vector, is_a1_counted, missing))
+    BedAnswer::from(bed_write::encode1::<i8>(in_vector, out_vector, is_a1_counted, missing))
 }
 
 pub fn bed_encode1_f64(
@@ -25,7 +25,7 @@ pub fn bed_encode1_f64(
 ) -> BedAnswer
     ensures { BedEncode1 float in_vector.now is_a1_counted missing result out_vector.old out_vector.new }
 {
-    BedAnswer::from(bed_write::encode1(in_vector, out_vector, is_a1_counted, missing))
+    BedAnswer::from(bed_write::encode1::<f64>(in_vector, out_vector, is_a1_counted, missing))
 }
 
 pub fn bed_write<T: WriteVal>(
