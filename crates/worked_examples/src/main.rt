@@ -33,7 +33,11 @@ fn decode_number(answer: Result<(), DecodeError>) -> u64 {
 fn plink_written(rt: &impl Print, val: &[i8]) -> io::Result<()> {
     let mut out = [0u8; 9];
     let w = BedAnswer::from(bed_write::write_val(val, 6, 3, false, true, -127i8, &mut out));
-    println!(rt; "the same, written again, its bytes 6C 1B 01 DC 0F E7 0F 6B 01: saw answer {}:{}", w.number, Bytes(&out))
+    println!(rt;
+        "the same, written again, its bytes 6C 1B 01 DC 0F E7 0F 6B 01: saw answer {}:{}",
+        w.number,
+        Bytes(&out)
+    )
 }
 
 fn plink_example(rt: &impl Print) -> io::Result<()> {
@@ -41,9 +45,19 @@ fn plink_example(rt: &impl Print) -> io::Result<()> {
     let iids = [0i64, 1, 2, 3, 4, 5];
     let sids = [0i64, 1, 2];
     let mut val = [9i8; 18];
-    let a = BedAnswer::from(bed_read::read_no_alloc(file, 6, 3, true, &iids, &sids, -127i8, false, &mut val));
-    print!(rt; "PLINK 1.9 format reference, its example of 6 samples and 3 variants, dosages 2 0 NA 0 0 0 / 0 NA 1 0 0 0 / 0 1 1 NA NA 2: saw answer {}:", a.number)?;
-    println!(rt; "{}{}{}", Dosages(&val[0..6]), Dosages(&val[6..12]), Dosages(&val[12..18]))?;
+    let a = BedAnswer::from(bed_read::read_no_alloc(
+        file, 6, 3, true, &iids, &sids, -127i8, false, &mut val,
+    ));
+    print!(rt;
+        "PLINK 1.9 format reference, its example of 6 samples and 3 variants, dosages 2 0 NA 0 0 0 / 0 NA 1 0 0 0 / 0 1 1 NA NA 2: saw answer {}:",
+        a.number
+    )?;
+    println!(rt;
+        "{}{}{}",
+        Dosages(&val[0..6]),
+        Dosages(&val[6..12]),
+        Dosages(&val[12..18])
+    )?;
     plink_written(rt, &val)
 }
 
@@ -52,7 +66,15 @@ fn one_call(rt: &impl Print, asked: &str, animal: i64, marker: i64) -> io::Resul
     let file = b"\x6C\x1B\x00\x0C\x0D\x0A\x03\x08";
     let mut val = [9.0];
     let a = BedAnswer::from(bed_read::read_no_alloc(
-        file, 5, 2, true, &[animal], &[marker], f64::NAN, false, &mut val,
+        file,
+        5,
+        2,
+        true,
+        &[animal],
+        &[marker],
+        f64::NAN,
+        false,
+        &mut val,
     ));
     println!(rt; "{asked}: saw{}, value{}", Said(a), Floats(&val))
 }
@@ -84,48 +106,71 @@ fn single_codes(rt: &impl Print) -> io::Result<()> {
     let by_animal = b"\x6C\x1B\x00\x0C\x0D\x0A\x03\x08";
     let code = calls::call_code(file, 5, 2, IidIndex(1), SidIndex(0));
     let same = calls::call_code(by_animal, 5, 2, IidIndex(1), SidIndex(0));
-    println!(rt; "the code of animal 1 at marker 0, missing, in F and in the file of mode 0: saw {code}, {same}")
+    println!(rt;
+        "the code of animal 1 at marker 0, missing, in F and in the file of mode 0: saw {code}, {same}"
+    )
 }
 
 fn show_codes(rt: &impl Print, bytes: &[u8]) -> io::Result<()> {
     let one = Code(block::code_in_block(bytes, 5, IidIndex(1)));
     let four = Code(block::code_in_block(bytes, 5, IidIndex(4)));
     let five = Code(block::code_in_block(bytes, 5, IidIndex(5)));
-    println!(rt; "its codes of animals 1, 4 and 5, missing, two copies and refusal 5: saw{one},{four},{five}")
+    println!(rt;
+        "its codes of animals 1, 4 and 5, missing, two copies and refusal 5: saw{one},{four},{five}"
+    )
 }
 
 // One marker's block, by the functions with plain parameters.
 fn block_packed(rt: &impl Print, bytes: &mut [u8]) -> io::Result<()> {
     let n = pack_number(block::encode_block(bytes, 5, &[0i8, -127, 1, 2, 2], true, -127i8));
-    println!(rt; "document 01, i8 column 0, -127, 1, 2, 2, counted, missing -127: 27 00, packed as a block: saw answer {n}:{}", Bytes(bytes))
+    println!(rt;
+        "document 01, i8 column 0, -127, 1, 2, 2, counted, missing -127: 27 00, packed as a block: saw answer {n}:{}",
+        Bytes(bytes)
+    )
 }
 
 fn block_decoded(rt: &impl Print, bytes: &[u8]) -> io::Result<()> {
     let mut back = [9i8; 5];
     let n = decode_number(block::decode_block(bytes, 5, true, -127i8, &mut back));
-    println!(rt; "the same block decoded, the column: saw answer {n}:{}", Dosages(&back))
+    println!(rt;
+        "the same block decoded, the column: saw answer {n}:{}",
+        Dosages(&back)
+    )
 }
 
 fn block_f64(rt: &impl Print, bytes: &[u8], values: &mut [f64]) -> io::Result<()> {
     let n = decode_number(block::decode_block(bytes, 5, false, 9.0f64, values));
-    println!(rt; "the same block, not counted, as f64 with missing 9, values 2, 9, 1, 0, 0: saw answer {n}:{}", Floats(values))
+    println!(rt;
+        "the same block, not counted, as f64 with missing 9, values 2, 9, 1, 0, 0: saw answer {n}:{}",
+        Floats(values)
+    )
 }
 
 fn block_again(rt: &impl Print, bytes: &mut [u8], values: &[f64]) -> io::Result<()> {
     let n = pack_number(block::encode_block(bytes, 5, values, false, 9.0f64));
-    println!(rt; "the same packed again, 27 00: saw answer {n}:{}", Bytes(bytes))
+    println!(rt;
+        "the same packed again, 27 00: saw answer {n}:{}",
+        Bytes(bytes)
+    )
 }
 
 fn block_kept(rt: &impl Print, bytes: &mut [u8]) -> io::Result<()> {
     let n = pack_number(block::encode_block(bytes, 5, &[2i8, 0, 1, 0, 3], true, -127i8));
-    println!(rt; "document 02, a bad value in the second group of four is 7, and the block keeps 27 00: saw answer {n}:{}", Bytes(bytes))
+    println!(rt;
+        "document 02, a bad value in the second group of four is 7, and the block keeps 27 00: saw answer {n}:{}",
+        Bytes(bytes)
+    )
 }
 
 fn block_lengths(rt: &impl Print, bytes: &mut [u8], values: &[f64]) -> io::Result<()> {
     let short = pack_number(block::encode_block(bytes, 6, values, false, 9.0f64));
-    println!(rt; "document 01, a value buffer that is not the count is 15, 5 values for 6 animals: saw {short}")?;
+    println!(rt;
+        "document 01, a value buffer that is not the count is 15, 5 values for 6 animals: saw {short}"
+    )?;
     let long = pack_number(block::encode_block(bytes, 9, values, false, 9.0f64));
-    println!(rt; "document 01, encode1 checks 16 first, 2 bytes and 5 values for 9 animals: saw {long}")
+    println!(rt;
+        "document 01, encode1 checks 16 first, 2 bytes and 5 values for 9 animals: saw {long}"
+    )
 }
 
 fn one_block(rt: &impl Print) -> io::Result<()> {
@@ -141,7 +186,13 @@ fn one_block(rt: &impl Print) -> io::Result<()> {
 }
 
 // A column and its statistics, standardised.
-fn column(rt: &impl Print, asked: &str, val: &mut [f64], iids: usize, animal_order: bool) -> io::Result<()> {
+fn column(
+    rt: &impl Print,
+    asked: &str,
+    val: &mut [f64],
+    iids: usize,
+    animal_order: bool,
+) -> io::Result<()> {
     let mut stats = [9.0, 9.0, 9.0];
     let a = BedAnswer::from(standardise::impute_and_zero_mean_snps_f64(
         val,
@@ -152,7 +203,12 @@ fn column(rt: &impl Print, asked: &str, val: &mut [f64], iids: usize, animal_ord
         false,
         &mut stats,
     ));
-    println!(rt; "{asked}: saw{}, mean, deviation and observed count{}, values{}", Said(a), Floats(&stats), Floats(val))
+    println!(rt;
+        "{asked}: saw{}, mean, deviation and observed count{}, values{}",
+        Said(a),
+        Floats(&stats),
+        Floats(val)
+    )
 }
 
 fn columns(rt: &impl Print) -> io::Result<()> {

@@ -4,6 +4,7 @@ use block::CodeError;
 use std::fmt;
 
 // Values read as i8 with missing −127.
+#[derive(Clone, Copy)]
 pub struct Dosages<'a>(pub &'a [i8]);
 
 impl<'a> fmt::Display for Dosages<'a> {
@@ -19,6 +20,7 @@ impl<'a> fmt::Display for Dosages<'a> {
     }
 }
 
+#[derive(Clone, Copy)]
 pub struct Floats<'a>(pub &'a [f64]);
 
 impl<'a> fmt::Display for Floats<'a> {
@@ -36,6 +38,7 @@ impl<'a> fmt::Display for Floats<'a> {
     }
 }
 
+#[derive(Clone, Copy)]
 pub struct Bytes<'a>(pub &'a [u8]);
 
 impl<'a> fmt::Display for Bytes<'a> {
@@ -48,6 +51,7 @@ impl<'a> fmt::Display for Bytes<'a> {
 }
 
 // Done, or a refusal's number and what it carries.
+#[derive(Clone, Copy)]
 pub struct Said(pub BedAnswer);
 
 impl fmt::Display for Said {
@@ -63,6 +67,7 @@ impl fmt::Display for Said {
 }
 
 // A code, or a refusal.
+#[derive(Clone, Copy)]
 pub struct Code(pub Result<u8, CodeError>);
 
 impl fmt::Display for Code {
