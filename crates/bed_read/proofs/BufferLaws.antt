@@ -3,7 +3,6 @@ use mathlib.Core.Path.{◌≡◌, sym, ap, ◌∙◌}
 use mathlib.Core.Bool.{Bool, true, false}
 use mathlib.Core.List.{List, map}
 use Prim.Native.Nat.{ℕ, ◌*◌, ◌/◌, ◌%◌, ◌<◌}
-use native.Mathlib.Omega.{arith}
 use lib.IntN.{ℤ}
 use lib.ListN.{length, get_or}
 use Rattle.answer.specs.Answer.{is_done}
@@ -14,7 +13,7 @@ use Rattle.answer.specs.Matrix.{matrix_place, matrix}
 use Rattle.codes.specs.Value.{Width, value_of}
 use Rattle.answer.proofs.AnswerLaws.{new_if_done, old_if_not}
 use Rattle.answer.proofs.MatrixLaws.{length_matrix, get_d_matrix, map_matrix}
-use Rattle.answer.proofs.Tabulate.{tabulate_ext, map_tabulate, get_d_inside}
+use Rattle.answer.proofs.Tabulate.{tabulate_ext, map_tabulate}
 use Rattle.bed_file.proofs.FileLaws.{accepted}
 use Rattle.calls.specs.declared.Shape.{Shape}
 use Rattle.calls.specs.Places.{IsShape, Shaped}

@@ -10,12 +10,19 @@ use Rattle.codes.specs.Value.{Width, values, value_of}
 use Rattle.codes.proofs.CodeLaws.{table_at, code_below}
 use Rattle.codes.proofs.ValueLaws.{four_values}
 use Rattle.answer.proofs.Tabulate.{length_tabulate, tabulate_ext, map_tabulate, get_d_inside}
-use Rattle.bed_read.specs.Private.{Drawn, value_in, ByCode, place_value}
+use Rattle.bed_read.specs.Private.{Drawn, value_in, ByCode}
 use Rattle.bed_read.proofs.DrawLaws.{drawn_all}
 
 table_length : length code_table ≡ 1024
 unfolding code_table
 table_length = length_tabulate 1024 (λ k. code_at (k / 4) (k % 4))
+
+-- the code for place 4 × byte + place
+pub code_there : (byte place : ℕ) → place < 4 → code_at byte (place % 4) ≡ code_at ((4 * byte + place) / 4) ((4 * byte + place) % 4)
+code_there byte place h =
+    let b : byte ≡ (4 * byte + place) / 4 = omega arith in
+    let p : place % 4 ≡ (4 * byte + place) % 4 = omega arith in
+    ap (λ (x : ℕ). code_at x (place % 4)) b ∙ ap (code_at ((4 * byte + place) / 4)) p
 
 -- the value that is found for the code at a place of a byte
 module _ {V : Type 0} (w : Width V) (flag : Bool) (missing : V) (byte place code n : ℕ) (of_code : List V) (e : of_code ≡ values w flag missing) (m : n ≡ code) (c : code ≡ code_at byte place) where
@@ -68,12 +75,11 @@ module _ {A : Type 0} (d : A) (f : ℕ → A) where
 pub by_code_long : {A : Type 0} (d : A) (table : List A) → ByCode table d → length table ≡ 1024
 by_code_long d table b = ap length b.by_code_law ∙ length-map code_table (value_in table d) ∙ table_length
 
--- the value at a place of a byte x of the file
+-- the value at a place of a byte
 pub value_there :
-    {A : Type 0} (d : A) (table : List A) → ByCode table d → (file : List ℕ) (byte place x : ℕ) → x ≡ get_or file byte 0 → x < 256 → place < 4
-    → (d' : A) → get_or table (x * 4 + place) d' ≡ place_value (value_in table d) file byte place
-unfolding place_value
-value_there d table b file byte place x e h k d' =
+    {A : Type 0} (d : A) (table : List A) → ByCode table d → (byte place x : ℕ) → x ≡ byte → x < 256 → place < 4
+    → (d' : A) → get_or table (x * 4 + place) d' ≡ value_in table d (code_at byte place)
+value_there d table b byte place x e h k d' =
     get_d_inside table (x * 4 + place) d' d (let l = by_code_long d table b in omega arith)
     ∙ made_at d (value_in table d) table b.by_code_law x place h k
     ∙ ap (λ (y : ℕ). value_in table d (code_at y place)) e

@@ -2,12 +2,12 @@
 ghost use Rattle.std.specs.Prelude.{◌≡◌, not, map, ℕ, ◌+◌, ◌-◌, ◌*◌, ◌/◌, ◌%◌, ◌<◌, ◌≤◌, length};
 ghost use Rattle.codes.specs.Value.{value_of};
 ghost use Rattle.bed_read.specs.Reading.{Reads};
-ghost use Rattle.bed_read.specs.Private.{AllInOrder, EntryParts, Inside, FourInside, value_in, ByCode, entry_value, block_value, lines_read};
+ghost use Rattle.bed_read.specs.Private.{AllInOrder, EntryParts, Inside, FourInside, value_in, entry_value, block_value, lines_read};
 ghost use Rattle.bed_read.specs.Private.{set_two, set_pairs, Drawn, DrawnInOrder, DrawnLine, ReadTo};
 ghost use Rattle.bed_read.specs.Says.{read_says};
 
 use crate::lines::Lines;
-use crate::table::{call_value, fill_table};
+use crate::table::{Values, fill_table};
 use crate::tile::Tile;
 use crate::{ReadError, checks};
 use calls::{Part, Shape};
@@ -19,30 +19,30 @@ use std::marker::PhantomData;
 fn read_in_order<T: BedVal>(
     file: &[u8],
     start: usize,
-    table: &[T],
+    values: Values<T>,
     at: usize,
     n: usize,
     val: &mut [T],
 )
-    requires { ByCode table.now T.width.zero × (n ≤ 4 * (length file.now - start)) × (at + n ≤ length val.old) }
-    ensures { DrawnInOrder table.now T.width.zero
+    requires { (n ≤ 4 * (length file.now - start)) × (at + n ≤ length val.old) }
+    ensures { DrawnInOrder values.entry.table.now T.width.zero
         file.now start at n val.old n val.new }
 {
     let whole = n / 4;
     for b in 0..whole {
         let byte = start + b;
         let k = at + 4 * b;
-        let v0 = call_value(file, byte, 0, table);
-        let v1 = call_value(file, byte, 1, table);
-        let v2 = call_value(file, byte, 2, table);
-        let v3 = call_value(file, byte, 3, table);
+        let v0 = values.call_value(file, byte, 0);
+        let v1 = values.call_value(file, byte, 1);
+        let v2 = values.call_value(file, byte, 2);
+        let v3 = values.call_value(file, byte, 3);
         val[k] = v0;
         val[k + 1] = v1;
         val[k + 2] = v2;
         val[k + 3] = v3;
     }
     for i in 4 * whole..n {
-        val[at + i] = call_value(file, start + i / 4, i % 4, table);
+        val[at + i] = values.call_value(file, start + i / 4, i % 4);
     }
 }
 
@@ -51,21 +51,20 @@ fn read_line<T: BedVal>(
     file: &[u8],
     part: Part,
     tile: &Tile,
-    table: &[T],
+    values: Values<T>,
     at: usize,
     n: usize,
     val: &mut [T],
 )
-    requires { ByCode table.now T.width.zero × Inside file.now part.byte part.place tile.now n × (n ≤ 2048) × (at + n ≤ length val.old) }
-    ensures { DrawnLine table.now T.width.zero
+    requires { Inside file.now part.byte part.place tile.now n × (n ≤ 2048) × (at + n ≤ length val.old) }
+    ensures { DrawnLine values.entry.table.now T.width.zero
         file.now part.byte part.place tile.now at n val.old n val.new }
 {
     for k in 0..n {
-        val[at + k] = call_value(
+        val[at + k] = values.call_value(
             file,
             part.byte + tile.bytes[k],
             part.place + usize::from(tile.places[k]),
-            table,
         );
     }
 }
@@ -76,27 +75,21 @@ fn read_pair<T: BedVal>(
     start: usize,
     tile: &Tile,
     k: usize,
-    table: &[T],
+    values: Values<T>,
     at: usize,
     val: &mut [T],
 )
-    requires { ByCode table.now T.width.zero × Inside file.now start 0 tile.now (k + 2) × (k + 2 ≤ 2048) × (at + 1 < length val.old) }
+    requires { Inside file.now start 0 tile.now (k + 2) × (k + 2 ≤ 2048) × (at + 1 < length val.old) }
     ensures { val.new ≡ set_two val.old at
-        (entry_value table.now T.width.zero file.now start tile.now k)
-        (entry_value table.now T.width.zero file.now start tile.now (k + 1)) }
+        (entry_value values.entry.table.now T.width.zero file.now start tile.now k)
+        (entry_value values.entry.table.now T.width.zero file.now start tile.now (k + 1)) }
 {
     let next = k + 1;
-    let value = call_value(
-        file,
-        start + tile.bytes[k],
-        usize::from(tile.places[k]),
-        table,
-    );
-    let next_value = call_value(
+    let value = values.call_value(file, start + tile.bytes[k], usize::from(tile.places[k]));
+    let next_value = values.call_value(
         file,
         start + tile.bytes[next],
         usize::from(tile.places[next]),
-        table,
     );
     val[at] = value;
     val[at + 1] = next_value;
@@ -108,60 +101,62 @@ fn read_pairs<T: BedVal>(
     starts: &[usize; 4],
     tile: &Tile,
     k: usize,
-    table: &[T],
+    values: Values<T>,
     at: usize,
     inner: usize,
     val: &mut [T],
 )
-    requires { ByCode table.now T.width.zero × FourInside file.now starts.now tile.now (k + 2) × (k + 2 ≤ 2048)
+    requires { FourInside file.now starts.now tile.now (k + 2) × (k + 2 ≤ 2048)
         × (at + 3 * inner + k + 2 ≤ length val.old) }
     ensures { val.new ≡ set_pairs val.old at inner k
-        (block_value table.now T.width.zero file.now starts.now tile.now) }
+        (block_value values.entry.table.now T.width.zero file.now starts.now tile.now) }
 {
     let t0 = at + k;
     let t1 = t0 + inner;
     let t2 = t1 + inner;
     let t3 = t2 + inner;
-    read_pair(file, starts[0], tile, k, table, t0, val);
-    read_pair(file, starts[1], tile, k, table, t1, val);
-    read_pair(file, starts[2], tile, k, table, t2, val);
-    read_pair(file, starts[3], tile, k, table, t3, val);
+    read_pair(file, starts[0], tile, k, values, t0, val);
+    read_pair(file, starts[1], tile, k, values, t1, val);
+    read_pair(file, starts[2], tile, k, values, t2, val);
+    read_pair(file, starts[3], tile, k, values, t3, val);
 }
 
 // The same as `read_line` of four blocks: two entries a turn, and the last two, of which one may be done.
+// Inlined, so that the compiler sees that the tile, the table and the matrix are apart.
+#[inline(always)]
 fn read_four<T: BedVal>(
     file: &[u8],
     starts: &[usize; 4],
     tile: &Tile,
-    table: &[T],
+    values: Values<T>,
     at: usize,
     inner: usize,
     n: usize,
     val: &mut [T],
 )
-    requires { ByCode table.now T.width.zero × FourInside file.now starts.now tile.now n × (2 ≤ n) × (n ≤ 2048) × (at + 3 * inner + n ≤ length val.old) }
+    requires { FourInside file.now starts.now tile.now n × (2 ≤ n) × (n ≤ 2048) × (at + 3 * inner + n ≤ length val.old) }
     ensures { Drawn T.width.zero 4 n (λ j k. at + j * inner + k)
-        (block_value table.now T.width.zero file.now starts.now tile.now)
+        (block_value values.entry.table.now T.width.zero file.now starts.now tile.now)
         val.old n val.new }
 {
     for pair in 0..n / 2 {
-        read_pairs(file, starts, tile, 2 * pair, table, at, inner, val);
+        read_pairs(file, starts, tile, 2 * pair, values, at, inner, val);
     }
-    read_pairs(file, starts, tile, n - 2, table, at, inner, val);
+    read_pairs(file, starts, tile, n - 2, values, at, inner, val);
 }
 
 // A matrix whose lines are blocks and whose places are all items in file order.
-fn read_blocks<T: BedVal, O: Item, I: Item>(lines: &Lines<O, I>, table: &[T], val: &mut [T])
-    requires { ByCode table.now T.width.zero × AllInOrder lines.now.shape (not O.is_animal) lines.now.inner.now
-        × ReadTo O.is_animal table.now T.width.zero
+fn read_blocks<T: BedVal, O: Item, I: Item>(lines: &Lines<O, I>, values: Values<T>, val: &mut [T])
+    requires { AllInOrder lines.now.shape (not O.is_animal) lines.now.inner.now
+        × ReadTo O.is_animal values.table.now T.width.zero
         lines.now.file.now lines.now.shape lines.now.outer.now lines.now.inner.now val.old 0 }
-    ensures { ReadTo O.is_animal table.now T.width.zero
+    ensures { ReadTo O.is_animal values.entry.table.now T.width.zero
         lines.now.file.now lines.now.shape lines.now.outer.now lines.now.inner.now val.new (length lines.now.inner.now) }
 {
     let n = lines.inner.len();
     for o in 0..lines.outer.len() {
         let start = lines.outer_part(o).byte;
-        read_in_order(lines.file, start, table, o * n, n, val);
+        read_in_order(lines.file, start, values, o * n, n, val);
     }
 }
 
@@ -171,14 +166,14 @@ fn read_tile<T: BedVal, O: Item, I: Item>(
     from: usize,
     until: usize,
     tile: &Tile,
-    table: &[T],
+    values: Values<T>,
     val: &mut [T],
 )
-    requires { ByCode table.now T.width.zero × EntryParts lines.now.shape (not O.is_animal) lines.now.inner.now from until tile.now
+    requires { EntryParts lines.now.shape (not O.is_animal) lines.now.inner.now from until tile.now
         × (from < until) × (until ≤ length lines.now.inner.now) × (until - from ≤ 2048)
-        × ReadTo O.is_animal table.now T.width.zero
+        × ReadTo O.is_animal values.table.now T.width.zero
         lines.now.file.now lines.now.shape lines.now.outer.now lines.now.inner.now val.old from }
-    ensures { ReadTo O.is_animal table.now T.width.zero
+    ensures { ReadTo O.is_animal values.entry.table.now T.width.zero
         lines.now.file.now lines.now.shape lines.now.outer.now lines.now.inner.now val.new until }
 {
     let inner = lines.inner.len();
@@ -192,7 +187,7 @@ fn read_tile<T: BedVal, O: Item, I: Item>(
             lines.file,
             &starts,
             tile,
-            table,
+            values,
             o * inner + from,
             inner,
             n,
@@ -201,18 +196,18 @@ fn read_tile<T: BedVal, O: Item, I: Item>(
     }
     for o in 4 * fours..outer {
         let part = lines.outer_part(o);
-        read_line(lines.file, part, tile, table, o * inner + from, n, val);
+        read_line(lines.file, part, tile, values, o * inner + from, n, val);
     }
 }
 
 // The whole matrix: block by block in file order, else tile by tile.
-fn read_matrix<T: BedVal, O: Item, I: Item>(lines: &Lines<O, I>, table: &[T], val: &mut [T])
-    requires { ByCode table.now T.width.zero × (length lines.now.outer.now * length lines.now.inner.now ≡ length val.old) }
-    ensures { val.new ≡ map (value_in table.now T.width.zero)
+fn read_matrix<T: BedVal, O: Item, I: Item>(lines: &Lines<O, I>, values: Values<T>, val: &mut [T])
+    requires { length lines.now.outer.now * length lines.now.inner.now ≡ length val.old }
+    ensures { val.new ≡ map (value_in values.entry.table.now T.width.zero)
         (lines_read O.is_animal lines.now.file.now lines.now.shape lines.now.outer.now lines.now.inner.now) }
 {
     if lines.is_in_order() {
-        read_blocks(lines, table, val);
+        read_blocks(lines, values, val);
         return;
     }
     let inner = lines.inner.len();
@@ -225,7 +220,7 @@ fn read_matrix<T: BedVal, O: Item, I: Item>(lines: &Lines<O, I>, table: &[T], va
     while from < inner {
         let until = lines.tile_end(from);
         lines.resolve(from, until, &mut tile);
-        read_tile(lines, from, until, &tile, table, val);
+        read_tile(lines, from, until, &tile, values, val);
         from = until;
     }
 }
@@ -253,7 +248,8 @@ impl ReadVal for i8 {
     ) {
         let mut table = [0; 1024];
         fill_table(is_a1_counted, missing_value, &mut table);
-        read_matrix(lines, &table, val);
+        let values = Values { table: &table };
+        read_matrix(lines, values, val);
     }
 }
 
@@ -266,7 +262,8 @@ impl ReadVal for f64 {
     ) {
         let mut table = [0.0; 1024];
         fill_table(is_a1_counted, missing_value, &mut table);
-        read_matrix(lines, &table, val);
+        let values = Values { table: &table };
+        read_matrix(lines, values, val);
     }
 }
 

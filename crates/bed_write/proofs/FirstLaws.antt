@@ -93,11 +93,6 @@ unfolding or_four
 coded_if (Some c) h e = h c refl
 coded_if None h e = absurd (let q : ◌≡◌ {A = ℕ} 0 1 = cc in omega arith)
 
-pub lacking_if : (o : Option ℕ) → is_none o ≡ true → 3 < or_four o
-unfolding or_four
-lacking_if (Some c) e = absurd (let q : ◌≡◌ {A = ℕ} 0 1 = cc in omega arith)
-lacking_if None e = omega arith
-
 -- ---- the code of a value is a code
 abbrev pub Coded : (ℕ → Option ℕ) → Type 0
 Coded code = (k c : ℕ) → code k ≡ Some c → c < 4

@@ -6,7 +6,6 @@ use Rattle.std.specs.Prelude.{Option, Some, None}
 use Prim.Native.Nat.{ℕ, ◌+◌, ◌-◌, ◌*◌, ◌<◌}
 use native.Mathlib.Omega.{arith}
 use lib.ListN.{length, get_or}
-use Rattle.std.specs.Option.{is_none}
 use Rattle.codes.specs.Value.{Width, code_of}
 use Rattle.codes.specs.Code.{group_byte, packed_byte}
 use Rattle.answer.specs.Lists.{tabulate}
@@ -16,10 +15,9 @@ use Rattle.bed_write.specs.Packing.{place_code, or_zero}
 use Rattle.bed_write.specs.Writing.{value_code}
 use Rattle.bed_write.specs.Groups.{or_four, in_group, Four}
 use Rattle.bed_write.specs.Private.{by_tests, first_over, placed}
-use Rattle.bed_write.proofs.FirstLaws.{value_read, coded_if, lacking_if}
+use Rattle.bed_write.proofs.FirstLaws.{value_read}
 use Rattle.bed_write.proofs.GroupLaws.{good_four, group_byte_law}
 use Rattle.bed_write.proofs.SearchLaws.{none_over}
-use Rattle.bed_write.proofs.WriteLaws.{value_coded}
 
 -- ---- places of a matrix, by the order
 pub order_true : (order : Bool) (iids sids i m : ℕ) → order ≡ true → i * sids + m ≡ matrix_place order iids sids i m
@@ -40,11 +38,8 @@ module _ {V : Type 0} (w : Width V) (flag : Bool) (missing : V) (order : Bool) (
     unfolding value_code
     read_code = value_read w flag missing val at v d read_inside q ∙ ap (place_code w flag missing val) e
 
-    pub read_good : (bad : Bool) → bad ≡ is_none (code_of w flag missing v) → bad ≡ false → or_four (value_code w flag missing order iids sids val a m) < 4
-    read_good bad b f = coded_if (value_code w flag missing order iids sids val a m) (value_coded w flag missing order iids sids val a m) (ap is_none (sym read_code) ∙ sym b ∙ f)
-
-    pub read_bad : (bad : Bool) → bad ≡ is_none (code_of w flag missing v) → bad ≡ true → 3 < or_four (value_code w flag missing order iids sids val a m)
-    read_bad bad b t = lacking_if (value_code w flag missing order iids sids val a m) (ap is_none (sym read_code) ∙ sym b ∙ t)
+    pub read_number : (r : ℕ) → r ≡ or_four (code_of w flag missing v) → r ≡ or_four (value_code w flag missing order iids sids val a m)
+    read_number r n = n ∙ ap or_four read_code
 
 -- ---- a matrix whose numbers are found by place
 module _ (number : ℕ → ℕ) (order : Bool) (iids sids : ℕ) where

@@ -26,7 +26,7 @@ fn first_bad<T: EncodeVal>(matrix: &Matrix<T>, coding: Coding<T>) -> Option<(Iid
     for marker in 0..matrix.sid_count {
         for animal in 0..matrix.iid_count {
             let (iid, sid) = (IidIndex(animal), SidIndex(marker));
-            if value_codes::is_bad(matrix.val[matrix.place(iid, sid)], coding.missing) {
+            if value_codes::code_or_four(matrix.val[matrix.place(iid, sid)], coding) > 3 {
                 return Some((iid, sid));
             }
         }

@@ -1,7 +1,7 @@
 // The code of a value.
 ghost use Rattle.std.specs.Prelude.{◌≡◌, Bool, cond, ◌<◌};
 ghost use Rattle.codes.specs.Value.{code_of};
-ghost use Rattle.bed_write.specs.Groups.{GoodCode, CodesGood};
+ghost use Rattle.bed_write.specs.Groups.{or_four, GoodCode, CodesGood};
 ghost use Rattle.std.specs.Option.{is_none};
 
 use codes::BedVal;
@@ -114,6 +114,26 @@ fn good_code<T: EncodeVal>(value: T, is_a1_counted: bool) -> u8
     let two = choose(value.same(T::two()), code_of_two(is_a1_counted), 1);
     let one = choose(value.same(T::one()), 2, two);
     choose(value.same(T::zero()), code_of_zero(is_a1_counted), one)
+}
+
+// The code of a value, or 4. Where values are looked at one by one, as by the search, this is faster than `is_bad`.
+pub(crate) fn code_or_four<T: EncodeVal>(value: T, coding: Coding<T>) -> u8
+    ensures { result ≡ or_four (code_of T.width coding.is_a1_counted coding.missing value) }
+{
+    let nan = choose(coding.missing.same(coding.missing), 4, 1);
+    let unknown = choose(value.same(value), 4, nan);
+    let absent = choose(value.same(coding.missing), 1, unknown);
+    let two = choose(
+        value.same(T::two()),
+        code_of_two(coding.is_a1_counted),
+        absent,
+    );
+    let one = choose(value.same(T::one()), 2, two);
+    choose(
+        value.same(T::zero()),
+        code_of_zero(coding.is_a1_counted),
+        one,
+    )
 }
 
 // Whether a value is none of 0, 1, 2 and missing. Every test is made, so that several values are looked at at once.

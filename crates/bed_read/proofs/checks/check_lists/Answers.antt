@@ -1,5 +1,5 @@
 -- 18, then 5 and 6 by `first_bad` of each list.
-use Rattle.std.proofs.Common.{sym, ◌∙◌, rules}
+use Rattle.std.proofs.Common.{sym, rules}
 use Rattle.bed_read.proofs.ReadLaws.{lists_first, lists_second, lists_5, lists_6, lists_good}
 use Rattle.bed_read.proofs.checks.check_lists.Goals as goal
 

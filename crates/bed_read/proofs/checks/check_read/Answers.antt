@@ -1,5 +1,5 @@
 -- `check_read`: 18, 15, then the file by `accept`, then the lists.
-use Rattle.std.proofs.Common.{sym, ◌∙◌, ap, rules}
+use Rattle.std.proofs.Common.{◌∙◌}
 use Rattle.bed_read.proofs.ReadLaws.{file_told, read_first, read_second, read_mismatch, read_not_accepted, read_lists}
 use Rattle.bed_read.proofs.checks.check_read.Goals as goal
 

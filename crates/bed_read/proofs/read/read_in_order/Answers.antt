@@ -1,4 +1,4 @@
-use Rattle.std.proofs.Common.{refl, ◌∙◌, ◌+◌, ◌*◌, ◌/◌, ◌<◌, arith, rules}
+use Rattle.std.proofs.Common.{refl, ◌∙◌, ◌+◌, ◌*◌, ◌/◌, ◌<◌, arith}
 use Rattle.bed_read.specs.Private.{value_in}
 use Rattle.bed_read.proofs.DrawLaws.{drawn_one, drawn_to, drawn_end}
 use Rattle.bed_read.proofs.PartLaws.{byte_item}
@@ -9,8 +9,8 @@ pub loop-b-preserved : goal.loop-b-preserved
 loop-b-preserved g c =
     let b = c.loop-b.b in
     let t : b < c.args.n / 4 = c.loop-b-test.true in
-    let l = c.requires.2 in
-    let v = value_in c.args.table.now g.T.BedVal.width.zero in
+    let l = c.requires.1 in
+    let v = value_in c.args.values.table.now g.T.BedVal.width.zero in
     drawn_one _ _ _ _ _ (4 * b + 3) (4 * (b + 1)) _ _ _
     (drawn_one _ _ _ _ _ (4 * b + 2) (4 * b + 3) _ _ _
     (drawn_one _ _ _ _ _ (4 * b + 1) (4 * b + 2) _ _ _
@@ -30,7 +30,7 @@ loop-i-init g c =
 pub loop-i-preserved : goal.loop-i-preserved
 loop-i-preserved g c =
     let t = c.loop-i-test.true in
-    let l = c.requires.2 in
+    let l = c.requires.1 in
     drawn_one _ _ _ _ _ _ _ _ _ _ c.loop-i.invariant t refl refl (omega arith) c.call_value.ensures
 
 pub returns : goal.returns

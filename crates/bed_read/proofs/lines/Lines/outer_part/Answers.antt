@@ -1,6 +1,5 @@
 -- What the number adds that the entry means.
-use Rattle.std.proofs.Common.{refl, rules, ◌≡◌, ap, subst, ◌<◌, ℕ, ◌^◌, Bool}
-use Rattle.bed_read.specs.Private.{count_of}
+use Rattle.std.proofs.Common.{refl, rules}
 use Rattle.bed_read.proofs.PartLaws.{entry_there}
 use Rattle.bed_read.proofs.lines.Lines.outer_part.Goals as goal
 

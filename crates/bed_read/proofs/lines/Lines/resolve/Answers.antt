@@ -1,5 +1,5 @@
-use Rattle.std.proofs.Common.{◌+◌, not, arith, rules}
-use Rattle.bed_read.proofs.PartLaws.{place_below, resolved_none, resolved_more, resolved_all}
+use Rattle.std.proofs.Common.{◌+◌, not, arith}
+use Rattle.bed_read.proofs.PartLaws.{place_below}
 use Rattle.bed_read.proofs.lines.Lines.resolve.Goals as goal
 
 pub overflow_cast-tile : goal.overflow_cast-tile

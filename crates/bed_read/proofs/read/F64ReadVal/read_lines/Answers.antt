@@ -4,8 +4,8 @@ use Rattle.bed_read.proofs.TableLaws.{made_by_code}
 use Rattle.bed_read.proofs.BufferLaws.{table_read}
 use Rattle.bed_read.proofs.read.F64ReadVal.read_lines.Goals as goal
 
-pub read_matrix-requires : goal.read_matrix-requires
-read_matrix-requires g c = (made_by_code _ (value_of float c.args.is_a1_counted c.args.missing_value) _ c.fill_table.ensures, c.requires)
+pub invariant_of-values : goal.invariant_of-values
+invariant_of-values g c = record { by_code = made_by_code _ (value_of float c.args.is_a1_counted c.args.missing_value) _ c.fill_table.ensures }
 
 pub returns : goal.returns
 returns g c = table_read float c.args.is_a1_counted c.args.missing_value _ _ _ _ _ c.args.lines.now.shape _ _ c.fill_table.ensures c.read_matrix.ensures

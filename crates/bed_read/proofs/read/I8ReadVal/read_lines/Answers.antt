@@ -13,8 +13,8 @@ use Rattle.bed_read.proofs.read.I8ReadVal.read_lines.Goals as goal
 filled : (flag : Bool) (missing : ℤ) → SFits w8 missing → (table : List ℤ) → table ≡ map (value_of i8 flag (to_z w8 (of_z w8 missing))) code_table → table ≡ map (value_of i8 flag missing) code_table
 filled flag missing f table e = e ∙ ap (λ (z : ℤ). map (value_of i8 flag z) code_table) (to_z-of_z w8 missing f)
 
-pub read_matrix-requires : goal.read_matrix-requires
-read_matrix-requires g c = (made_by_code _ (value_of i8 c.args.is_a1_counted c.args.missing_value) _ (filled _ _ c.ranges.missing_value _ c.fill_table.ensures), c.requires)
+pub invariant_of-values : goal.invariant_of-values
+invariant_of-values g c = record { by_code = made_by_code _ (value_of i8 c.args.is_a1_counted c.args.missing_value) _ (filled _ _ c.ranges.missing_value _ c.fill_table.ensures) }
 
 pub returns : goal.returns
 returns g c = table_read i8 c.args.is_a1_counted c.args.missing_value _ _ _ _ _ c.args.lines.now.shape _ _ (filled _ _ c.ranges.missing_value _ c.fill_table.ensures) c.read_matrix.ensures
