@@ -1,10 +1,9 @@
 -- Laws of what the entries of the two lists add to where a call stands.
 use mathlib.Core.Path.{◌≡◌, refl, sym, ap, subst, ◌∙◌}
-use mathlib.Core.Bool.{Bool, true, false, not, cond, beq}
-use mathlib.Core.List.{List, [], ◌∷◌}
+use mathlib.Core.Bool.{Bool, true, false, not, cond}
+use mathlib.Core.List.{List}
 use Rattle.std.specs.Prelude.{None}
 use Prim.Native.Nat.{ℕ, zero, suc, ◌+◌, ◌-◌, ◌*◌, ◌/◌, ◌%◌, ◌^◌, ◌<◌, ◌≤◌}
-use native.Mathlib.Nat.{add-zero}
 use native.Mathlib.Omega.{arith}
 use borrow.Author.Count.{below_more}
 use lib.IntN.{ℤ, pos}
@@ -25,9 +24,6 @@ use Rattle.calls.proofs.PlaceLaws.{iid_byte_law, sid_byte_law, part_below, pair_
 use Rattle.bed_read.specs.declared.tile.Tile.{Tile}
 use Rattle.bed_read.specs.Reading.{read_code}
 use Rattle.bed_read.specs.Private.{Ready, count_of, entry_number, entry_byte, entry_place, IsEntryPart, InOrder, AllInOrder, EntryParts, Inside, place_value, line_value}
-
-pub not_true : false ≡ true → ⊥
-not_true e = let z : ◌≡◌ {A = ℕ} 0 1 = cc in omega arith
 
 -- item k, which is at place p of byte b of its block
 pub byte_item :
@@ -50,13 +46,7 @@ pub place_below : (shape : Shape) (animals : Bool) (list : List ℤ) (k : ℕ) �
 unfolding entry_place
 place_below shape animals list k = part_below (is_block shape.mode1 animals) (entry_number shape animals list k)
 
--- whether lines are blocks, by the mode
-pub along : (m animals b : Bool) → b ≡ not (beq m animals) → b ≡ is_block m animals
-along true true b e = e
-along true false b e = e
-along false true b e = e
-along false false b e = e
-
+-- the count of a kind fits a word
 pub count_fits : (shape : Shape) (animals : Bool) → shape.iids < 2 ^ 64 → shape.sids < 2 ^ 64 → count_of animals shape < 2 ^ 64
 count_fits shape true h k = h
 count_fits shape false h k = k
@@ -97,20 +87,26 @@ module _ (shape : Shape) (animals : Bool) (list : List ℤ) where
   unfolding entry_number
   number_below k g h = means_below (count_of animals shape) (get_or list k (pos 0)) (all_good (count_of animals shape) list k g h)
 
-  -- what it adds, by what the number of an item of a kind adds that is this one
+  -- what it adds
+  entry_of :
+      (file : List ℕ) → Shaped file shape → length file < 2 ^ 64 → first_bad (count_of animals shape) list ≡ None → (k : ℕ) (part : Part) → k < length list
+      → IsPart (is_block shape.mode1 animals) shape.width (entry_number shape animals list k) part × (count_of animals shape < 2 ^ 64) → IsEntryPart shape animals list k part
+  unfolding entry_byte entry_place
+  entry_of file s l g k part h p =
+      let b = number_below k g h in
+      record {
+        byte_is = p.0.byte_is ∙ part_byte_law file shape s l animals (entry_number shape animals list k) b (let c = p.1 in omega arith);
+        place_is = p.0.place_is;
+      }
+
+  -- by the item of a kind that is this one
   pub entry_there :
       (file : List ℕ) → Shaped file shape → length file < 2 ^ 64 → first_bad (count_of animals shape) list ≡ None
-      → (kind : Bool) → kind ≡ animals → count_of kind shape < 2 ^ 64 → (k n : ℕ) (part : Part) → k < length list → n ≡ entry_number shape kind list k
-      → IsPart (is_block shape.mode1 kind) shape.width n part → IsEntryPart shape animals list k part
-  unfolding entry_byte entry_place
-  entry_there file s l g kind q w k n part h e p =
-      let p' : IsPart (is_block shape.mode1 animals) shape.width n part = subst (λ (x : Bool). IsPart (is_block shape.mode1 x) shape.width n part) q p in
-      let e' : n ≡ entry_number shape animals list k = e ∙ ap (λ (x : Bool). entry_number shape x list k) q in
-      let b : n < count_of animals shape = subst (λ (x : ℕ). x < count_of animals shape) (sym e') (number_below k g h) in
-      record {
-        byte_is = p'.byte_is ∙ part_byte_law file shape s l animals n b (let c : count_of kind shape ≡ count_of animals shape = ap (λ (x : Bool). count_of x shape) q in omega arith) ∙ ap (part_byte (is_block shape.mode1 animals) shape.width) e';
-        place_is = p'.place_is ∙ ap (part_place (is_block shape.mode1 animals)) e';
-      }
+      → (kind : Bool) → kind ≡ animals → (k : ℕ) (part : Part) → k < length list
+      → IsPart (is_block shape.mode1 kind) shape.width (entry_number shape kind list k) part × (count_of kind shape < 2 ^ 64)
+      → IsEntryPart shape animals list k part
+  entry_there file s l g kind q k part h p =
+      entry_of file s l g k part h (subst (λ (x : Bool). IsPart (is_block shape.mode1 x) shape.width (entry_number shape x list k) part × (count_of x shape < 2 ^ 64)) q p)
 
   -- a line that is a block adds no place
   pub block_line : (o : ℕ) → is_block shape.mode1 animals ≡ true → entry_place shape animals list o ≡ 0
@@ -249,20 +245,7 @@ module _ (shape : Shape) (animals : Bool) (list : List ℤ) where
   pub order_all : (n m : ℕ) → InOrder shape animals list n → m ≤ n → InOrder shape animals list m
   order_all n m i h = record { byte_is = λ k b. i.byte_is k (omega arith); place_is = λ k b. i.place_is k (omega arith) }
 
-  pub four_there :
-      (o b0 b1 b2 b3 : ℕ) → b0 ≡ entry_byte shape animals list o → b1 ≡ entry_byte shape animals list (o + 1)
-      → b2 ≡ entry_byte shape animals list (o + 2) → b3 ≡ entry_byte shape animals list (o + 3)
-      → (j : ℕ) → j < 4 → get_or (b0 ∷ b1 ∷ b2 ∷ b3 ∷ []) j 0 ≡ entry_byte shape animals list (o + j)
-  four_there o b0 b1 b2 b3 e0 e1 e2 e3 zero h = e0 ∙ ap (entry_byte shape animals list) (sym (add-zero o))
-  four_there o b0 b1 b2 b3 e0 e1 e2 e3 (suc zero) h = e1
-  four_there o b0 b1 b2 b3 e0 e1 e2 e3 (suc (suc zero)) h = e2
-  four_there o b0 b1 b2 b3 e0 e1 e2 e3 (suc (suc (suc zero))) h = e3
-  four_there o b0 b1 b2 b3 e0 e1 e2 e3 (suc (suc (suc (suc j)))) h = absurd (omega arith)
-
   module _ (from : ℕ) where
-    pub resolved_none : (tile : Tile) → EntryParts shape animals list from (from + 0) tile
-    resolved_none tile = record { byte_is = λ k h. absurd (omega arith); place_is = λ k h. absurd (omega arith) }
-
     pub resolved_more :
         (k b p : ℕ) (tile : Tile) → EntryParts shape animals list from (from + k) tile → length tile.bytes ≡ 2048 → length tile.places ≡ 2048 → k < 2048
         → b ≡ entry_byte shape animals list (from + k) → p ≡ entry_place shape animals list (from + k)
@@ -277,6 +260,3 @@ module _ (shape : Shape) (animals : Bool) (list : List ℤ) where
         one_more f l k v h e s j b =
             by_lt j k (λ c. get_or-set_other l k j v 0 (λ x. omega arith) ∙ e j c)
             (λ c. let q : k ≡ j = omega arith in subst (λ (x : ℕ). get_or (set l k v) x 0 ≡ f x) q (get_or-set_same l k v 0 h ∙ s))
-
-    pub resolved_all : (k until : ℕ) (tile : Tile) → k ≡ until - from → from ≤ until → EntryParts shape animals list from (from + k) tile → EntryParts shape animals list from until tile
-    resolved_all k until tile a c r = let e : from + k ≡ until = omega arith in subst (λ (x : ℕ). EntryParts shape animals list from x tile) e r

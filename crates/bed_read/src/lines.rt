@@ -1,6 +1,6 @@
 // The lines of a matrix and the places of each line, by the two lists.
 ghost use Rattle.std.specs.Prelude.{◌≡◌, true, not, ◌+◌, ◌-◌, ◌^◌, ◌<◌, ◌≤◌, length};
-ghost use Rattle.calls.specs.Places.{is_block};
+ghost use Rattle.calls.specs.Places.{is_block, IsPart};
 ghost use Rattle.bed_read.specs.Private.{Ready, count_of, entry_number, IsEntryPart, AllInOrder, EntryParts, FourBytes};
 
 use crate::tile::Tile;
@@ -30,12 +30,14 @@ fn count_of<I: Item>(shape: Shape) -> usize
     shape.sids
 }
 
-// The item that entry k of a list means. The count fits a word, as the machine holds it.
-fn item_at<I: Item>(shape: Shape, list: &[i64], k: usize) -> I
+// What entry k of a list adds. The count fits a word, as the machine holds it.
+fn part_at<I: Item>(shape: Shape, list: &[i64], k: usize) -> Part
     requires { k < length list.now }
-    ensures { (I.number result ≡ entry_number shape I.is_animal list.now k) × (count_of I.is_animal shape < 2 ^ 64) }
+    ensures { IsPart (is_block shape.mode1 I.is_animal) shape.width (entry_number shape I.is_animal list.now k) result
+        × (count_of I.is_animal shape < 2 ^ 64) }
 {
-    entries::item_of(count_of::<I>(shape), list[k])
+    let item: I = entries::item_of(count_of::<I>(shape), list[k]);
+    calls::part_of(shape, item)
 }
 
 impl<'a, O: Item, I: Item> Lines<'a, O, I> {
@@ -44,7 +46,7 @@ impl<'a, O: Item, I: Item> Lines<'a, O, I> {
         requires { o < length self.now.outer.now }
         ensures { IsEntryPart self.now.shape O.is_animal self.now.outer.now o result }
     {
-        calls::part_of(self.shape, item_at::<O>(self.shape, self.outer, o))
+        part_at::<O>(self.shape, self.outer, o)
     }
 
     // What entry t of the inner list adds.
@@ -52,10 +54,11 @@ impl<'a, O: Item, I: Item> Lines<'a, O, I> {
         requires { t < length self.now.inner.now }
         ensures { IsEntryPart self.now.shape (not O.is_animal) self.now.inner.now t result }
     {
-        calls::part_of(self.shape, item_at::<I>(self.shape, self.inner, t))
+        part_at::<I>(self.shape, self.inner, t)
     }
 
-    // Whether the entries of the inner list are the items 0, 1, 2 and so on.
+    // Whether the entries of the inner list are the items 0, 1, 2 and so on. Not inlined, so that the loop has the registers for itself.
+    #[inline(never)]
     pub(crate) fn is_in_order(&self) -> bool
         ensures { result ≡ true → AllInOrder self.now.shape (not O.is_animal) self.now.inner.now }
     {
@@ -76,8 +79,11 @@ impl<'a, O: Item, I: Item> Lines<'a, O, I> {
         requires { (from ≤ until) × (until ≤ length self.now.inner.now) × (until - from ≤ 2048) }
         ensures { EntryParts self.now.shape (not O.is_animal) self.now.inner.now from until tile.new }
     {
+        // Copied, so that a store costs no load of them again.
+        let shape = self.shape;
+        let inner = self.inner;
         for k in 0..until - from {
-            let part = self.inner_part(from + k);
+            let part = part_at::<I>(shape, inner, from + k);
             tile.bytes[k] = part.byte;
             tile.places[k] = part.place as u8;
         }

@@ -19,14 +19,15 @@ use Rattle.bed_write.proofs.FirstLaws.{value_read}
 use Rattle.bed_write.proofs.GroupLaws.{good_four, group_byte_law}
 use Rattle.bed_write.proofs.SearchLaws.{none_over}
 
--- ---- places of a matrix, by the order
-pub order_true : (order : Bool) (iids sids i m : ℕ) → order ≡ true → i * sids + m ≡ matrix_place order iids sids i m
-unfolding matrix_place
-order_true order iids sids i m e = ap (λ (o : Bool). matrix_place o iids sids i m) (sym e)
-
-pub order_false : (order : Bool) (iids sids i m : ℕ) → order ≡ false → m * iids + i ≡ matrix_place order iids sids i m
-unfolding matrix_place
-order_false order iids sids i m e = ap (λ (o : Bool). matrix_place o iids sids i m) (sym e)
+-- ---- places of a matrix, by strides
+module _ (order : Bool) (iids sids i m a b : ℕ) (ea : a ≡ cond order sids 1) (eb : b ≡ cond order 1 iids) where
+  pub place_strided : i * a + m * b ≡ matrix_place order iids sids i m
+  unfolding matrix_place
+  place_strided = ap (λ (x : ℕ). i * x + m * b) ea ∙ ap (λ (x : ℕ). i * cond order sids 1 + m * x) eb ∙ by_order order
+    where
+      by_order : (o : Bool) → i * cond o sids 1 + m * cond o 1 iids ≡ matrix_place o iids sids i m
+      by_order true = omega arith
+      by_order false = omega arith
 
 -- the number of the value that was read at the place of an animal and a marker
 module _ {V : Type 0} (w : Width V) (flag : Bool) (missing : V) (order : Bool) (iids sids : ℕ) (val : List V) (long : iids * sids ≡ length val) (a m at : ℕ) (ha : a < iids) (hm : m < sids) (e : at ≡ matrix_place order iids sids a m) where

@@ -4,4 +4,4 @@ use Rattle.bed_read.specs.Private.{EntryParts}
 use Rattle.bed_read.proofs.lines.Lines.resolve.Given as goal
 
 abbrev pub invariant-loop-k : goal.invariant-loop-k
-invariant-loop-k g l = EntryParts l.self.shape (not g.O.Item.is_animal) l.self.inner.now l.from (l.from + l.k) l.tile
+invariant-loop-k g l = EntryParts l.shape (not g.O.Item.is_animal) l.inner l.from (l.from + l.k) l.tile
