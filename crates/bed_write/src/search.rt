@@ -23,15 +23,17 @@ fn first_bad<T: EncodeVal>(matrix: &Matrix<T>, coding: Coding<T>) -> Option<(Iid
     ensures { Finds T.width coding.is_a1_counted coding.missing matrix.now.animal_order matrix.now.iid_count matrix.now.sid_count
         matrix.now.val.now (bad_says result) }
 {
-    for marker in 0..matrix.sid_count {
-        for animal in 0..matrix.iid_count {
-            let (iid, sid) = (IidIndex(animal), SidIndex(marker));
-            if value_codes::code_or_four(matrix.val[matrix.place(iid, sid)], coding) > 3 {
-                return Some((iid, sid));
+    'markers: {
+        for marker in 0..matrix.sid_count {
+            for animal in 0..matrix.iid_count {
+                let (iid, sid) = (IidIndex(animal), SidIndex(marker));
+                if value_codes::code_or_four(matrix.val[matrix.place(iid, sid)], coding) > 3 {
+                    break 'markers Some((iid, sid));
+                }
             }
         }
+        None
     }
-    None
 }
 
 // The same, found at once where no value is bad.

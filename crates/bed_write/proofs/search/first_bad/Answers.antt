@@ -44,8 +44,8 @@ loop-animal-preserved g c =
 pub loop-marker-preserved : goal.loop-marker-preserved
 loop-marker-preserved g c = below_more _ _ c.loop-marker.invariant (λ a h. c.loop-animal.invariant a (omega (arith, c.loop-animal-test.false)))
 
-pub returns : goal.returns
-returns g c =
+pub returns-after-loop-marker : goal.returns-after-loop-marker
+returns-after-loop-marker g c =
     let a = c.args.coding in
     let m = c.args.matrix.now in
     called_none m.iid_count m.sid_count _ (value_coded g.T.BedVal.width a.is_a1_counted a.missing m.animal_order m.iid_count m.sid_count m.val.now) _ c.loop-marker-test.false c.loop-marker.invariant
