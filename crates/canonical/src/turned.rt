@@ -77,13 +77,8 @@ fn turned_byte(file: &[u8], starts: &[usize; 4], item: Part, left: usize, codes:
     })
 }
 
-// The end of the markers that are packed together from `from` on: 16, whose codes share four bytes of each block.
-fn tile_end(from: usize, sid_count: usize) -> usize
-    requires { from < sid_count }
-    ensures { (from < result) × (result ≤ sid_count) }
-{
-    from + (sid_count - from).min(16)
-}
+// How many markers are packed together: 16, whose codes share four bytes of each block.
+const TILE: usize = 16;
 
 // The canonical file: tile by tile, and in it four animals at a time.
 pub(crate) fn turn_blocks(file: &[u8], shape: Shape, out_width: usize, out: &mut [u8])
@@ -91,10 +86,8 @@ pub(crate) fn turn_blocks(file: &[u8], shape: Shape, out_width: usize, out: &mut
     ensures { out.new ≡ canonical_file file.now shape.iids shape.sids }
 {
     let codes = CodeTable::new();
-    let mut from = 0;
-    // no `for`: a tile ends where the next begins, and the last one is shorter
-    while from < shape.sids {
-        let until = tile_end(from, shape.sids);
+    for from in (0..shape.sids).step_by(TILE) {
+        let until = from + TILE.min(shape.sids - from);
         for b in 0..out_width {
             let first = 4 * b;
             let left = shape.iids - first;
@@ -104,6 +97,5 @@ pub(crate) fn turn_blocks(file: &[u8], shape: Shape, out_width: usize, out: &mut
                 out[3 + m * out_width + b] = turned_byte(file, &starts, item, left, &codes);
             }
         }
-        from = until;
     }
 }

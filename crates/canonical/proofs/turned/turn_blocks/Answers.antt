@@ -1,3 +1,5 @@
+use Rattle.bed_write.proofs.RowLaws.{tile_done}
+use Rattle.std.proofs.Common.{rules}
 use mathlib.Core.Path.{sym, subst}
 use Prim.Native.Nat.{ℕ, ◌*◌, ◌<◌}
 use native.Mathlib.Omega.{arith}
@@ -52,3 +54,8 @@ loop-m-preserved c =
 
 pub returns : goal.returns
 returns c = whole_written c.args.file.now c.args.shape c.args.out_width c.requires.0.width_is _ _ _ _ _ c.loop-from.invariant c.loop-from-test.false
+
+pub returns-2 : goal.returns-2
+returns-2 c =
+    whole_written c.args.file.now c.args.shape c.args.out_width c.requires.0.width_is _ _ _ _ _
+    (tile_done _ _ _ _ _ _ _ _ c.loop-b.invariant c.loop-b-test.false) (search rules)
