@@ -184,10 +184,8 @@ fn all_stats(
         (standardise_says result) stats.new }
 {
     let mut lowest = Ok(());
-    let mut base = 0;
-    // A `while`, since the last tile may be narrower.
-    while base < sid_count {
-        let width = (sid_count - base).min(TILE);
+    for base in (0..sid_count).step_by(TILE) {
+        let width = TILE.min(sid_count - base);
         let mut tile = Accumulators::new();
         tile.count_tile(val, iid_count, sid_count, base, width);
         for j in 0..width {
@@ -196,7 +194,6 @@ fn all_stats(
             stats_buffer::put_found(stats, m, found);
             lowest = lowest.and(answers::marker_answer(m, found));
         }
-        base += width;
     }
     lowest
 }
@@ -225,12 +222,8 @@ fn apply_all(val: &mut [f64], iid_count: usize, sid_count: usize, stats: &[f64])
     requires { BuffersFit iid_count sid_count val.old stats.now }
     ensures { val.new ≡ all_applied binary64 iid_count sid_count stats.now val.old }
 {
-    let mut base = 0;
-    // A `while`, since the last tile may be narrower.
-    while base < sid_count {
-        let width = (sid_count - base).min(TILE);
-        apply_tile(val, iid_count, sid_count, base, width, stats);
-        base += width;
+    for base in (0..sid_count).step_by(TILE) {
+        apply_tile(val, iid_count, sid_count, base, TILE.min(sid_count - base), stats);
     }
 }
 

@@ -1,5 +1,5 @@
 -- `all_stats`: a tile more, marker by marker.
-use Rattle.std.proofs.Common.{arith, ◌∙◌}
+use Rattle.std.proofs.Common.{arith, rules, ◌∙◌}
 use lib.Ieee.{binary64}
 use mathlib.Core.Bool.{false, true}
 use Rattle.standardise.specs.Standardised.{found, lowest_refused, new_stats}
@@ -25,3 +25,9 @@ unfolding lowest_refused new_stats
 returns c =
     stats_passed_all _ (found binary64 true c.args.iid_count c.args.sid_count c.args.val.now false c.args.stats.now) _ c.requires.1
     c.loop-base.invariant c.loop-base-test.false
+
+pub returns-2 : goal.returns-2
+unfolding lowest_refused new_stats
+returns-2 c =
+    stats_passed_all _ (found binary64 true c.args.iid_count c.args.sid_count c.args.val.now false c.args.stats.now) _ c.requires.1
+    (c.loop-j.invariant.passed _ c.loop-base.invariant) (search rules)
