@@ -1,4 +1,4 @@
-// Reading values.
+// Reading values. In the inner loops the file, the tile and the values are passed by themselves, so that none is loaded anew after a store.
 ghost use Rattle.std.specs.Prelude.{◌≡◌, not, map, ℕ, ◌+◌, ◌-◌, ◌*◌, ◌/◌, ◌%◌, ◌<◌, ◌≤◌, length};
 ghost use Rattle.codes.specs.Value.{value_of};
 ghost use Rattle.bed_read.specs.Reading.{Reads};
