@@ -110,13 +110,11 @@ impl<'a, O: Item, I: Item> Lines<'a, O, I> {
         0
     }
 
-    // The end of the tile that starts at `from`: 2,048 neighbouring items or 128 neighbouring blocks, or what is left.
-    pub(crate) fn tile_end(&self, from: usize) -> usize
-        requires { from < length self.now.inner.now }
-        ensures { (from < result) × (result ≤ length self.now.inner.now) × (result - from ≤ 2048) }
+    // How many entries a tile has: 2,048 neighbouring items, or 128 neighbouring blocks.
+    pub(crate) fn tile(&self) -> usize
+        ensures { (0 < result) × (result ≤ 2048) }
     {
-        let most: usize = if self.are_blocks() { 2048 } else { 128 };
-        from + most.min(self.inner.len() - from)
+        if self.are_blocks() { 2048 } else { 128 }
     }
 
     // The first bytes of four blocks.

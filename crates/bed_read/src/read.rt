@@ -215,13 +215,11 @@ fn read_matrix<T: BedVal, O: Item, I: Item>(lines: &Lines<O, I>, values: Values<
         bytes: [0; 2048],
         places: [0; 2048],
     };
-    // A tile's end is the next one's start: there is no count to go over.
-    let mut from = 0;
-    while from < inner {
-        let until = lines.tile_end(from);
+    let most = lines.tile();
+    for from in (0..inner).step_by(most) {
+        let until = from + most.min(inner - from);
         lines.resolve(from, until, &mut tile);
         read_tile(lines, from, until, &tile, values, val);
-        from = until;
     }
 }
 

@@ -1,4 +1,4 @@
-use Rattle.std.proofs.Common.{arith}
+use Rattle.std.proofs.Common.{arith, rules}
 use Rattle.bed_read.proofs.MatrixLaws.{read_none, read_all}
 use Rattle.bed_read.proofs.read.read_matrix.Goals as goal
 
@@ -11,5 +11,8 @@ returns-then-is_in_order g c = read_all _ _ _ _ _ _ _ _ _ c.read_blocks.ensures 
 pub loop-from-init : goal.loop-from-init
 loop-from-init g c = read_none _ _ _ _ _ _ _ _ c.requires
 
-pub returns : goal.returns
-returns g c = read_all _ _ _ _ _ _ _ _ _ c.loop-from.invariant c.loop-from-test.false
+pub returns-else-is_in_order : goal.returns-else-is_in_order
+returns-else-is_in_order g c = read_all _ _ _ _ _ _ _ _ _ c.loop-from.invariant c.loop-from-test.false
+
+pub returns-else-is_in_order-2 : goal.returns-else-is_in_order-2
+returns-else-is_in_order-2 g c = read_all _ _ _ _ _ _ _ _ _ c.read_tile.ensures (search rules)
