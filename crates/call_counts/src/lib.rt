@@ -3,16 +3,19 @@
 
 ghost use Rattle.std.specs.Prelude.{◌≡◌, true, false, ℕ, ◌+◌, ◌*◌, ◌%◌, ◌<◌, ◌≤◌, length, get_or};
 ghost use Rattle.call_counts.specs.Counts.{CountsCalls};
-ghost use Rattle.call_counts.specs.Private.{Ready, InOrder, Along, EntryParts, code_weights, byte_tallies, count_at, CountedTo};
+ghost use Rattle.call_counts.specs.Private.{Ready, InOrder, Along, EntryParts, count_at, CountedTo};
 ghost use Rattle.bed_read.specs.Says.{read_says};
 
 mod bits;
+mod run;
 mod table;
 mod tallies;
 
 use bed_read::ReadError;
 use calls::Shape;
 use entries::{IidIndex, SidIndex};
+use run::RunParts;
+use table::TallyTable;
 
 // Whether the entries of the animal list mean 0, 1, 2 and so on.
 fn is_in_order(iid_count: usize, iid_index: &[i64]) -> bool
@@ -56,22 +59,15 @@ fn run_length(from: usize, len: usize, limit: usize) -> usize
 }
 
 // What n entries of the animal list, from `from` on, add to where a call stands.
-fn resolve(
-    shape: Shape,
-    iid_index: &[i64],
-    from: usize,
-    n: usize,
-    bytes: &mut [usize; 2048],
-    places: &mut [u8; 2048],
-)
-    requires { (from + n ≤ length iid_index.now) × (n ≤ 2048) × (length bytes.old ≡ 2048) × (length places.old ≡ 2048) }
-    ensures { EntryParts shape iid_index.now from n bytes.new places.new }
+fn resolve(shape: Shape, iid_index: &[i64], from: usize, n: usize, run: &mut RunParts)
+    requires { (from + n ≤ length iid_index.now) × (n ≤ 2048) }
+    ensures { EntryParts shape iid_index.now from n run.new }
 {
     for k in 0..n {
         let iid: IidIndex = entries::item_of(shape.iids, iid_index[from + k]);
         let part = calls::part_of(shape, iid);
-        bytes[k] = part.byte;
-        places[k] = part.place as u8;
+        run.bytes[k] = part.byte;
+        run.places[k] = part.place as u8;
     }
 }
 
@@ -82,17 +78,15 @@ fn resolve_run(
     along: bool,
     from: usize,
     n: usize,
-    bytes: &mut [usize; 2048],
-    places: &mut [u8; 2048],
+    run: &mut RunParts,
 )
-    requires { (from + n ≤ length iid_index.now) × (along ≡ false → n ≤ 2048) × (length bytes.old ≡ 2048) × (length places.old ≡ 2048) }
-    ensures { (along ≡ false → EntryParts shape iid_index.now from n bytes.new places.new)
-        × (length bytes.new ≡ 2048) × (length places.new ≡ 2048) }
+    requires { (from + n ≤ length iid_index.now) × (along ≡ false → n ≤ 2048) }
+    ensures { along ≡ false → EntryParts shape iid_index.now from n run.new }
 {
     if along {
         return;
     }
-    resolve(shape, iid_index, from, n, bytes, places);
+    resolve(shape, iid_index, from, n, run);
 }
 
 // Counts the n entries of the animal list from `from` on, at every marker named.
@@ -103,18 +97,15 @@ fn count_run(
     sid_index: &[i64],
     along: bool,
     from: usize,
-    bytes: &[usize; 2048],
-    places: &[u8; 2048],
+    run: &RunParts,
     n: usize,
-    table: &[u64; 256],
-    weights: &[u64; 4],
+    table: &TallyTable,
     counts: &mut [u64],
 )
     requires { Ready file.now shape iid_index.now sid_index.now
         × (from + n ≤ length iid_index.now) × (from % 4 ≡ 0) × (0 < n) × (n < 65536)
         × (along ≡ true → Along shape iid_index.now)
-        × (along ≡ false → EntryParts shape iid_index.now from n bytes.now places.now × (n ≤ 2048))
-        × (table.now ≡ byte_tallies) × (weights.now ≡ code_weights)
+        × (along ≡ false → EntryParts shape iid_index.now from n run.now × (n ≤ 2048))
         × CountedTo (count_at file.now shape.iids shape.sids iid_index.now sid_index.now) (4 * length sid_index.now) from counts.old }
     ensures { CountedTo (count_at file.now shape.iids shape.sids iid_index.now sid_index.now)
         (4 * length sid_index.now) (from + n) counts.new }
@@ -123,7 +114,7 @@ fn count_run(
     for m in 0..sid_index.len() {
         let sid: SidIndex = entries::item_of(shape.sids, sid_index[m]);
         let part = calls::part_of(shape, sid);
-        let packed = tallies::tally_run(file, part, along, first, bytes, places, n, table, weights);
+        let packed = tallies::tally_run(file, part, along, first, run, n, table);
         tallies::add_tally(counts, 4 * m, packed);
     }
 }
@@ -134,22 +125,20 @@ fn count_all(file: &[u8], shape: Shape, iid_index: &[i64], sid_index: &[i64], co
     ensures { CountedTo (count_at file.now shape.iids shape.sids iid_index.now sid_index.now)
         (4 * length sid_index.now) (length iid_index.now) counts.new }
 {
-    let table = table::byte_tallies();
-    let weights = tallies::weights();
+    let table = TallyTable::new();
     let along = is_along(shape, iid_index);
     let limit = run_limit(shape.mode1, along);
-    let mut bytes = [0usize; 2048];
-    let mut places = [0u8; 2048];
+    let mut run = RunParts {
+        bytes: [0; 2048],
+        places: [0; 2048],
+    };
     counts.fill(0);
-    let mut from = 0;
-    while from < iid_index.len() {
+    for from in (0..iid_index.len()).step_by(limit) {
         let n = run_length(from, iid_index.len(), limit);
-        resolve_run(shape, iid_index, along, from, n, &mut bytes, &mut places);
+        resolve_run(shape, iid_index, along, from, n, &mut run);
         count_run(
-            file, shape, iid_index, sid_index, along, from, &bytes, &places, n, &table, &weights,
-            counts,
+            file, shape, iid_index, sid_index, along, from, &run, n, &table, counts,
         );
-        from += n;
     }
 }
 

@@ -3,5 +3,5 @@ use Rattle.calls.specs.Places.{is_block}
 use Rattle.calls.proofs.PlaceLaws.{part_below}
 use Rattle.call_counts.proofs.resolve.Goals as goal
 
-pub overflow_cast-places : goal.overflow_cast-places
-overflow_cast-places c = omega (arith, c.part_of-part.ensures.place_is, part_below (is_block c.args.shape.mode1 true) c.item_of-iid.result.0)
+pub overflow_cast-run : goal.overflow_cast-run
+overflow_cast-run c = omega (arith, c.part_of-part.ensures.place_is, part_below (is_block c.args.shape.mode1 true) c.item_of-iid.result.0)

@@ -3,4 +3,4 @@ use Rattle.call_counts.specs.Private.{EntryParts}
 use Rattle.call_counts.proofs.resolve.Given as goal
 
 abbrev pub invariant-loop-k : goal.invariant-loop-k
-invariant-loop-k l = EntryParts l.shape l.iid_index l.from l.k l.bytes l.places
+invariant-loop-k l = EntryParts l.shape l.iid_index l.from l.k l.run

@@ -1,7 +1,7 @@
 -- The four weights, computed.
 use mathlib.Core.Path.{refl}
 use Rattle.call_counts.specs.Private.{weight}
-use Rattle.call_counts.proofs.tallies.weights.Goals as goal
+use Rattle.call_counts.proofs.table.weights.Goals as goal
 
 pub returns : goal.returns
 unfolding weight
