@@ -223,7 +223,14 @@ fn apply_all(val: &mut [f64], iid_count: usize, sid_count: usize, stats: &[f64])
     ensures { val.new ≡ all_applied binary64 iid_count sid_count stats.now val.old }
 {
     for base in (0..sid_count).step_by(TILE) {
-        apply_tile(val, iid_count, sid_count, base, TILE.min(sid_count - base), stats);
+        apply_tile(
+            val,
+            iid_count,
+            sid_count,
+            base,
+            TILE.min(sid_count - base),
+            stats,
+        );
     }
 }
 
