@@ -2,7 +2,7 @@
 use mathlib.Core.Path.{◌≡◌, refl, sym, ap, ◌∙◌}
 use mathlib.Core.Bool.{Bool, true, false}
 use mathlib.Core.List.{List, [], ◌∷◌}
-use mathlib.Core.Option.{Option, some, none}
+use Rattle.std.specs.Prelude.{Option, Some, None, Result, Ok, Err, IsErrAnd}
 use Prim.Native.Nat.{ℕ, ◌≤◌, ◌<◌}
 use native.Mathlib.Omega.{arith}
 use borrow.Author.Tests.{leb-true, le-leb, lt-leb}
@@ -19,11 +19,11 @@ pub check_refuses : (b : Bool) (n : ℕ) (later : Answer) → b ≡ false → ch
 unfolding check
 check_refuses b n later e = rw e
 
-pub entry_passes : (o : Option ℤ) (n : ℕ) (later : Answer) → o ≡ none → check_entry o n later ≡ later
+pub entry_passes : (o : Option ℤ) (n : ℕ) (later : Answer) → o ≡ None → check_entry o n later ≡ later
 unfolding check_entry
 entry_passes o n later e = rw e
 
-pub entry_refuses : (o : Option ℤ) (n : ℕ) (later : Answer) (z : ℤ) → o ≡ some z → check_entry o n later ≡ refused n (z ∷ [])
+pub entry_refuses : (o : Option ℤ) (n : ℕ) (later : Answer) (z : ℤ) → o ≡ Some z → check_entry o n later ≡ refused n (z ∷ [])
 unfolding check_entry
 entry_refuses o n later z e = rw e
 
@@ -37,20 +37,20 @@ count_refuses n later h = check_refuses (leb n count_limit) 18 later (lt-leb n c
 
 -- ---- what a list's check found
 unfoldable carried : Answer → Option ℤ
-carried (done vs) = none
-carried (refused n []) = none
-carried (refused n (e ∷ es)) = some e
+carried (done vs) = None
+carried (refused n []) = None
+carried (refused n (e ∷ es)) = Some e
 
 carried_entry : (o : Option ℤ) (n : ℕ) → carried (check_entry o n (done [])) ≡ o
 unfolding carried check_entry
-carried_entry none n = refl
-carried_entry (some e) n = refl
+carried_entry None n = refl
+carried_entry (Some e) n = refl
 
-pub entry_some : (o : Option ℤ) (n : ℕ) (e : ℤ) → refused n (e ∷ []) ≡ check_entry o n (done []) → o ≡ some e
+pub entry_some : (o : Option ℤ) (n : ℕ) (e : ℤ) → refused n (e ∷ []) ≡ check_entry o n (done []) → o ≡ Some e
 unfolding carried
 entry_some o n e q = sym (carried_entry o n) ∙ ap carried (sym q)
 
-pub entry_none : (o : Option ℤ) (n : ℕ) → done [] ≡ check_entry o n (done []) → o ≡ none
+pub entry_none : (o : Option ℤ) (n : ℕ) → done [] ≡ check_entry o n (done []) → o ≡ None
 unfolding carried
 entry_none o n q = sym (carried_entry o n) ∙ ap carried (sym q)
 
@@ -60,10 +60,10 @@ unfolding check
 check_done true n later e = (refl, e)
 check_done false n later e = absurd (let q : ◌≡◌ {A = ℕ} 0 1 = cc in omega arith)
 
-pub entry_done : (o : Option ℤ) (n : ℕ) (later : Answer) → is_done (check_entry o n later) ≡ true → (o ≡ none) × (is_done later ≡ true)
+pub entry_done : (o : Option ℤ) (n : ℕ) (later : Answer) → is_done (check_entry o n later) ≡ true → (o ≡ None) × (is_done later ≡ true)
 unfolding check_entry
-entry_done none n later e = (refl, e)
-entry_done (some z) n later e = absurd (let q : ◌≡◌ {A = ℕ} 0 1 = cc in omega arith)
+entry_done None n later e = (refl, e)
+entry_done (Some z) n later e = absurd (let q : ◌≡◌ {A = ℕ} 0 1 = cc in omega arith)
 
 pub count_done : (n : ℕ) (later : Answer) → is_done (check_count n later) ≡ true → (n ≤ count_limit) × (is_done later ≡ true)
 unfolding check_count
@@ -83,10 +83,10 @@ pub count_other : (n : ℕ) (later : Answer) (m : ℕ) (vs : List ℤ) → (18 �
 unfolding check_count
 count_other n later m vs o e = check_other (leb n count_limit) 18 later m vs o e
 
-pub entry_other : (o : Option ℤ) (n : ℕ) (later : Answer) (m : ℕ) (vs : List ℤ) → (n ≡ m → ⊥) → check_entry o n later ≡ refused m vs → (o ≡ none) × (later ≡ refused m vs)
+pub entry_other : (o : Option ℤ) (n : ℕ) (later : Answer) (m : ℕ) (vs : List ℤ) → (n ≡ m → ⊥) → check_entry o n later ≡ refused m vs → (o ≡ None) × (later ≡ refused m vs)
 unfolding check_entry number
-entry_other none n later m vs d e = (refl, e)
-entry_other (some z) n later m vs d e = absurd (d (ap number e))
+entry_other None n later m vs d e = (refl, e)
+entry_other (Some z) n later m vs d e = absurd (d (ap number e))
 
 -- ---- later buffers
 pub new_if_done : {A : Type 0} (a : Answer) (new old : A) → is_done a ≡ true → if_done a new old ≡ new
@@ -118,8 +118,8 @@ check_stage false n = refuses n [] (λ later. refl)
 
 pub entry_stage : (o : Option ℤ) (n : ℕ) → Stage (λ later. check_entry o n later)
 unfolding check_entry
-entry_stage none n = lets (λ later. refl)
-entry_stage (some z) n = refuses n (z ∷ []) (λ later. refl)
+entry_stage None n = lets (λ later. refl)
+entry_stage (Some z) n = refuses n (z ∷ []) (λ later. refl)
 
 pub count_stage : (n : ℕ) → Stage (λ later. check_count n later)
 unfolding check_count
@@ -148,3 +148,19 @@ pub before_later : {F : Answer → Answer} → Stage F → (later : Answer) → 
 before_later (lets f) later e = ap is_done (f (done []))
 before_later (refuses n ws f) later e =
     absurd (let q : ◌≡◌ {A = Bool} false true = sym (ap is_done (f later)) ∙ e in let r : ◌≡◌ {A = ℕ} 0 1 = cc in omega arith)
+
+-- ---- what `?` hands on at the same type of errors
+pub same_error : {T E : Type 0} (r : Result T E) (e : E) → IsErrAnd r (λ error. error ≡ e) → r ≡ Err e
+same_error (Ok _) e h = absurd h
+same_error (Err error) e h = ap Err h
+
+-- and what it turns into another error, one of the same number
+pub error_told :
+    {T E : Type 0} (says : Result T E → Answer) (number_of : E → ℕ) → ((error : E) → says (Err error) ≡ refused (number_of error) [])
+    → (r : Result T E) (n : ℕ) → IsErrAnd r (λ error. n ≡ number_of error) → says r ≡ refused n []
+error_told says number_of told (Ok _) n h = absurd h
+error_told says number_of told (Err error) n h = told error ∙ ap (λ (k : ℕ). refused k []) (sym h)
+
+pub error_said : {T E : Type 0} (says : Result T E → Answer) (r : Result T E) (a : Answer) → IsErrAnd r (λ error. says (Err error) ≡ a) → says r ≡ a
+error_said says (Ok _) a h = absurd h
+error_said says (Err error) a h = h

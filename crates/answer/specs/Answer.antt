@@ -1,6 +1,6 @@
 -- What a call answers, and its checks in order.
 use Rattle.std.specs.Prelude.{◌≡◌, Bool, true, false, cond, List, [], ◌∷◌, ℕ, ◌^◌, ◌-◌, ℤ, leb}
-use Rattle.std.proofs.Math.Option.{Option, some, none}
+use Rattle.std.specs.Prelude.{Option, Some, None}
 
 -- Done, with the numbers that the call answers, or refused by document 01's number, with the values that this number carries.
 pub data Answer : Type 0 where
@@ -14,8 +14,8 @@ check false n later = refused n []
 
 -- "first bad entry of the .. list; carries it"
 unfoldable pub check_entry : Option ℤ → ℕ → Answer → Answer
-check_entry none n later = later
-check_entry (some e) n later = refused n (e ∷ [])
+check_entry None n later = later
+check_entry (Some e) n later = refused n (e ∷ [])
 
 -- whether nothing was refused
 abbrev pub is_done : Answer → Bool

@@ -9,7 +9,11 @@ use lib.Dec.{leb}
 use lib.IntN.{ℤ, pos, negsuc}
 use mir.Syntax.{w64}
 use mir.Val.{to_z, of_z}
-use mir.ValLaws.{to_z_pos}
+use mir.ValLaws.{to_z_pos, to_z-of_z}
+use Rattle.answer.proofs.Tests.{by_lt}
+use Rattle.std.specs.Prelude.{Result, Ok, Err, OkIff}
+use Rattle.std.specs.Result.{result_unwrap_or}
+use mir.Val.{SFits}
 use Rattle.answer.specs.Answer.{Answer, done, refused, count_limit}
 use Rattle.bed_answer.specs.declared.BedAnswer.{BedAnswer}
 use Rattle.bed_answer.specs.Interface.{bed_answer, clipped, clip, carries_entry, clip_answer}
@@ -87,3 +91,8 @@ bare_clipped n = sym (ap bed_answer (answer_clipped (refused n []) (λ _. tt)))
 -- the core's answer, whose numbers fit, is told as the definition's
 pub as_fits : {r : BedAnswer} {says : Answer} (answer : Answer) → r ≡ bed_answer (clip_answer says) → says ≡ answer → Fits answer → r ≡ bed_answer answer
 as_fits answer e q f = e ∙ ap (λ a. bed_answer (clip_answer a)) q ∙ ap bed_answer (answer_clipped answer f)
+
+-- as `try_from` and `unwrap_or` hold them
+pub clip_held : {E : Type 0} (n : ℕ) (r : Result ℤ E) → OkIff r (SFits w64 (pos n)) (pos n) → to_z w64 (of_z w64 (result_unwrap_or r (pos count_limit))) ≡ pos (clipped n)
+clip_held n (Ok x) (f, e) = rw e (to_z-of_z w64 (pos n) f) ∙ ap pos (sym (clip_below n f.sfits))
+clip_held n (Err e) o = ap pos (sym (clip_above n (by_lt n (2 ^ 63) (λ h. absurd (o (record { sfits = h }))) (λ h. h))))

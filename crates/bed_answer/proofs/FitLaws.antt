@@ -2,7 +2,7 @@
 use mathlib.Core.Path.{◌≡◌, refl, sym, ◌∙◌}
 use mathlib.Core.Bool.{Bool, true, false, ◌&&◌}
 use mathlib.Core.List.{List, [], ◌∷◌, map}
-use mathlib.Core.Option.{Option, some, none}
+use Rattle.std.specs.Prelude.{Option, Some, None}
 use Prim.Native.Nat.{ℕ, zero, suc, ◌+◌, ◌-◌, ◌*◌, ◌/◌, ◌^◌, ◌≤◌, ◌<◌}
 use native.Mathlib.Omega.{arith}
 use borrow.Author.Tests.{leb-true}
@@ -16,8 +16,6 @@ use Rattle.entries.specs.Entry.{is_good, first_bad, least, byte_of, span, span_a
 use Rattle.entries.proofs.EntryLaws.{pair_good}
 use Rattle.entries.proofs.SpanLaws.{byte_below, greatest_below}
 use Rattle.blocks.proofs.Widths.{width_none, width_some}
-use Rattle.index.specs.declared.range.Bound.{Bound}
-use Rattle.index.specs.declared.slice.SliceEnd.{SliceEnd}
 use Rattle.index.specs.declared.range.RangeAny.{RangeAny}
 use Rattle.index.specs.declared.Index.{Index}
 use Rattle.index.specs.Numbers.{bound_or, index_list}
@@ -27,7 +25,9 @@ use Rattle.bed_read.specs.Reading.{check_lists}
 use Rattle.bed_write.specs.Packing.{first_of, or_else, if_bad, first_bad_animal, check_animal, encode_answer}
 use Rattle.bed_write.specs.Writing.{first_bad_call, check_call, check_buffers, write_answer}
 use Rattle.statistics.specs.declared.MarkerStats.{MarkerStats}
-use Rattle.statistics.specs.declared.MarkerStats.TheVariants.{Lent, Found, NoIndividuals, IllegalSnpMean}
+use Rattle.statistics.specs.declared.MarkerError.{MarkerError}
+use Rattle.statistics.specs.declared.MarkerError.TheVariants.{NoIndividuals, IllegalSnpMean}
+use Rattle.std.specs.Prelude.{Result, Ok, Err}
 use Rattle.statistics.specs.Statistics.{stats_per_marker}
 use Rattle.standardise.specs.Standardised.{marker_answer, markers_answer, buffer_checks, found, lowest_refused, standardise_answer}
 use Rattle.read_standardised.specs.Joined.{joined_checks, read_nan, joined_answer}
@@ -58,10 +58,10 @@ count_fits : (n : ℕ) (later : Answer) → (n ≤ count_limit → Fits later) �
 unfolding check_count
 count_fits n later f = if_fits (leb n count_limit) 18 later (λ e. f (leb-true n count_limit e))
 
-entry_fits : (o : Option ℤ) (n : ℕ) (later : Answer) → carries_entry n ≡ true → (o ≡ none → Fits later) → Fits (check_entry o n later)
+entry_fits : (o : Option ℤ) (n : ℕ) (later : Answer) → carries_entry n ≡ true → (o ≡ None → Fits later) → Fits (check_entry o n later)
 unfolding check_entry Fits
-entry_fits none n later e f = f refl
-entry_fits (some z) n later e f = λ q. absurd (let p : ◌≡◌ {A = Bool} true false = sym e ∙ q in let q2 : ◌≡◌ {A = ℕ} 0 1 = cc in omega arith)
+entry_fits None n later e f = f refl
+entry_fits (Some z) n later e f = λ q. absurd (let p : ◌≡◌ {A = Bool} true false = sym e ∙ q in let q2 : ◌≡◌ {A = ℕ} 0 1 = cc in omega arith)
 
 -- ---- block widths
 width_below : (n : ℕ) → n ≤ count_limit → block_width n < 2 ^ 63
@@ -80,7 +80,7 @@ module _ (count : ℕ) where
   least_below n [] h = h
   least_below n (m ∷ ms) h = omega arith
 
-  spans_fit : (list : List ℤ) → count ≤ count_limit → first_bad count list ≡ none → Fits (done (span count list))
+  spans_fit : (list : List ℤ) → count ≤ count_limit → first_bad count list ≡ None → Fits (done (span count list))
   unfolding Fits AllBelow span first_bad
   spans_fit [] h f = (omega arith, (omega arith, tt))
   spans_fit (e ∷ es) h f =
@@ -95,10 +95,10 @@ unfolding span_answer carries_entry
 span_fits count list = count_fits count _ (λ h. entry_fits (first_bad count list) 5 _ refl (λ f. spans_fit count list h f))
 
 -- ---- ranges and lists
-bound_fits : (b : Bound) (absent : ℕ) (later : Answer) → absent ≤ count_limit → (bound_or absent b ≤ count_limit → Fits later) → Fits (check_bound b later)
-unfolding check_bound bound_or
-bound_fits Bound.Absent absent later h f = f h
-bound_fits (Bound.At n) absent later h f = count_fits n later f
+bound_fits : (b : Option ℕ) (absent : ℕ) (later : Answer) → absent ≤ count_limit → (bound_or absent b ≤ count_limit → Fits later) → Fits (check_bound b later)
+unfolding check_bound
+bound_fits None absent later h f = f h
+bound_fits (Some n) absent later h f = count_fits n later f
 
 range_checked : (r : RangeAny) (count : ℕ) (later : Answer) → count ≤ count_limit → (bound_or 0 r.start ≤ count_limit → bound_or count r.end ≤ count_limit → Fits later) → Fits (check_range r count later)
 unfolding check_range
@@ -110,38 +110,38 @@ pub range_fits : (r : RangeAny) (count : ℕ) → Fits (range_answer r count)
 unfolding range_answer Fits AllBelow
 range_fits r count = count_fits count _ (λ h. range_checked r count _ h (λ s e. (omega arith, (omega arith, tt))))
 
-end_fits_law : (e : SliceEnd) (count : ℕ) (later : Answer) → Fits later → Fits (check_end e count later)
+end_fits_law : (e : Option ℤ) (count : ℕ) (later : Answer) → Fits later → Fits (check_end e count later)
 unfolding check_end
-end_fits_law SliceEnd.Absent count later f = f
-end_fits_law (SliceEnd.At e) count later f = check_fits _ 11 later f
+end_fits_law None count later f = f
+end_fits_law (Some e) count later f = check_fits _ 11 later f
 
-index_checked : (index : Index) (count : ℕ) (marks : List ℕ) (later : Answer) → count ≤ count_limit → Fits later → Fits (check_index index count marks later)
+index_checked : (index : Index) (count : ℕ) (later : Answer) → count ≤ count_limit → Fits later → Fits (check_index index count later)
 unfolding check_index check_slice
-index_checked Index.All count marks later h f = f
-index_checked (Index.One one) count marks later h f = f
-index_checked Index.Vec count marks later h f = f
-index_checked Index.VecBool count marks later h f = check_fits (eqb (length marks) count) 8 later f
-index_checked (Index.RangeAny r) count marks later h f = range_checked r count later h (λ _ _. f)
-index_checked (Index.NDSliceInfo s) count marks later h f = check_fits _ 9 _ (check_fits _ 10 _ (end_fits_law s.end count later f))
+index_checked Index.All count later h f = f
+index_checked (Index.One one) count later h f = f
+index_checked (Index.Vec vec) count later h f = f
+index_checked (Index.VecBool marks) count later h f = check_fits (eqb (length marks.now) count) 8 later f
+index_checked (Index.RangeAny r) count later h f = range_checked r count later h (λ _ _. f)
+index_checked (Index.NDSliceInfo s) count later h f = check_fits _ 9 _ (check_fits _ 10 _ (end_fits_law s.end count later f))
 
-pub list_fits : (index : Index) (count : ℕ) (vec : List ℤ) (marks : List ℕ) (room : ℕ) → room < 2 ^ 63 → Fits (index_answer index count vec marks room)
+pub list_fits : (index : Index) (count : ℕ) (room : ℕ) → room < 2 ^ 63 → Fits (index_answer index count room)
 unfolding index_answer list_answer Fits AllBelow
-list_fits index count vec marks room l =
+list_fits index count room l =
     count_fits count _
-    (λ h. index_checked index count marks _ h
-    (if_fits (leb (length (index_list index count vec marks)) room) 19 _
-    (λ e. (let b = leb-true (length (index_list index count vec marks)) room e in omega arith, tt))))
+    (λ h. index_checked index count _ h
+    (if_fits (leb (length (index_list index count)) room) 19 _
+    (λ e. (let b = leb-true (length (index_list index count)) room e in omega arith, tt))))
 
 -- ---- the first bad value
 -- what is found has a property
 unfoldable Holds : {A : Type 0} → (A → Type 0) → Option A → Type 0
-Holds P none = Unit
-Holds P (some x) = P x
+Holds P None = Unit
+Holds P (Some x) = P x
 
 or_holds : {A : Type 0} (P : A → Type 0) (o later : Option A) → Holds P o → Holds P later → Holds P (or_else o later)
 unfolding Holds or_else
-or_holds P none later h k = k
-or_holds P (some x) later h k = h
+or_holds P None later h k = k
+or_holds P (Some x) later h k = h
 
 first_holds : {A : Type 0} (P : A → Type 0) (n : ℕ) (f : ℕ → Option A) → ((k : ℕ) → k < n → Holds P (f k)) → Holds P (first_of n f)
 unfolding Holds first_of
@@ -151,13 +151,13 @@ first_holds P (suc n) f h =
 
 bad_holds : {A : Type 0} (P : A → Type 0) (o : Option ℕ) (x : A) → P x → Holds P (if_bad o x)
 unfolding Holds if_bad
-bad_holds P (some c) x p = tt
-bad_holds P none x p = p
+bad_holds P (Some c) x p = tt
+bad_holds P None x p = p
 
 animal_fits : (o : Option ℕ) → Holds (λ a. a < 2 ^ 63) o → Fits (check_animal o (done []))
 unfolding check_animal Holds Fits AllBelow
-animal_fits none h = tt
-animal_fits (some a) h = λ _. (h, tt)
+animal_fits None h = tt
+animal_fits (Some a) h = λ _. (h, tt)
 
 pub encode_fits : (n : ℕ) (code : ℕ → Option ℕ) (out_length : ℕ) → n < 2 ^ 63 → Fits (encode_answer n code out_length)
 unfolding encode_answer first_bad_animal
@@ -167,8 +167,8 @@ encode_fits n code out_length l =
 
 call_fits : (o : Option (ℕ × ℕ)) → Holds (λ (p : ℕ × ℕ). (p.0 < 2 ^ 63) × (p.1 < 2 ^ 63)) o → Fits (check_call o (done []))
 unfolding check_call Holds Fits AllBelow
-call_fits none h = tt
-call_fits (some (a, m)) h = λ _. (h.0, (h.1, tt))
+call_fits None h = tt
+call_fits (Some (a, m)) h = λ _. (h.0, (h.1, tt))
 
 pub write_fits : (iids sids : ℕ) (code : ℕ → ℕ → Option ℕ) (val_length out_length : ℕ) → Fits (write_answer iids sids code val_length out_length)
 unfolding write_answer check_buffers check_size first_bad_call
@@ -187,14 +187,13 @@ unfolding if_done
 cond_fits (done vs) new old f g = f
 cond_fits (refused n vs) new old f g = g
 
-marker_fits : (m : ℕ) (s : MarkerStats) → m < 2 ^ 63 → Fits (marker_answer m s)
+marker_fits : (m : ℕ) (s : Result MarkerStats MarkerError) → m < 2 ^ 63 → Fits (marker_answer m s)
 unfolding marker_answer Fits AllBelow
-marker_fits m (Lent s) h = tt
-marker_fits m (Found s observed) h = tt
-marker_fits m NoIndividuals h = λ _. (h, tt)
-marker_fits m IllegalSnpMean h = λ _. (h, tt)
+marker_fits m (Ok s) h = tt
+marker_fits m (Err NoIndividuals) h = λ _. (h, tt)
+marker_fits m (Err IllegalSnpMean) h = λ _. (h, tt)
 
-markers_fit : (found : ℕ → MarkerStats) (n : ℕ) → n < 2 ^ 63 → Fits (markers_answer found n)
+markers_fit : (found : ℕ → Result MarkerStats MarkerError) (n : ℕ) → n < 2 ^ 63 → Fits (markers_answer found n)
 unfolding markers_answer Fits AllBelow
 markers_fit found zero h = tt
 markers_fit found (suc n) h =

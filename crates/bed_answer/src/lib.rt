@@ -1,4 +1,4 @@
-// What a call of the C interface answers, as document 01's number with its values: from each answer of the core.
+// What a call of the C interface answers, as document 01's number with its values: from each result of the core.
 #![tactic(auto)]
 
 ghost use Rattle.std.specs.Prelude.{◌≡◌, pos};
@@ -15,20 +15,21 @@ ghost use Rattle.product.specs.Says.{piece_says};
 ghost use Rattle.bed_answer.specs.Interface.{bed_answer, clipped, clip_answer};
 ghost use Rattle.bed_answer.specs.Private.{three_of};
 
-use bed_file::OpenAnswer;
-use bed_read::ReadAnswer;
-use bed_write::{EncodeAnswer, WriteAnswer};
-use blocks::DivAnswer;
-use canonical::CanonicalAnswer;
-use entries::SpanAnswer;
-use index::{ListAnswer, RangeAnswer};
-use product::PieceAnswer;
-use read_standardised::JoinedAnswer;
-use standardise::StandardiseAnswer;
+use bed_file::OpenError;
+use bed_read::ReadError;
+use bed_write::{EncodeError, WriteError};
+use blocks::DivError;
+use canonical::CanonicalError;
+use entries::SpanError;
+use index::{ListError, RangeError};
+use product::PieceError;
+use read_standardised::JoinedError;
+use standardise::StandardiseError;
+use std::ops::Range;
 
 // What every call answers: document 01's number, or 0, and what goes with it, or 0.
 #[repr(C)]
-#[derive(Clone, Copy)]
+#[derive(Clone, Copy, Debug, PartialEq, Eq)]
 pub struct BedAnswer {
     pub number: u64,
     pub first: i64,
@@ -39,11 +40,7 @@ pub struct BedAnswer {
 fn bare(number: u64) -> BedAnswer
     ensures { result ≡ three_of number (pos 0) (pos 0) }
 {
-    BedAnswer {
-        number,
-        first: 0,
-        second: 0,
-    }
+    entry(number, 0)
 }
 
 // An entry of a list, as it was given.
@@ -61,22 +58,14 @@ fn entry(number: u64, e: i64) -> BedAnswer
 fn clip(n: usize) -> i64
     ensures { result ≡ pos (clipped n) }
 {
-    if n < 9223372036854775808 {
-        n as i64
-    } else {
-        9223372036854775807
-    }
+    i64::try_from(n).unwrap_or(i64::MAX)
 }
 
 // One number that is not negative.
 fn one(number: u64, first: usize) -> BedAnswer
     ensures { result ≡ three_of number (pos (clipped first)) (pos 0) }
 {
-    BedAnswer {
-        number,
-        first: clip(first),
-        second: 0,
-    }
+    entry(number, clip(first))
 }
 
 // Two of them.
@@ -90,141 +79,177 @@ fn two(number: u64, first: usize, second: usize) -> BedAnswer
     }
 }
 
-pub fn of_open(answer: OpenAnswer) -> BedAnswer
-    ensures { result ≡ bed_answer (open_says answer) }
-{
-    match answer {
-        OpenAnswer::Mode(byte) => one(0, byte as usize),
-        OpenAnswer::ReadError => bare(1),
-        OpenAnswer::IllFormed => bare(2),
+impl From<Result<u8, OpenError>> for BedAnswer {
+    ghost from_gives = { λ said answer. answer ≡ bed_answer (open_says said) };
+
+    #[tactic(auto, unfolding(crate::specs::Interface::bed_answer, crate::specs::Interface::number_of, crate::specs::Interface::values_of, crate::specs::Interface::clip_answer, crate::specs::Interface::clip, crate::specs::Interface::carries_entry))]
+    fn from(said: Result<u8, OpenError>) -> BedAnswer {
+        match said {
+            Ok(mode) => one(0, usize::from(mode)),
+            Err(OpenError::ReadError) => bare(1),
+            Err(OpenError::IllFormed) => bare(2),
+        }
     }
 }
 
-pub fn of_div(answer: DivAnswer) -> BedAnswer
-    ensures { result ≡ bed_answer (clip_answer (div_says answer)) }
-{
-    match answer {
-        DivAnswer::Width(width) => one(0, width),
-        DivAnswer::CountTooLarge => bare(18),
-        DivAnswer::IndexesTooBigForFiles => bare(4),
+impl From<Result<usize, DivError>> for BedAnswer {
+    ghost from_gives = { λ said answer. answer ≡ bed_answer (clip_answer (div_says said)) };
+
+    #[tactic(auto, unfolding(crate::specs::Interface::bed_answer, crate::specs::Interface::number_of, crate::specs::Interface::values_of, crate::specs::Interface::clip_answer, crate::specs::Interface::clip, crate::specs::Interface::carries_entry))]
+    fn from(said: Result<usize, DivError>) -> BedAnswer {
+        match said {
+            Ok(width) => one(0, width),
+            Err(DivError::CountTooLarge) => bare(18),
+            Err(DivError::IndexesTooBigForFiles) => bare(4),
+        }
     }
 }
 
-pub fn of_span(answer: SpanAnswer) -> BedAnswer
-    ensures { result ≡ bed_answer (clip_answer (span_says answer)) }
-{
-    match answer {
-        SpanAnswer::Span(lowest, length) => two(0, lowest, length),
-        SpanAnswer::CountTooLarge => bare(18),
-        SpanAnswer::IidIndexTooBig(e) => entry(5, e),
+impl From<Result<(usize, usize), SpanError>> for BedAnswer {
+    ghost from_gives = { λ said answer. answer ≡ bed_answer (clip_answer (span_says said)) };
+
+    #[tactic(auto, unfolding(crate::specs::Interface::bed_answer, crate::specs::Interface::number_of, crate::specs::Interface::values_of, crate::specs::Interface::clip_answer, crate::specs::Interface::clip, crate::specs::Interface::carries_entry))]
+    fn from(said: Result<(usize, usize), SpanError>) -> BedAnswer {
+        match said {
+            Ok((lowest, length)) => two(0, lowest, length),
+            Err(SpanError::CountTooLarge) => bare(18),
+            Err(SpanError::IidIndexTooBig(e)) => entry(5, e),
+        }
     }
 }
 
-pub fn of_range(answer: RangeAnswer) -> BedAnswer
-    ensures { result ≡ bed_answer (clip_answer (range_says answer)) }
-{
-    match answer {
-        RangeAnswer::Range { start, end } => two(0, start, end),
-        RangeAnswer::CountTooLarge => bare(18),
-        RangeAnswer::StartGreaterThanEnd => bare(12),
+impl From<Result<Range<usize>, RangeError>> for BedAnswer {
+    ghost from_gives = { λ said answer. answer ≡ bed_answer (clip_answer (range_says said)) };
+
+    #[tactic(auto, unfolding(crate::specs::Interface::bed_answer, crate::specs::Interface::number_of, crate::specs::Interface::values_of, crate::specs::Interface::clip_answer, crate::specs::Interface::clip, crate::specs::Interface::carries_entry))]
+    fn from(said: Result<Range<usize>, RangeError>) -> BedAnswer {
+        match said {
+            Ok(range) => two(0, range.start, range.end),
+            Err(RangeError::CountTooLarge) => bare(18),
+            Err(RangeError::StartGreaterThanEnd) => bare(12),
+        }
     }
 }
 
-pub fn of_list(answer: ListAnswer) -> BedAnswer
-    ensures { result ≡ bed_answer (clip_answer (list_says answer)) }
-{
-    match answer {
-        ListAnswer::Length(length) => one(0, length),
-        ListAnswer::CountTooLarge => bare(18),
-        ListAnswer::BoolArrayVectorWrongLength => bare(8),
-        ListAnswer::StepZero => bare(9),
-        ListAnswer::StartGreaterThanCount => bare(10),
-        ListAnswer::EndGreaterThanCount => bare(11),
-        ListAnswer::StartGreaterThanEnd => bare(12),
-        ListAnswer::ListTooShort => bare(19),
+impl From<Result<usize, ListError>> for BedAnswer {
+    ghost from_gives = { λ said answer. answer ≡ bed_answer (clip_answer (list_says said)) };
+
+    #[tactic(auto, unfolding(crate::specs::Interface::bed_answer, crate::specs::Interface::number_of, crate::specs::Interface::values_of, crate::specs::Interface::clip_answer, crate::specs::Interface::clip, crate::specs::Interface::carries_entry))]
+    fn from(said: Result<usize, ListError>) -> BedAnswer {
+        match said {
+            Ok(length) => one(0, length),
+            Err(ListError::CountTooLarge) => bare(18),
+            Err(ListError::BoolArrayVectorWrongLength) => bare(8),
+            Err(ListError::StepZero) => bare(9),
+            Err(ListError::StartGreaterThanCount) => bare(10),
+            Err(ListError::EndGreaterThanCount) => bare(11),
+            Err(ListError::StartGreaterThanEnd) => bare(12),
+            Err(ListError::ListTooShort) => bare(19),
+        }
     }
 }
 
-pub fn of_read(answer: ReadAnswer) -> BedAnswer
-    ensures { result ≡ bed_answer (read_says answer) }
-{
-    match answer {
-        ReadAnswer::Done => bare(0),
-        ReadAnswer::IndexMismatch => bare(15),
-        ReadAnswer::Refused(fault) => bare(bed_file::fault_number(fault)),
-        ReadAnswer::IidIndexTooBig(e) => entry(5, e),
-        ReadAnswer::SidIndexTooBig(e) => entry(6, e),
+impl From<Result<(), ReadError>> for BedAnswer {
+    ghost from_gives = { λ said answer. answer ≡ bed_answer (read_says said) };
+
+    #[tactic(auto, unfolding(crate::specs::Interface::bed_answer, crate::specs::Interface::number_of, crate::specs::Interface::values_of, crate::specs::Interface::clip_answer, crate::specs::Interface::clip, crate::specs::Interface::carries_entry))]
+    fn from(said: Result<(), ReadError>) -> BedAnswer {
+        match said {
+            Ok(()) => bare(0),
+            Err(ReadError::IndexMismatch) => bare(15),
+            Err(ReadError::File(error)) => bare(error.number()),
+            Err(ReadError::IidIndexTooBig(e)) => entry(5, e),
+            Err(ReadError::SidIndexTooBig(e)) => entry(6, e),
+        }
     }
 }
 
-pub fn of_encode(answer: EncodeAnswer) -> BedAnswer
-    ensures { result ≡ bed_answer (clip_answer (encode_says answer)) }
-{
-    match answer {
-        EncodeAnswer::Done => bare(0),
-        EncodeAnswer::EncodingLength => bare(16),
-        EncodeAnswer::BadValue(iid) => one(7, iid.0),
+impl From<Result<(), EncodeError>> for BedAnswer {
+    ghost from_gives = { λ said answer. answer ≡ bed_answer (clip_answer (encode_says said)) };
+
+    #[tactic(auto, unfolding(crate::specs::Interface::bed_answer, crate::specs::Interface::number_of, crate::specs::Interface::values_of, crate::specs::Interface::clip_answer, crate::specs::Interface::clip, crate::specs::Interface::carries_entry))]
+    fn from(said: Result<(), EncodeError>) -> BedAnswer {
+        match said {
+            Ok(()) => bare(0),
+            Err(EncodeError::EncodingLength) => bare(16),
+            Err(EncodeError::BadValue(iid)) => one(7, iid.0),
+        }
     }
 }
 
-pub fn of_write(answer: WriteAnswer) -> BedAnswer
-    ensures { result ≡ bed_answer (clip_answer (write_says answer)) }
-{
-    match answer {
-        WriteAnswer::Done => bare(0),
-        WriteAnswer::CountTooLarge => bare(18),
-        WriteAnswer::IndexesTooBigForFiles => bare(4),
-        WriteAnswer::IndexMismatch => bare(15),
-        WriteAnswer::EncodingLength => bare(16),
-        WriteAnswer::BadValue(iid, sid) => two(7, iid.0, sid.0),
+impl From<Result<(), WriteError>> for BedAnswer {
+    ghost from_gives = { λ said answer. answer ≡ bed_answer (clip_answer (write_says said)) };
+
+    #[tactic(auto, unfolding(crate::specs::Interface::bed_answer, crate::specs::Interface::number_of, crate::specs::Interface::values_of, crate::specs::Interface::clip_answer, crate::specs::Interface::clip, crate::specs::Interface::carries_entry))]
+    fn from(said: Result<(), WriteError>) -> BedAnswer {
+        match said {
+            Ok(()) => bare(0),
+            Err(WriteError::CountTooLarge) => bare(18),
+            Err(WriteError::IndexesTooBigForFiles) => bare(4),
+            Err(WriteError::IndexMismatch) => bare(15),
+            Err(WriteError::EncodingLength) => bare(16),
+            Err(WriteError::BadValue(iid, sid)) => two(7, iid.0, sid.0),
+        }
     }
 }
 
-pub fn of_canonical(answer: CanonicalAnswer) -> BedAnswer
-    ensures { result ≡ bed_answer (canonical_says answer) }
-{
-    match answer {
-        CanonicalAnswer::Done => bare(0),
-        CanonicalAnswer::Refused(fault) => bare(bed_file::fault_number(fault)),
-        CanonicalAnswer::EncodingLength => bare(16),
+impl From<Result<(), CanonicalError>> for BedAnswer {
+    ghost from_gives = { λ said answer. answer ≡ bed_answer (canonical_says said) };
+
+    #[tactic(auto, unfolding(crate::specs::Interface::bed_answer, crate::specs::Interface::number_of, crate::specs::Interface::values_of, crate::specs::Interface::clip_answer, crate::specs::Interface::clip, crate::specs::Interface::carries_entry))]
+    fn from(said: Result<(), CanonicalError>) -> BedAnswer {
+        match said {
+            Ok(()) => bare(0),
+            Err(CanonicalError::File(error)) => bare(error.number()),
+            Err(CanonicalError::EncodingLength) => bare(16),
+        }
     }
 }
 
-pub fn of_standardise(answer: StandardiseAnswer) -> BedAnswer
-    ensures { result ≡ bed_answer (clip_answer (standardise_says answer)) }
-{
-    match answer {
-        StandardiseAnswer::Done => bare(0),
-        StandardiseAnswer::CountTooLarge => bare(18),
-        StandardiseAnswer::IndexMismatch => bare(15),
-        StandardiseAnswer::StatsMismatch => bare(17),
-        StandardiseAnswer::NoIndividuals(m) => one(13, m),
-        StandardiseAnswer::IllegalSnpMean(m) => one(14, m),
+impl From<Result<(), StandardiseError>> for BedAnswer {
+    ghost from_gives = { λ said answer. answer ≡ bed_answer (clip_answer (standardise_says said)) };
+
+    #[tactic(auto, unfolding(crate::specs::Interface::bed_answer, crate::specs::Interface::number_of, crate::specs::Interface::values_of, crate::specs::Interface::clip_answer, crate::specs::Interface::clip, crate::specs::Interface::carries_entry))]
+    fn from(said: Result<(), StandardiseError>) -> BedAnswer {
+        match said {
+            Ok(()) => bare(0),
+            Err(StandardiseError::CountTooLarge) => bare(18),
+            Err(StandardiseError::IndexMismatch) => bare(15),
+            Err(StandardiseError::StatsMismatch) => bare(17),
+            Err(StandardiseError::NoIndividuals(m)) => one(13, m),
+            Err(StandardiseError::IllegalSnpMean(m)) => one(14, m),
+        }
     }
 }
 
-pub fn of_joined(answer: JoinedAnswer) -> BedAnswer
-    ensures { result ≡ bed_answer (clip_answer (joined_says answer)) }
-{
-    match answer {
-        JoinedAnswer::Done => bare(0),
-        JoinedAnswer::IndexMismatch => bare(15),
-        JoinedAnswer::StatsMismatch => bare(17),
-        JoinedAnswer::Refused(fault) => bare(bed_file::fault_number(fault)),
-        JoinedAnswer::IidIndexTooBig(e) => entry(5, e),
-        JoinedAnswer::SidIndexTooBig(e) => entry(6, e),
-        JoinedAnswer::NoIndividuals(m) => one(13, m),
+impl From<Result<(), JoinedError>> for BedAnswer {
+    ghost from_gives = { λ said answer. answer ≡ bed_answer (clip_answer (joined_says said)) };
+
+    #[tactic(auto, unfolding(crate::specs::Interface::bed_answer, crate::specs::Interface::number_of, crate::specs::Interface::values_of, crate::specs::Interface::clip_answer, crate::specs::Interface::clip, crate::specs::Interface::carries_entry))]
+    fn from(said: Result<(), JoinedError>) -> BedAnswer {
+        match said {
+            Ok(()) => bare(0),
+            Err(JoinedError::IndexMismatch) => bare(15),
+            Err(JoinedError::StatsMismatch) => bare(17),
+            Err(JoinedError::File(error)) => bare(error.number()),
+            Err(JoinedError::IidIndexTooBig(e)) => entry(5, e),
+            Err(JoinedError::SidIndexTooBig(e)) => entry(6, e),
+            Err(JoinedError::NoIndividuals(m)) => one(13, m),
+        }
     }
 }
 
-pub fn of_piece(answer: PieceAnswer) -> BedAnswer
-    ensures { result ≡ bed_answer (piece_says answer) }
-{
-    match answer {
-        PieceAnswer::Done => bare(0),
-        PieceAnswer::CountTooLarge => bare(18),
-        PieceAnswer::CannotConvertBetaToFromF64 => bare(20),
-        PieceAnswer::IndexMismatch => bare(15),
-        PieceAnswer::ReadError => bare(1),
+impl From<Result<(), PieceError>> for BedAnswer {
+    ghost from_gives = { λ said answer. answer ≡ bed_answer (piece_says said) };
+
+    #[tactic(auto, unfolding(crate::specs::Interface::bed_answer, crate::specs::Interface::number_of, crate::specs::Interface::values_of, crate::specs::Interface::clip_answer, crate::specs::Interface::clip, crate::specs::Interface::carries_entry))]
+    fn from(said: Result<(), PieceError>) -> BedAnswer {
+        match said {
+            Ok(()) => bare(0),
+            Err(PieceError::CountTooLarge) => bare(18),
+            Err(PieceError::CannotConvertBetaToFromF64) => bare(20),
+            Err(PieceError::IndexMismatch) => bare(15),
+            Err(PieceError::ReadError) => bare(1),
+        }
     }
 }

@@ -2,37 +2,38 @@
 #![tactic(auto)]
 
 ghost use Rattle.std.specs.Prelude.{◌≡◌};
+ghost use Rattle.blocks.specs.Says.{div_number};
 ghost use Rattle.bed_file.specs.File.{open_answer, length_answer, accept_answer};
-ghost use Rattle.bed_file.specs.Says.{open_says, fault_number, accept_says};
+ghost use Rattle.bed_file.specs.Says.{open_says, open_number, file_number, accept_says};
 
-use blocks::DivAnswer;
+use blocks::DivError;
 
-// Byte 2, or 1, or 2.
-#[derive(Clone, Copy)]
-pub enum OpenAnswer {
-    Mode(u8),
+// What the header is refused by: 1, or 2.
+#[derive(Clone, Copy, Debug, PartialEq, Eq)]
+pub enum OpenError {
     ReadError,
     IllFormed,
 }
 
-pub fn open_and_check(file: &[u8]) -> OpenAnswer
+// The mode of a file: its byte 2.
+pub fn open_and_check(file: &[u8]) -> Result<u8, OpenError>
     ensures { open_says result ≡ open_answer file.now }
 {
     if file.len() < 3 {
-        return OpenAnswer::ReadError;
+        return Err(OpenError::ReadError);
     }
     if file[0] != 0x6C {
-        return OpenAnswer::IllFormed;
+        return Err(OpenError::IllFormed);
     }
     if file[1] != 0x1B {
-        return OpenAnswer::IllFormed;
+        return Err(OpenError::IllFormed);
     }
-    OpenAnswer::Mode(file[2])
+    Ok(file[2])
 }
 
 // What a file is refused by, for two counts: 18, 1, 2, 3, 4.
-#[derive(Clone, Copy)]
-pub enum FileFault {
+#[derive(Clone, Copy, Debug, PartialEq, Eq)]
+pub enum FileError {
     CountTooLarge,
     ReadError,
     IllFormed,
@@ -40,63 +41,66 @@ pub enum FileFault {
     IndexesTooBigForFiles,
 }
 
-// The number of a fault.
-pub fn fault_number(fault: FileFault) -> u64
-    ensures { result ≡ fault_number fault }
-{
-    match fault {
-        FileFault::CountTooLarge => 18,
-        FileFault::ReadError => 1,
-        FileFault::IllFormed => 2,
-        FileFault::BadMode => 3,
-        FileFault::IndexesTooBigForFiles => 4,
+impl FileError {
+    pub fn number(self) -> u64
+        ensures { result ≡ file_number self }
+    {
+        match self {
+            FileError::CountTooLarge => 18,
+            FileError::ReadError => 1,
+            FileError::IllFormed => 2,
+            FileError::BadMode => 3,
+            FileError::IndexesTooBigForFiles => 4,
+        }
     }
 }
 
-#[derive(Clone, Copy)]
-pub enum AcceptAnswer {
-    Accepted,
-    Refused(FileFault),
+impl From<OpenError> for FileError {
+    ghost from_gives = { λ header error. open_number header ≡ file_number error };
+
+    fn from(error: OpenError) -> FileError {
+        match error {
+            OpenError::ReadError => FileError::ReadError,
+            OpenError::IllFormed => FileError::IllFormed,
+        }
+    }
+}
+
+impl From<DivError> for FileError {
+    ghost from_gives = { λ size error. div_number size ≡ file_number error };
+
+    fn from(error: DivError) -> FileError {
+        match error {
+            DivError::CountTooLarge => FileError::CountTooLarge,
+            DivError::IndexesTooBigForFiles => FileError::IndexesTooBigForFiles,
+        }
+    }
 }
 
 // 18, then 4, then 2 for the length.
-pub fn check_length(file_len: usize, items: usize, blocks: usize) -> AcceptAnswer
+pub fn check_length(file_len: usize, items: usize, blocks: usize) -> Result<(), FileError>
     ensures { accept_says result ≡ length_answer file_len items blocks }
 {
-    match blocks::try_div_4(items, blocks) {
-        DivAnswer::CountTooLarge => AcceptAnswer::Refused(FileFault::CountTooLarge),
-        DivAnswer::IndexesTooBigForFiles => AcceptAnswer::Refused(FileFault::IndexesTooBigForFiles),
-        DivAnswer::Width(width) => {
-            if file_len == width * blocks + 3 {
-                AcceptAnswer::Accepted
-            } else {
-                AcceptAnswer::Refused(FileFault::IllFormed)
-            }
-        }
+    let width = blocks::try_div_4(items, blocks)?;
+    if file_len != width * blocks + 3 {
+        return Err(FileError::IllFormed);
     }
+    Ok(())
 }
 
 // Whether a file is accepted for two counts.
-pub fn accept(file: &[u8], iid_count: usize, sid_count: usize) -> AcceptAnswer
+pub fn accept(file: &[u8], iid_count: usize, sid_count: usize) -> Result<(), FileError>
     ensures { accept_says result ≡ accept_answer file.now iid_count sid_count }
 {
     if iid_count > answer::COUNT_LIMIT {
-        return AcceptAnswer::Refused(FileFault::CountTooLarge);
+        return Err(FileError::CountTooLarge);
     }
     if sid_count > answer::COUNT_LIMIT {
-        return AcceptAnswer::Refused(FileFault::CountTooLarge);
+        return Err(FileError::CountTooLarge);
     }
-    match open_and_check(file) {
-        OpenAnswer::ReadError => AcceptAnswer::Refused(FileFault::ReadError),
-        OpenAnswer::IllFormed => AcceptAnswer::Refused(FileFault::IllFormed),
-        OpenAnswer::Mode(mode) => {
-            if mode == 1 {
-                return check_length(file.len(), iid_count, sid_count);
-            }
-            if mode == 0 {
-                return check_length(file.len(), sid_count, iid_count);
-            }
-            AcceptAnswer::Refused(FileFault::BadMode)
-        }
+    match open_and_check(file)? {
+        1 => check_length(file.len(), iid_count, sid_count),
+        0 => check_length(file.len(), sid_count, iid_count),
+        _ => Err(FileError::BadMode),
     }
 }

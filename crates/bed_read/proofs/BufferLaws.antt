@@ -3,27 +3,26 @@ use mathlib.Core.Path.{◌≡◌, sym, ap, ◌∙◌}
 use mathlib.Core.Bool.{Bool, true, false}
 use mathlib.Core.List.{List, map}
 use Prim.Native.Nat.{ℕ, ◌*◌, ◌/◌, ◌%◌, ◌<◌}
-use native.Mathlib.Omega.{arith}
 use lib.IntN.{ℤ}
 use lib.ListN.{length, get_or}
 use Rattle.answer.specs.Answer.{is_done}
+use Rattle.std.specs.Prelude.{None}
 use Rattle.codes.specs.Code.{code_table}
 use Rattle.entries.specs.Entry.{first_bad}
 use Rattle.answer.specs.Matrix.{matrix_place, matrix}
-use Rattle.codes.specs.Value.{Width, values, value_of}
+use Rattle.codes.specs.Value.{Width, value_of}
 use Rattle.answer.proofs.AnswerLaws.{new_if_done, old_if_not}
 use Rattle.answer.proofs.MatrixLaws.{length_matrix, get_d_matrix, map_matrix}
-use Rattle.answer.proofs.Tabulate.{tabulate_ext, map_tabulate, get_d_inside}
+use Rattle.answer.proofs.Tabulate.{tabulate_ext, map_tabulate}
 use Rattle.bed_file.proofs.FileLaws.{accepted}
 use Rattle.calls.specs.declared.Shape.{Shape}
-use Rattle.calls.specs.Places.{IsShape}
+use Rattle.calls.specs.Places.{IsShape, Shaped}
 use Rattle.calls.proofs.PlaceLaws.{shape_read}
 use Rattle.bed_read.specs.Reading.{read_code, read_answer, codes_read, values_read, read_buffer}
-use Rattle.bed_read.specs.Private.{Ready, value_in}
+use Rattle.bed_read.specs.Private.{Ready, value_in, lines_read}
 use Rattle.calls.proofs.CallLaws.{call_below}
 use Rattle.bed_read.proofs.ReadLaws.{Readable}
 use Rattle.bed_read.proofs.TableLaws.{made_value}
-use Rattle.codes.proofs.ValueLaws.{four_values}
 
 -- every code that is read is a code
 pub read_below : (file : List ℕ) (iids sids : ℕ) (il sl : List ℤ) (k m : ℕ) → read_code file iids sids il sl k m < 4
@@ -44,22 +43,20 @@ map_codes f g e false file iids sids il sl =
     ∙ tabulate_ext (length il * length sl) _ _ (λ p h. e (read_code file iids sids il sl (p % length il) (p / length il)) (read_below file iids sids il sl (p % length il) (p / length il)))
     ∙ sym (map_tabulate g (length il * length sl) (λ p. read_code file iids sids il sl (p % length il) (p / length il)))
 
--- the values of the codes, by the list of the four values
-values_read_law :
-    (w : Width) (flag : Bool) (missing d : w.Value) (order : Bool) (file : List ℕ) (iids sids : ℕ) (il sl : List ℤ)
-    → map (λ code. get_or (values w flag missing) code d) (codes_read order file iids sids il sl) ≡ values_read w flag missing order file iids sids il sl
-unfolding values_read value_of
-values_read_law w flag missing d order file iids sids il sl =
-    map_codes (λ code. get_or (values w flag missing) code d) (λ code. get_or (values w flag missing) code missing)
-    (λ c h. get_d_inside (values w flag missing) c d missing (let n = four_values w flag missing in omega arith))
-    order file iids sids il sl
+-- the matrix by a table of the values
+pub table_read :
+    {V : Type 0} (W : Width V) (flag : Bool) (missing d : V) (table new : List V) (animals : Bool) (file : List ℕ) (shape : Shape) (outer inner : List ℤ)
+    → table ≡ map (value_of W flag missing) code_table → new ≡ map (value_in table d) (lines_read animals file shape outer inner)
+    → new ≡ map (value_of W flag missing) (lines_read animals file shape outer inner)
+table_read W flag missing d table new animals file shape outer inner e f =
+    f ∙ map_codes (value_in table d) (value_of W flag missing) (made_value d (value_of W flag missing) table e) animals file shape.iids shape.sids _ _
 
 -- ---- what is read by lists of n and s entries
-module _ (w : Width) (flag : Bool) (missing : w.Value) (order : Bool) (file : List ℕ) (iids sids : ℕ) (il sl : List ℤ) (n s : ℕ) (li : length il ≡ n) (ls : length sl ≡ s) where
-  abbrev read : List w.Value
+module _ {V : Type 0} (w : Width V) (flag : Bool) (missing : V) (order : Bool) (file : List ℕ) (iids sids : ℕ) (il sl : List ℤ) (n s : ℕ) (li : length il ≡ n) (ls : length sl ≡ s) where
+  abbrev read : List V
   read = values_read w flag missing order file iids sids il sl
 
-  abbrev cell : ℕ → ℕ → w.Value
+  abbrev cell : ℕ → ℕ → V
   cell k m = value_of w flag missing (read_code file iids sids il sl k m)
 
   -- is the matrix of the values of the codes
@@ -74,43 +71,51 @@ module _ (w : Width) (flag : Bool) (missing : w.Value) (order : Bool) (file : Li
   read_length = ap length read_matrix ∙ length_matrix order n s cell
 
   -- with the value of each code at its place
-  pub read_cell : (d : w.Value) (k m : ℕ) → k < n → m < s → get_or read (matrix_place order n s k m) d ≡ cell k m
-  read_cell d k m hk hm = ap (λ (l : List w.Value). get_or l (matrix_place order n s k m) d) read_matrix ∙ get_d_matrix n s k m hk hm order cell d
+  pub read_cell : (d : V) (k m : ℕ) → k < n → m < s → get_or read (matrix_place order n s k m) d ≡ cell k m
+  read_cell d k m hk hm = ap (λ (l : List V). get_or l (matrix_place order n s k m) d) read_matrix ∙ get_d_matrix n s k m hk hm order cell d
 
 -- and it is left where reading is done
 pub buffer_values :
-    (w : Width) (file : List ℕ) (iids sids : ℕ) (flag : Bool) (il sl : List ℤ) (missing : w.Value) (order : Bool) (old : List w.Value)
+    {V : Type 0} (w : Width V) (file : List ℕ) (iids sids : ℕ) (flag : Bool) (il sl : List ℤ) (missing : V) (order : Bool) (old : List V)
     → is_done (read_answer file iids sids il sl (length old)) ≡ true → read_buffer w file iids sids flag il sl missing order old ≡ values_read w flag missing order file iids sids il sl
 unfolding read_buffer
 buffer_values w file iids sids flag il sl missing order old d = new_if_done (read_answer file iids sids il sl (length old)) _ old d
 
 -- ---- from the checks
 module _ (file : List ℕ) (iids sids : ℕ) (il sl : List ℤ) (n : ℕ) (r : Readable file iids sids il sl n) (shape : Shape) (e : IsShape file iids sids shape) where
-  pub ready : Ready file shape il sl
-  ready =
-      record {
-        shaped = shape_read file iids sids shape e (accepted file iids sids r.is_accepted).length_is;
-        iids_good = ap (λ (x : ℕ). first_bad x il) e.iids_are ∙ r.iids_good;
-        sids_good = ap (λ (x : ℕ). first_bad x sl) e.sids_are ∙ r.sids_good;
-      }
+  pub shaped : Shaped file shape
+  shaped = shape_read file iids sids shape e (accepted file iids sids r.is_accepted).length_is
+
+  iids_good : first_bad shape.iids il ≡ None
+  iids_good = ap (λ (x : ℕ). first_bad x il) e.iids_are ∙ r.iids_good
+
+  sids_good : first_bad shape.sids sl ≡ None
+  sids_good = ap (λ (x : ℕ). first_bad x sl) e.sids_are ∙ r.sids_good
+
+  -- lines of animals, and lines of markers
+  pub ready_iids : Ready file shape true il sl
+  ready_iids = record { shaped = shaped; outer_good = iids_good; inner_good = sids_good }
+
+  pub ready_sids : Ready file shape false sl il
+  ready_sids = record { shaped = shaped; outer_good = sids_good; inner_good = iids_good }
 
   -- the buffer where reading is done
   pub buffer_read :
-      (W : Width) (flag : Bool) (missing d : W.Value) (order : Bool) (old new table : List W.Value)
-      → is_done (read_answer file iids sids il sl (length old)) ≡ true → table ≡ map (λ code. get_or (values W flag missing) code d) code_table
-      → new ≡ map (value_in table d) (codes_read order file shape.iids shape.sids il sl)
+      {V : Type 0} (W : Width V) (flag : Bool) (missing : V) (order b : Bool) (old new : List V)
+      → is_done (read_answer file iids sids il sl (length old)) ≡ true → order ≡ b
+      → new ≡ map (value_of W flag missing) (codes_read b file shape.iids shape.sids il sl)
       → new ≡ read_buffer W file iids sids flag il sl missing order old
-  buffer_read W flag missing d order old new table done v f =
+  unfolding values_read
+  buffer_read W flag missing order b old new done q f =
       f
-      ∙ ap (λ (x : ℕ). map (value_in table d) (codes_read order file x shape.sids il sl)) e.iids_are
-      ∙ ap (λ (x : ℕ). map (value_in table d) (codes_read order file iids x il sl)) e.sids_are
-      ∙ map_codes (value_in table d) (λ code. get_or (values W flag missing) code d) (made_value d (λ code. get_or (values W flag missing) code d) table v) order file iids sids il sl
-      ∙ values_read_law W flag missing d order file iids sids il sl
+      ∙ ap (λ (x : Bool). map (value_of W flag missing) (codes_read x file shape.iids shape.sids il sl)) (sym q)
+      ∙ ap (λ (x : ℕ). map (value_of W flag missing) (codes_read order file x shape.sids il sl)) e.iids_are
+      ∙ ap (λ (x : ℕ). map (value_of W flag missing) (codes_read order file iids x il sl)) e.sids_are
       ∙ sym (buffer_values W file iids sids flag il sl missing order old done)
 
 -- and where it is refused
 pub buffer_kept :
-    (W : Width) (file : List ℕ) (iids sids : ℕ) (flag : Bool) (il sl : List ℤ) (missing : W.Value) (order : Bool) (old : List W.Value)
+    {V : Type 0} (W : Width V) (file : List ℕ) (iids sids : ℕ) (flag : Bool) (il sl : List ℤ) (missing : V) (order : Bool) (old : List V)
     → is_done (read_answer file iids sids il sl (length old)) ≡ false → old ≡ read_buffer W file iids sids flag il sl missing order old
 unfolding read_buffer
 buffer_kept W file iids sids flag il sl missing order old d = sym (old_if_not (read_answer file iids sids il sl (length old)) (values_read W flag missing order file iids sids il sl) old d)

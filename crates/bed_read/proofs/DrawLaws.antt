@@ -49,9 +49,6 @@ module _ {A : Type 0} (d : A) where
             (λ h. ap (λ (l : List A). get_or l q d) (set_out out p v h) ∙ r)
 
   module _ (m : ℕ) (place : ℕ → ℕ → ℕ) (value : ℕ → ℕ → A) (old : List A) where
-    pub drawn_none : (lines : ℕ) → Drawn d lines m place value old 0 old
-    drawn_none lines = record { bound = omega arith; long = refl; draws = λ G a. (λ p r. r, λ j t h b. absurd (omega arith)) }
-
     -- one place more of one line
     pub drawn_one :
         (k j p : ℕ) (v : A) (out : List A) → Drawn d 1 m place value old k out → k < m → j ≡ k + 1 → p ≡ place 0 k → p < length old → v ≡ value 0 k
@@ -197,9 +194,3 @@ module _ {A : Type 0} (d : A) where
 
     pub drawn_end : (k : ℕ) (new : List A) → Drawn d lines m place value old k new → m ≤ k → Drawn d lines m place value old m new
     drawn_end k new f h = drawn_to k m new f (let b = f.bound in omega arith)
-
-    -- a second loop goes on from where a first one left off
-    pub drawn_on :
-        (b w i : ℕ) (new later : List A) → Drawn d lines m place value old (4 * b) new → w ≤ b → 4 * b ≤ 4 * w
-        → ((before : List A) → Drawn d lines m place value before (4 * w) new → Drawn d lines m place value before i later) → Drawn d lines m place value old i later
-    drawn_on b w i new later f h l on = on old (drawn_to (4 * b) (4 * w) new f (omega arith))

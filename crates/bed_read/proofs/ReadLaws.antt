@@ -1,8 +1,8 @@
 -- Laws of the lists' checks and of all of reading's, over plain numbers and lists.
-use mathlib.Core.Path.{◌≡◌, sym, ap, subst, ◌∙◌}
+use mathlib.Core.Path.{◌≡◌, refl, sym, ap, subst, ◌∙◌}
 use mathlib.Core.Bool.{Bool, true, false}
 use mathlib.Core.List.{List, [], ◌∷◌}
-use mathlib.Core.Option.{some, none}
+use Rattle.std.specs.Prelude.{Some, None, Result, Ok, Err, IsErrAnd}
 use Prim.Native.Nat.{ℕ, ◌*◌, ◌^◌, ◌<◌, ◌≤◌}
 use native.Mathlib.Omega.{arith}
 use borrow.Author.Tests.{eq-eqb, eqb-true}
@@ -17,7 +17,12 @@ use Rattle.answer.specs.Answer.{Answer, done, refused, check, count_limit, is_do
 use Rattle.entries.specs.Entry.{first_bad}
 use Rattle.answer.proofs.AnswerLaws.{check_passes, check_refuses, count_passes, count_refuses, entry_passes, entry_refuses, check_done, count_done, entry_done, entry_other, Stage, lets, refuses, entry_stage, then_stage, stays, before_later}
 use Rattle.bed_file.specs.File.{check_file, accept_answer}
-use Rattle.bed_read.specs.Reading.{check_lists, lists_answer, read_answer}
+use Rattle.bed_file.specs.declared.FileError.{FileError}
+use Rattle.bed_file.specs.Says.{file_number}
+use Rattle.bed_read.specs.declared.checks.ReadError.{ReadError}
+use Rattle.bed_read.specs.declared.checks.ReadError.TheVariants.{IndexMismatch, File, IidIndexTooBig, SidIndexTooBig}
+use Rattle.bed_read.specs.Says.{read_says}
+use Rattle.bed_read.specs.Reading.{check_lists, lists_answer, checks_answer, read_answer}
 use Rattle.bed_file.proofs.FileLaws.{accepted, accept_file, file_stage}
 
 -- ---- the lists' checks, in order
@@ -37,18 +42,18 @@ module _ (iids sids : ℕ) (il sl : List ℤ) where
       lists_counted = count_passes iids _ hi ∙ count_passes sids _ hs
 
       -- an entry held in 64 bits is the entry
-      pub lists_5 : (e : ℤ) → first_bad iids il ≡ some e → mag e < 2 ^ 63 → refused 5 (to_z w64 (of_z w64 e) ∷ []) ≡ lists_answer iids sids il sl
+      pub lists_5 : (e : ℤ) → first_bad iids il ≡ Some e → mag e < 2 ^ 63 → refused 5 (to_z w64 (of_z w64 e) ∷ []) ≡ lists_answer iids sids il sl
       unfolding check_lists
       lists_5 e b f = ap (λ (x : ℤ). refused 5 (x ∷ [])) (to_z-of_z w64 e (record { sfits = f })) ∙ sym (lists_counted ∙ entry_refuses (first_bad iids il) 5 _ e b)
 
-      module _ (g : first_bad iids il ≡ none) where
-        pub lists_6 : (e : ℤ) → first_bad sids sl ≡ some e → mag e < 2 ^ 63 → refused 6 (to_z w64 (of_z w64 e) ∷ []) ≡ lists_answer iids sids il sl
+      module _ (g : first_bad iids il ≡ None) where
+        pub lists_6 : (e : ℤ) → first_bad sids sl ≡ Some e → mag e < 2 ^ 63 → refused 6 (to_z w64 (of_z w64 e) ∷ []) ≡ lists_answer iids sids il sl
         unfolding check_lists
         lists_6 e b f =
             ap (λ (x : ℤ). refused 6 (x ∷ [])) (to_z-of_z w64 e (record { sfits = f }))
             ∙ sym (lists_counted ∙ entry_passes (first_bad iids il) 5 _ g ∙ entry_refuses (first_bad sids sl) 6 _ e b)
 
-        pub lists_good : first_bad sids sl ≡ none → done [] ≡ lists_answer iids sids il sl
+        pub lists_good : first_bad sids sl ≡ None → done [] ≡ lists_answer iids sids il sl
         unfolding check_lists
         lists_good b = sym (lists_counted ∙ entry_passes (first_bad iids il) 5 _ g ∙ entry_passes (first_bad sids sl) 6 _ b)
 
@@ -58,40 +63,42 @@ unfolding check_lists
 lists_other iids sids il sl later n vs h e =
     (entry_other (first_bad sids sl) 6 later n vs (λ q. omega (arith, q)) (entry_other (first_bad iids il) 5 _ n vs (λ q. omega (arith, q)) e).1).1
 
--- ---- reading's checks, in order
-module _ (file : List ℕ) (iids sids : ℕ) (il sl : List ℤ) (val_length : ℕ) where
+-- ---- the checks of reading and of counting, in order: m values are wanted for each marker named
+module _ (m : ℕ) (file : List ℕ) (iids sids : ℕ) (il sl : List ℤ) (val_length : ℕ) where
   abbrev lists : Answer
   lists = check_lists iids sids il sl (done [])
 
-  pub read_first : count_limit < iids → refused 18 [] ≡ read_answer file iids sids il sl val_length
-  unfolding read_answer
+  pub read_first : count_limit < iids → refused 18 [] ≡ checks_answer m file iids sids il sl val_length
   read_first h = sym (count_refuses iids _ h)
 
   module _ (hi : iids ≤ count_limit) where
-    pub read_second : count_limit < sids → refused 18 [] ≡ read_answer file iids sids il sl val_length
-    unfolding read_answer
+    pub read_second : count_limit < sids → refused 18 [] ≡ checks_answer m file iids sids il sl val_length
     read_second h = sym (count_passes iids _ hi ∙ count_refuses sids _ h)
 
     module _ (hs : sids ≤ count_limit) where
-      after_counts : read_answer file iids sids il sl val_length ≡ check (eqb (length il * length sl) val_length) 15 (check_file file iids sids lists)
-      unfolding read_answer
+      after_counts : checks_answer m file iids sids il sl val_length ≡ check (eqb (m * length sl) val_length) 15 (check_file file iids sids lists)
       after_counts = count_passes iids _ hi ∙ count_passes sids _ hs
 
-      module _ (b : Bool) (e : b ≡ eqb (length il * length sl) val_length) where
-        pub read_mismatch : b ≡ false → refused 15 [] ≡ read_answer file iids sids il sl val_length
-        read_mismatch f = sym (after_counts ∙ check_refuses (eqb (length il * length sl) val_length) 15 (check_file file iids sids lists) (sym e ∙ f))
+      module _ (b : Bool) (e : b ≡ eqb (m * length sl) val_length) where
+        pub read_mismatch : b ≡ false → refused 15 [] ≡ checks_answer m file iids sids il sl val_length
+        read_mismatch f = sym (after_counts ∙ check_refuses (eqb (m * length sl) val_length) 15 (check_file file iids sids lists) (sym e ∙ f))
 
         module _ (t : b ≡ true) where
-          after_product : read_answer file iids sids il sl val_length ≡ check_file file iids sids lists
-          after_product = after_counts ∙ check_passes (eqb (length il * length sl) val_length) 15 (check_file file iids sids lists) (sym e ∙ t)
+          after_product : checks_answer m file iids sids il sl val_length ≡ check_file file iids sids lists
+          after_product = after_counts ∙ check_passes (eqb (m * length sl) val_length) 15 (check_file file iids sids lists) (sym e ∙ t)
 
-          pub read_not_accepted : (n : ℕ) → refused n [] ≡ accept_answer file iids sids → refused n [] ≡ read_answer file iids sids il sl val_length
+          pub read_not_accepted : (n : ℕ) → refused n [] ≡ accept_answer file iids sids → refused n [] ≡ checks_answer m file iids sids il sl val_length
           read_not_accepted n a =
               sym (after_product ∙ stays (file_stage file iids sids) [] n [] (sym (a ∙ accept_file file iids sids hi hs)) lists)
 
-          pub read_lists : (a : Answer) → done [] ≡ accept_answer file iids sids → a ≡ lists_answer iids sids il sl → a ≡ read_answer file iids sids il sl val_length
+          pub read_lists : (a : Answer) → done [] ≡ accept_answer file iids sids → a ≡ lists_answer iids sids il sl → a ≡ checks_answer m file iids sids il sl val_length
           read_lists a d l =
               l ∙ lists_counted iids sids il sl hi hs ∙ sym (after_product ∙ (accepted file iids sids (sym (ap is_done d))).heard_later lists)
+
+-- reading's, by them
+pub read_checks : (file : List ℕ) (iids sids : ℕ) (il sl : List ℤ) (val_length : ℕ) → read_answer file iids sids il sl val_length ≡ checks_answer (length il) file iids sids il sl val_length
+unfolding read_answer
+read_checks file iids sids il sl val_length = refl
 
 -- of an accepted file, 15 and the lists are left
 pub read_accepted :
@@ -99,7 +106,8 @@ pub read_accepted :
     → read_answer file iids sids il sl val_length ≡ check (eqb (length il * length sl) val_length) 15 (check_lists iids sids il sl (done []))
 read_accepted file iids sids il sl val_length d =
     let a = accepted file iids sids d in
-    after_counts file iids sids il sl val_length a.iids_fit a.sids_fit
+    read_checks file iids sids il sl val_length
+    ∙ after_counts (length il) file iids sids il sl val_length a.iids_fit a.sids_fit
     ∙ ap (check (eqb (length il * length sl) val_length) 15) (a.heard_later (check_lists iids sids il sl (done [])))
 
 -- the lists' checks by their parts
@@ -108,12 +116,12 @@ module _ (iids sids : ℕ) (il sl : List ℤ) where
   unfolding check_lists
   lists_stage = then_stage (entry_stage (first_bad iids il) 5) (entry_stage (first_bad sids sl) 6)
 
-  pub lists_done : (later : Answer) → is_done (check_lists iids sids il sl later) ≡ true → (first_bad iids il ≡ none) × (first_bad sids sl ≡ none)
+  pub lists_done : (later : Answer) → is_done (check_lists iids sids il sl later) ≡ true → (first_bad iids il ≡ None) × (first_bad sids sl ≡ None)
   unfolding check_lists
   lists_done later d = let a = entry_done (first_bad iids il) 5 _ d in let b = entry_done (first_bad sids sl) 6 later a.1 in (a.0, b.0)
 
   -- what comes later matters where both lists are good
-  pub lists_same : (later later' : Answer) → (first_bad iids il ≡ none → first_bad sids sl ≡ none → later ≡ later') → check_lists iids sids il sl later ≡ check_lists iids sids il sl later'
+  pub lists_same : (later later' : Answer) → (first_bad iids il ≡ None → first_bad sids sl ≡ None → later ≡ later') → check_lists iids sids il sl later ≡ check_lists iids sids il sl later'
   lists_same later later' e = by_stage lists_stage
     where
       by_stage : Stage (λ later. check_lists iids sids il sl later) → check_lists iids sids il sl later ≡ check_lists iids sids il sl later'
@@ -124,31 +132,59 @@ module _ (iids sids : ℕ) (il sl : List ℤ) where
 -- an accepted file is read with good lists into a buffer of the right length
 pub read_good :
     (file : List ℕ) (iids sids : ℕ) (il sl : List ℤ) (val_length : ℕ) → is_done (accept_answer file iids sids) ≡ true
-    → length il * length sl ≡ val_length → first_bad iids il ≡ none → first_bad sids sl ≡ none → read_answer file iids sids il sl val_length ≡ done []
+    → length il * length sl ≡ val_length → first_bad iids il ≡ None → first_bad sids sl ≡ None → read_answer file iids sids il sl val_length ≡ done []
 unfolding check_lists
 read_good file iids sids il sl val_length d e gi gs =
     read_accepted file iids sids il sl val_length d
     ∙ check_passes (eqb (length il * length sl) val_length) 15 _ (eq-eqb (length il * length sl) val_length e)
     ∙ entry_passes (first_bad iids il) 5 _ gi ∙ entry_passes (first_bad sids sl) 6 _ gs
 
--- ---- what is known where reading is done
-pub record Readable (file : List ℕ) (iids sids : ℕ) (il sl : List ℤ) (val_length : ℕ) : Type 0 where
-  pub product : length il * length sl ≡ val_length
+-- ---- what is known where those checks find nothing
+pub record Checked (m : ℕ) (file : List ℕ) (iids sids : ℕ) (il sl : List ℤ) (val_length : ℕ) : Type 0 where
+  pub product : m * length sl ≡ val_length
   pub is_accepted : is_done (accept_answer file iids sids) ≡ true
-  pub iids_good : first_bad iids il ≡ none
-  pub sids_good : first_bad sids sl ≡ none
+  pub iids_good : first_bad iids il ≡ None
+  pub sids_good : first_bad sids sl ≡ None
 
-pub readable : (file : List ℕ) (iids sids : ℕ) (il sl : List ℤ) (val_length : ℕ) → is_done (read_answer file iids sids il sl val_length) ≡ true → Readable file iids sids il sl val_length
-unfolding read_answer
-readable file iids sids il sl val_length d =
+pub checked : (m : ℕ) (file : List ℕ) (iids sids : ℕ) (il sl : List ℤ) (val_length : ℕ) → is_done (checks_answer m file iids sids il sl val_length) ≡ true → Checked m file iids sids il sl val_length
+checked m file iids sids il sl val_length d =
     let a = count_done iids _ d in
     let b = count_done sids _ a.1 in
-    let c = check_done (eqb (length il * length sl) val_length) 15 _ b.1 in
+    let c = check_done (eqb (m * length sl) val_length) 15 _ b.1 in
     let acc : is_done (accept_answer file iids sids) ≡ true = ap is_done (accept_file file iids sids a.0 b.0) ∙ before_later (file_stage file iids sids) _ c.1 in
     let l = lists_done iids sids il sl (done []) (subst (λ (x : Answer). is_done x ≡ true) ((accepted file iids sids acc).heard_later (check_lists iids sids il sl (done []))) c.1) in
     record {
-      product = eqb-true (length il * length sl) val_length c.0;
+      product = eqb-true (m * length sl) val_length c.0;
       is_accepted = acc;
       iids_good = l.0;
       sids_good = l.1;
     }
+
+-- of reading, for which m is the length of the animal list
+abbrev pub Readable : List ℕ → ℕ → ℕ → List ℤ → List ℤ → ℕ → Type 0
+Readable file iids sids il sl val_length = Checked (length il) file iids sids il sl val_length
+
+pub readable : (file : List ℕ) (iids sids : ℕ) (il sl : List ℤ) (val_length : ℕ) → is_done (read_answer file iids sids il sl val_length) ≡ true → Readable file iids sids il sl val_length
+readable file iids sids il sl val_length d =
+    checked (length il) file iids sids il sl val_length (ap is_done (sym (read_checks file iids sids il sl val_length)) ∙ d)
+
+pub read_done : (file : List ℕ) (iids sids : ℕ) (il sl : List ℤ) (val_length : ℕ) → done [] ≡ checks_answer (length il) file iids sids il sl val_length → (done [] ≡ read_answer file iids sids il sl val_length) × Readable file iids sids il sl val_length
+read_done file iids sids il sl val_length e =
+    let d : done [] ≡ read_answer file iids sids il sl val_length = e ∙ sym (read_checks file iids sids il sl val_length) in
+    (d, readable file iids sids il sl val_length (sym (ap is_done d)))
+
+-- ---- what `?` makes of a refusal: the same of reading's own, and of a file's one of the same number
+pub file_told : (r : Result Unit ReadError) (error : FileError) → IsErrAnd r (λ e. e ≡ File error) → read_says r ≡ refused (file_number error) []
+file_told (Ok _) error h = absurd h
+file_told (Err e) error h = ap (λ (x : ReadError). read_says (Err x)) h
+
+pub error_told : (r : Result Unit ReadError) (error : ReadError) → IsErrAnd r (λ e. e ≡ error) → read_says r ≡ read_says (Err error)
+error_told (Ok _) error h = absurd h
+error_told (Err e) error h = ap (λ (x : ReadError). read_says (Err x)) h
+
+-- no refusal is done
+pub error_refuses : (error : ReadError) → is_done (read_says (Err error)) ≡ false
+error_refuses IndexMismatch = refl
+error_refuses (File error) = refl
+error_refuses (IidIndexTooBig e) = refl
+error_refuses (SidIndexTooBig e) = refl

@@ -1,6 +1,6 @@
 -- Filling a matrix tile by tile, over any type of values: g o t is what belongs at place o × inner + t.
 use mathlib.Core.Path.{◌≡◌, sym, ap, subst, ◌∙◌}
-use mathlib.Core.Bool.{Bool, true, false, not}
+use mathlib.Core.Bool.{Bool, true, false}
 use mathlib.Core.List.{List, map}
 use Prim.Native.Nat.{ℕ, zero, suc, ◌+◌, ◌-◌, ◌*◌, ◌/◌, ◌%◌, ◌<◌, ◌≤◌}
 use native.Mathlib.Nat.{mul_comm, mul-zero, add-zero, add-mul, mul-le-mul_right, div-lt_iff_lt-mul, mod-lt, div-add-mod', div-eq_of_lt, mod-eq_of_lt, mul-add-div_right, mul-add-mod_self_right}
@@ -13,13 +13,12 @@ use Rattle.answer.proofs.Tests.{by_lt}
 use Rattle.answer.proofs.Tabulate.{is_tabulate, map_tabulate}
 use Rattle.calls.specs.declared.Shape.{Shape}
 use Rattle.bed_read.specs.Reading.{read_code, codes_read}
-use Rattle.bed_read.specs.Private.{length_of, line_value, Drawn, Rows}
+use Rattle.bed_read.specs.Private.{line_value, lines_read, Drawn, Rows}
 
 -- lines end where the matrix does, or before
-pub lines_end : (o lines outer inner n size : ℕ) → o + lines ≤ outer → n ≡ inner → size ≡ outer * inner → o * n + lines * n ≤ size
-lines_end o lines outer inner n size h e l =
-    subst (λ (x : ℕ). o * x + lines * x ≤ size) (sym e)
-    (let m : (o + lines) * inner ≤ outer * inner = mul-le-mul_right inner h in let s : (o + lines) * inner ≡ o * inner + lines * inner = add-mul o lines inner in omega arith)
+pub lines_end : (o lines outer inner size : ℕ) → o + lines ≤ outer → size ≡ outer * inner → o * inner + lines * inner ≤ size
+lines_end o lines outer inner size h l =
+    let m : (o + lines) * inner ≤ outer * inner = mul-le-mul_right inner h in let s : (o + lines) * inner ≡ o * inner + lines * inner = add-mul o lines inner in omega arith
 
 some_inner : (outer inner p : ℕ) → p < outer * inner → 0 < inner
 some_inner outer zero p h = absurd (let z : outer * 0 ≡ 0 = mul-zero outer in omega arith)
@@ -27,7 +26,7 @@ some_inner outer (suc n) p h = omega arith
 
 module _ {A : Type 0} (g : ℕ → ℕ → A) (d : A) (outer inner : ℕ) where
   -- every line is filled up to place `from`, and the lines before the line k up to `until`
-  pub record Tile (val : List A) (from until k : ℕ) : Type 0 where
+  pub record Tiled (val : List A) (from until k : ℕ) : Type 0 where
     pub rows : Rows g d outer inner val from
     pub lines : k ≤ outer
     pub tiled : (o t : ℕ) → o < k → from ≤ t → t < until → get_or val (o * inner + t) d ≡ g o t
@@ -35,7 +34,7 @@ module _ {A : Type 0} (g : ℕ → ℕ → A) (d : A) (outer inner : ℕ) where
   pub rows_none : (val : List A) → length val ≡ outer * inner → Rows g d outer inner val 0
   rows_none val e = record { long = e; bound = omega arith; filled = λ o t h f. absurd (omega arith) }
 
-  pub tile_none : (val : List A) (from until : ℕ) → Rows g d outer inner val from → Tile val from until 0
+  pub tile_none : (val : List A) (from until : ℕ) → Rows g d outer inner val from → Tiled val from until 0
   tile_none val from until r = record { rows = r; lines = omega arith; tiled = λ o t h f u. absurd (omega arith) }
 
   -- the matrix by place
@@ -49,7 +48,7 @@ module _ {A : Type 0} (g : ℕ → ℕ → A) (d : A) (outer inner : ℕ) where
       ap (λ (x : ℕ). g x ((o * inner + t) % inner)) d ∙ ap (g o) m
 
   -- some lines more
-  module _ (val new : List A) (from until k lines m : ℕ) (place : ℕ → ℕ → ℕ) (value : ℕ → ℕ → A) (em : m ≡ until - from) (tile : Tile val from until k)
+  module _ (val new : List A) (from until k lines m : ℕ) (place : ℕ → ℕ → ℕ) (value : ℕ → ℕ → A) (em : m ≡ until - from) (tile : Tiled val from until k)
       (r : Drawn d lines m place value val m new) (hk : k + lines ≤ outer) (hu : until ≤ inner)
       (places : (j t : ℕ) → j < lines → t < m → place j t ≡ (k + j) * inner + (from + t))
       (values : (j t : ℕ) → j < lines → t < m → value j t ≡ g (k + j) (from + t)) where
@@ -68,7 +67,7 @@ module _ {A : Type 0} (g : ℕ → ℕ → A) (d : A) (outer inner : ℕ) where
         let p : place (o - k) (t - from) ≡ o * inner + t = places (o - k) (t - from) b c ∙ ap (λ (q : ℕ). q * inner + (from + (t - from))) x ∙ ap (λ (q : ℕ). o * inner + q) y in
         subst (λ (q : ℕ). get_or new q d ≡ G q) p ((r.draws G agrees).1 (o - k) (t - from) b c) ∙ flat o t (omega arith)
 
-    pub tile_more : Tile new from until (k + lines)
+    pub tile_more : Tiled new from until (k + lines)
     tile_more =
         record {
           rows = record {
@@ -80,7 +79,10 @@ module _ {A : Type 0} (g : ℕ → ℕ → A) (d : A) (outer inner : ℕ) where
           tiled = λ o t h f u. by_lt o k (λ b. stays o t (omega arith) (tile.tiled o t b f u)) (λ b. comes o t b h f u);
         }
 
-  pub tile_all : (val : List A) (from until k : ℕ) → Tile val from until k → outer ≤ k → until ≤ inner → Rows g d outer inner val until
+  pub tile_to : (val : List A) (from until k j : ℕ) → Tiled val from until k → k ≡ j → Tiled val from until j
+  tile_to val from until k j tile e = subst (λ (x : ℕ). Tiled val from until x) e tile
+
+  pub tile_all : (val : List A) (from until k : ℕ) → Tiled val from until k → outer ≤ k → until ≤ inner → Rows g d outer inner val until
   tile_all val from until k tile h u =
       record {
         long = tile.rows.long;
@@ -103,18 +105,14 @@ module _ {A : Type 0} (g : ℕ → ℕ → A) (d : A) (outer inner : ℕ) where
       place_of p b = let m : p % inner < inner = mod-lt p (some_inner outer inner p b) in omega arith
 
 -- ---- the matrix that is read, by its lines
-module _ {A : Type 0} (v : ℕ → A) (file : List ℕ) (shape : Shape) (il sl : List ℤ) where
-  pub product_of : (order : Bool) (n : ℕ) → length il * length sl ≡ n → n ≡ length_of order il sl * length_of (not order) il sl
-  product_of true n e = sym e
-  product_of false n e = sym e ∙ mul_comm (length il) (length sl)
-
+module _ {A : Type 0} (v : ℕ → A) (file : List ℕ) (shape : Shape) (outer inner : List ℤ) where
   pub all_read :
-      (order : Bool) (val : List A)
-      → val ≡ tabulate (length_of order il sl * length_of (not order) il sl) (λ p. line_value order v file shape il sl (p / length_of (not order) il sl) (p % length_of (not order) il sl))
-      → val ≡ map v (codes_read order file shape.iids shape.sids il sl)
+      (animals : Bool) (val : List A)
+      → val ≡ tabulate (length outer * length inner) (λ p. line_value animals v file shape outer inner (p / length inner) (p % length inner))
+      → val ≡ map v (lines_read animals file shape outer inner)
   unfolding line_value codes_read matrix
-  all_read true val e = e ∙ sym (map_tabulate v (length il * length sl) (λ p. read_code file shape.iids shape.sids il sl (p / length sl) (p % length sl)))
+  all_read true val e = e ∙ sym (map_tabulate v (length outer * length inner) (λ p. read_code file shape.iids shape.sids outer inner (p / length inner) (p % length inner)))
   all_read false val e =
       e
-      ∙ ap (λ (n : ℕ). tabulate n (λ p. v (read_code file shape.iids shape.sids il sl (p % length il) (p / length il)))) (mul_comm (length sl) (length il))
-      ∙ sym (map_tabulate v (length il * length sl) (λ p. read_code file shape.iids shape.sids il sl (p % length il) (p / length il)))
+      ∙ ap (λ (n : ℕ). tabulate n (λ p. v (read_code file shape.iids shape.sids inner outer (p % length inner) (p / length inner)))) (mul_comm (length outer) (length inner))
+      ∙ sym (map_tabulate v (length inner * length outer) (λ p. read_code file shape.iids shape.sids inner outer (p % length inner) (p / length inner)))

@@ -1,67 +1,69 @@
 -- What only private functions speak in.
 use Rattle.std.specs.Prelude.{◌≡◌, Bool, true, false, not, cond, List, map, ℕ, ◌+◌, ◌-◌, ◌*◌, ◌/◌, ◌%◌, ◌<◌, ◌≤◌, ℤ, pos, length, get_or, set}
-use Rattle.std.proofs.Math.Option.{none}
+use Rattle.std.specs.Prelude.{None}
 use Rattle.codes.specs.Code.{code_at, code_table}
 use Rattle.entries.specs.Entry.{first_bad, means}
 use Rattle.calls.specs.declared.Part.{Part}
 use Rattle.calls.specs.declared.Shape.{Shape}
 use Rattle.calls.specs.Places.{Shaped, is_block, part_byte, part_place}
-use Rattle.bed_read.specs.Reading.{read_code}
+use Rattle.bed_read.specs.declared.tile.Tile.{Tile}
+use Rattle.bed_read.specs.Reading.{read_code, codes_read}
 
--- an accepted file, and both lists are good
-pub record Ready (file : List ℕ) (shape : Shape) (iid_list sid_list : List ℤ) : Type 0 where
+-- ---- the two lists: one names the lines of the matrix, the outer one, and the other the places of each line, the inner one
+-- how many animals (true) or markers a file has
+abbrev pub count_of : Bool → Shape → ℕ
+count_of animals shape = cond animals shape.iids shape.sids
+
+-- an accepted file, and both lists are good: the outer list is of animals (true) or of markers, the inner list of the other kind
+pub record Ready (file : List ℕ) (shape : Shape) (animals : Bool) (outer inner : List ℤ) : Type 0 where
   pub shaped : Shaped file shape
-  pub iids_good : first_bad shape.iids iid_list ≡ none
-  pub sids_good : first_bad shape.sids sid_list ≡ none
+  pub outer_good : first_bad (count_of animals shape) outer ≡ None
+  pub inner_good : first_bad (count_of (not animals) shape) inner ≡ None
 
--- ---- what the entries of a list add to where a call stands
--- the length of the animal list (true) or of the marker list, and the number that its entry k means
-abbrev pub length_of : Bool → List ℤ → List ℤ → ℕ
-length_of animals iid_list sid_list = cond animals (length iid_list) (length sid_list)
+-- ---- what the entries of a list of animals (true) or of markers add to where a call stands
+-- the number that entry k means
+unfoldable pub entry_number : Shape → Bool → List ℤ → ℕ → ℕ
+entry_number shape animals list k = means (count_of animals shape) (get_or list k (pos 0))
 
-unfoldable pub entry_number : Bool → Shape → List ℤ → List ℤ → ℕ → ℕ
-entry_number true shape iid_list sid_list k = means shape.iids (get_or iid_list k (pos 0))
-entry_number false shape iid_list sid_list k = means shape.sids (get_or sid_list k (pos 0))
+-- what that number adds to the byte
+unfoldable pub entry_byte : Shape → Bool → List ℤ → ℕ → ℕ
+entry_byte shape animals list k = part_byte (is_block shape.mode1 animals) shape.width (entry_number shape animals list k)
 
--- what that number adds
-unfoldable pub entry_byte : Shape → List ℤ → List ℤ → Bool → ℕ → ℕ
-entry_byte shape iid_list sid_list animals k = part_byte (is_block shape.mode1 animals) shape.width (entry_number animals shape iid_list sid_list k)
+-- and to the place in it
+unfoldable pub entry_place : Shape → Bool → List ℤ → ℕ → ℕ
+entry_place shape animals list k = part_place (is_block shape.mode1 animals) (entry_number shape animals list k)
 
-unfoldable pub entry_place : Shape → List ℤ → List ℤ → Bool → ℕ → ℕ
-entry_place shape iid_list sid_list animals k = part_place (is_block shape.mode1 animals) (entry_number animals shape iid_list sid_list k)
-
-pub record IsEntryPart (shape : Shape) (iid_list sid_list : List ℤ) (animals : Bool) (k : ℕ) (part : Part) : Type 0 where
-  pub byte_is : part.byte ≡ entry_byte shape iid_list sid_list animals k
-  pub place_is : part.place ≡ entry_place shape iid_list sid_list animals k
+-- what entry k adds
+pub record IsEntryPart (shape : Shape) (animals : Bool) (list : List ℤ) (k : ℕ) (part : Part) : Type 0 where
+  pub byte_is : part.byte ≡ entry_byte shape animals list k
+  pub place_is : part.place ≡ entry_place shape animals list k
 
 -- what the entries from `from` to `until` add
-pub record EntryParts (shape : Shape) (iid_list sid_list : List ℤ) (animals : Bool) (from until : ℕ) (bytes places : List ℕ) : Type 0 where
-  pub bytes_long : length bytes ≡ 2048
-  pub places_long : length places ≡ 2048
-  pub byte_is : (k : ℕ) → k < until - from → get_or bytes k 0 ≡ entry_byte shape iid_list sid_list animals (from + k)
-  pub place_is : (k : ℕ) → k < until - from → get_or places k 0 ≡ entry_place shape iid_list sid_list animals (from + k)
+pub record EntryParts (shape : Shape) (animals : Bool) (list : List ℤ) (from until : ℕ) (tile : Tile) : Type 0 where
+  pub byte_is : (k : ℕ) → k < until - from → get_or tile.bytes k 0 ≡ entry_byte shape animals list (from + k)
+  pub place_is : (k : ℕ) → k < until - from → get_or tile.places k 0 ≡ entry_place shape animals list (from + k)
 
 -- what the four entries from o on add to the byte
-abbrev pub FourBytes : Shape → List ℤ → List ℤ → Bool → ℕ → List ℕ → Type 0
-FourBytes shape iid_list sid_list animals o bytes = (j : ℕ) → j < 4 → get_or bytes j 0 ≡ entry_byte shape iid_list sid_list animals (o + j)
+abbrev pub FourBytes : Shape → Bool → List ℤ → ℕ → List ℕ → Type 0
+FourBytes shape animals list o bytes = (j : ℕ) → j < 4 → get_or bytes j 0 ≡ entry_byte shape animals list (o + j)
 
 -- the first n entries are the items 0, 1, 2 and so on
-pub record InOrder (shape : Shape) (iid_list sid_list : List ℤ) (animals : Bool) (n : ℕ) : Type 0 where
-  pub byte_is : (k : ℕ) → k < n → entry_byte shape iid_list sid_list animals k ≡ k / 4
-  pub place_is : (k : ℕ) → k < n → entry_place shape iid_list sid_list animals k ≡ k % 4
+pub record InOrder (shape : Shape) (animals : Bool) (list : List ℤ) (n : ℕ) : Type 0 where
+  pub byte_is : (k : ℕ) → k < n → entry_byte shape animals list k ≡ k / 4
+  pub place_is : (k : ℕ) → k < n → entry_place shape animals list k ≡ k % 4
 
 -- all entries are
-abbrev pub AllInOrder : Shape → List ℤ → List ℤ → Bool → Type 0
-AllInOrder shape iid_list sid_list animals = InOrder shape iid_list sid_list animals (length_of animals iid_list sid_list)
+abbrev pub AllInOrder : Shape → Bool → List ℤ → Type 0
+AllInOrder shape animals list = InOrder shape animals list (length list)
 
 -- bytes in the file and places in a byte: a line's, with those of n entries
-pub record Inside (file : List ℕ) (byte place : ℕ) (bytes places : List ℕ) (n : ℕ) : Type 0 where
-  pub byte_in : (k : ℕ) → k < n → byte + get_or bytes k 0 < length file
-  pub place_in : (k : ℕ) → k < n → place + get_or places k 0 < 4
+pub record Inside (file : List ℕ) (byte place : ℕ) (tile : Tile) (n : ℕ) : Type 0 where
+  pub byte_in : (k : ℕ) → k < n → byte + get_or tile.bytes k 0 < length file
+  pub place_in : (k : ℕ) → k < n → place + get_or tile.places k 0 < 4
 
 -- the same of four lines that are blocks
-abbrev pub FourInside : List ℕ → List ℕ → List ℕ → List ℕ → ℕ → Type 0
-FourInside file starts bytes places n = (j : ℕ) → j < 4 → Inside file (get_or starts j 0) 0 bytes places n
+abbrev pub FourInside : List ℕ → List ℕ → Tile → ℕ → Type 0
+FourInside file starts tile n = (j : ℕ) → j < 4 → Inside file (get_or starts j 0) 0 tile n
 
 -- ---- values
 -- the value that a table of 1,024 values has for a code: byte c has code c at place 0
@@ -77,17 +79,21 @@ unfoldable pub place_value : {A : Type 0} → (ℕ → A) → List ℕ → ℕ �
 place_value v file byte place = v (code_at (get_or file byte 0) place)
 
 -- the value of entry k in the block that starts at a byte
-abbrev pub entry_value : {A : Type 0} → List A → A → List ℕ → ℕ → List ℕ → List ℕ → ℕ → A
-entry_value table d file start bytes places k = place_value (value_in table d) file (start + get_or bytes k 0) (get_or places k 0)
+abbrev pub entry_value : {A : Type 0} → List A → A → List ℕ → ℕ → Tile → ℕ → A
+entry_value table d file start tile k = place_value (value_in table d) file (start + get_or tile.bytes k 0) (get_or tile.places k 0)
 
 -- and in block j of those that start at some bytes
-abbrev pub block_value : {A : Type 0} → List A → A → List ℕ → List ℕ → List ℕ → List ℕ → ℕ → ℕ → A
-block_value table d file starts bytes places j k = entry_value table d file (get_or starts j 0) bytes places k
+abbrev pub block_value : {A : Type 0} → List A → A → List ℕ → List ℕ → Tile → ℕ → ℕ → A
+block_value table d file starts tile j k = entry_value table d file (get_or starts j 0) tile k
 
--- the value for place o of the list that the order has outside and place t of the one inside: animals outside in animal order (true)
+-- the value for place o of the outer list and place t of the inner one
 unfoldable pub line_value : {A : Type 0} → Bool → (ℕ → A) → List ℕ → Shape → List ℤ → List ℤ → ℕ → ℕ → A
-line_value true v file shape iid_list sid_list o t = v (read_code file shape.iids shape.sids iid_list sid_list o t)
-line_value false v file shape iid_list sid_list o t = v (read_code file shape.iids shape.sids iid_list sid_list t o)
+line_value true v file shape outer inner o t = v (read_code file shape.iids shape.sids outer inner o t)
+line_value false v file shape outer inner o t = v (read_code file shape.iids shape.sids inner outer t o)
+
+-- the codes read by the two lists: in animal order where the outer list is of animals
+abbrev pub lines_read : Bool → List ℕ → Shape → List ℤ → List ℤ → List ℕ
+lines_read animals file shape outer inner = codes_read animals file shape.iids shape.sids (cond animals outer inner) (cond animals inner outer)
 
 -- ---- filling a matrix
 -- places p and p + 1 set
@@ -115,9 +121,9 @@ DrawnInOrder table d file start at n old k new =
     Drawn d 1 n (λ _ i. at + i) (λ _ i. place_value (value_in table d) file (start + i / 4) (i % 4)) old k new
 
 -- of one line from place `at` on: resolved entries
-abbrev pub DrawnLine : {A : Type 0} → List A → A → List ℕ → ℕ → ℕ → List ℕ → List ℕ → ℕ → ℕ → List A → ℕ → List A → Type 0
-DrawnLine table d file byte place bytes places at n old k new =
-    Drawn d 1 n (λ _ i. at + i) (λ _ i. place_value (value_in table d) file (byte + get_or bytes i 0) (place + get_or places i 0)) old k new
+abbrev pub DrawnLine : {A : Type 0} → List A → A → List ℕ → ℕ → ℕ → Tile → ℕ → ℕ → List A → ℕ → List A → Type 0
+DrawnLine table d file byte place tile at n old k new =
+    Drawn d 1 n (λ _ i. at + i) (λ _ i. place_value (value_in table d) file (byte + get_or tile.bytes i 0) (place + get_or tile.places i 0)) old k new
 
 -- every line of a matrix is filled up to place `from`: g o t is what belongs at place t of line o
 pub record Rows {A : Type 0} (g : ℕ → ℕ → A) (d : A) (outer inner : ℕ) (val : List A) (from : ℕ) : Type 0 where
@@ -127,5 +133,5 @@ pub record Rows {A : Type 0} (g : ℕ → ℕ → A) (d : A) (outer inner : ℕ)
 
 -- the matrix that is read, filled so far
 abbrev pub ReadTo : {A : Type 0} → Bool → List A → A → List ℕ → Shape → List ℤ → List ℤ → List A → ℕ → Type 0
-ReadTo order table d file shape iid_list sid_list val from =
-    Rows (line_value order (value_in table d) file shape iid_list sid_list) d (length_of order iid_list sid_list) (length_of (not order) iid_list sid_list) val from
+ReadTo animals table d file shape outer inner val from =
+    Rows (line_value animals (value_in table d) file shape outer inner) d (length outer) (length inner) val from

@@ -19,16 +19,20 @@ unfoldable pub lists_answer : ℕ → ℕ → List ℤ → List ℤ → Answer
 unfolding check_count check_lists
 lists_answer iids sids iid_list sid_list = check_count iids (check_count sids (check_lists iids sids iid_list sid_list (done [])))
 
+-- what reading checks, and counting: 18; 15 for a buffer that has not m values for each marker named; the file's own checks; 5 and 6
+abbrev pub checks_answer : ℕ → List ℕ → ℕ → ℕ → List ℤ → List ℤ → ℕ → Answer
+checks_answer m file iids sids iid_list sid_list val_length =
+    check_count iids
+    (check_count sids
+    (check (eqb (m * length sid_list) val_length) 15
+    (check_file file iids sids
+    (check_lists iids sids iid_list sid_list (done [])))))
+
 -- "Reading checks 18, 15, 1 (under 3 bytes), 2 (first two bytes), 3, 4, 2 (length), 5, 6."
 -- 15: "value buffer is not the product of the two list lengths"
 unfoldable pub read_answer : List ℕ → ℕ → ℕ → List ℤ → List ℤ → ℕ → Answer
 unfolding check_count check check_file check_lists
-read_answer file iids sids iid_list sid_list val_length =
-    check_count iids
-    (check_count sids
-    (check (eqb (length iid_list * length sid_list) val_length) 15
-    (check_file file iids sids
-    (check_lists iids sids iid_list sid_list (done [])))))
+read_answer file iids sids iid_list sid_list val_length = checks_answer (length iid_list) file iids sids iid_list sid_list val_length
 
 -- "file order is the list 0, 1, 2 and so on": with it, reading reads everything
 unfoldable pub file_order : ℕ → List ℤ
@@ -45,20 +49,20 @@ codes_read animal_order file iids sids iid_list sid_list =
     matrix animal_order (length iid_list) (length sid_list) (read_code file iids sids iid_list sid_list)
 
 -- the matrix read: the value of each code
-unfoldable pub values_read : (w : Width) → Bool → w.Value → Bool → List ℕ → ℕ → ℕ → List ℤ → List ℤ → List w.Value
+unfoldable pub values_read : {V : Type 0} (w : Width V) → Bool → V → Bool → List ℕ → ℕ → ℕ → List ℤ → List ℤ → List V
 values_read w flag missing animal_order file iids sids iid_list sid_list =
     map (value_of w flag missing) (codes_read animal_order file iids sids iid_list sid_list)
 
 -- the later value buffer
 unfoldable pub read_buffer :
-    (w : Width) → List ℕ → ℕ → ℕ → Bool → List ℤ → List ℤ → w.Value → Bool → List w.Value → List w.Value
+    {V : Type 0} (w : Width V) → List ℕ → ℕ → ℕ → Bool → List ℤ → List ℤ → V → Bool → List V → List V
 read_buffer w file iids sids flag iid_list sid_list missing animal_order old =
     if_done (read_answer file iids sids iid_list sid_list (length old))
     (values_read w flag missing animal_order file iids sids iid_list sid_list) old
 
 -- reading into a lent buffer: what it answers, and the later values
 abbrev pub Reads :
-    (w : Width) → List ℕ → ℕ → ℕ → Bool → List ℤ → List ℤ → w.Value → Bool → Answer → List w.Value → List w.Value → Type 0
+    {V : Type 0} (w : Width V) → List ℕ → ℕ → ℕ → Bool → List ℤ → List ℤ → V → Bool → Answer → List V → List V → Type 0
 Reads w file iids sids flag iid_list sid_list missing animal_order said old new =
     (said ≡ read_answer file iids sids iid_list sid_list (length old))
     × (new ≡ read_buffer w file iids sids flag iid_list sid_list missing animal_order old)

@@ -1,19 +1,26 @@
 // The checks of reading.
 ghost use Rattle.std.specs.Prelude.{◌≡◌};
-ghost use Rattle.answer.specs.Answer.{is_done};
-ghost use Rattle.bed_read.specs.Reading.{lists_answer, read_answer};
+ghost use Rattle.bed_read.specs.Reading.{checks_answer, lists_answer};
 ghost use Rattle.bed_read.specs.Says.{read_says};
+ghost use Rattle.bed_read.specs.declared.checks.ReadError.TheVariants.{File};
 
-use bed_file::{AcceptAnswer, FileFault};
-use entries::FirstBad;
+use bed_file::FileError;
 
-#[derive(Clone, Copy)]
-pub enum ReadAnswer {
-    Done,
+// What reading refuses, and counting: 15; what a file is refused by; 5, or 6.
+#[derive(Clone, Copy, Debug, PartialEq, Eq)]
+pub enum ReadError {
     IndexMismatch,
-    Refused(FileFault),
+    File(FileError),
     IidIndexTooBig(i64),
     SidIndexTooBig(i64),
+}
+
+impl From<FileError> for ReadError {
+    ghost from_gives = { λ file error. error ≡ File file };
+
+    fn from(error: FileError) -> ReadError {
+        ReadError::File(error)
+    }
 }
 
 // The lists' checks by themselves: 18, then 5 for the animal list, then 6 for the marker list.
@@ -22,62 +29,46 @@ pub fn check_lists(
     sid_count: usize,
     iid_index: &[i64],
     sid_index: &[i64],
-) -> ReadAnswer
+) -> Result<(), ReadError>
     ensures { read_says result ≡ lists_answer iid_count sid_count iid_index.now sid_index.now }
 {
     if iid_count > answer::COUNT_LIMIT {
-        return ReadAnswer::Refused(FileFault::CountTooLarge);
+        return Err(ReadError::File(FileError::CountTooLarge));
     }
     if sid_count > answer::COUNT_LIMIT {
-        return ReadAnswer::Refused(FileFault::CountTooLarge);
+        return Err(ReadError::File(FileError::CountTooLarge));
     }
-    let bad_iid = entries::first_bad(iid_count, iid_index);
-    if let FirstBad::Entry(e) = bad_iid {
-        return ReadAnswer::IidIndexTooBig(e);
+    if let Some(e) = entries::first_bad(iid_count, iid_index) {
+        return Err(ReadError::IidIndexTooBig(e));
     }
-    let bad_sid = entries::first_bad(sid_count, sid_index);
-    if let FirstBad::Entry(e) = bad_sid {
-        return ReadAnswer::SidIndexTooBig(e);
+    if let Some(e) = entries::first_bad(sid_count, sid_index) {
+        return Err(ReadError::SidIndexTooBig(e));
     }
-    ReadAnswer::Done
+    Ok(())
 }
 
-// All checks of reading, whatever the width of the values.
-pub(crate) fn check_read(
+// All checks of reading, and of counting: 18, 15 for a buffer that has not m values for each marker named, the file's own, 5 and 6.
+pub fn check_read(
     file: &[u8],
     iid_count: usize,
     sid_count: usize,
     iid_index: &[i64],
     sid_index: &[i64],
+    m: usize,
     val_len: usize,
-) -> ReadAnswer
-    ensures { read_says result ≡ read_answer file.now iid_count sid_count
+) -> Result<(), ReadError>
+    ensures { read_says result ≡ checks_answer m file.now iid_count sid_count
         iid_index.now sid_index.now val_len }
 {
     if iid_count > answer::COUNT_LIMIT {
-        return ReadAnswer::Refused(FileFault::CountTooLarge);
+        return Err(ReadError::File(FileError::CountTooLarge));
     }
     if sid_count > answer::COUNT_LIMIT {
-        return ReadAnswer::Refused(FileFault::CountTooLarge);
+        return Err(ReadError::File(FileError::CountTooLarge));
     }
-    if blocks::product_is(iid_index.len(), sid_index.len(), val_len) {
-        match bed_file::accept(file, iid_count, sid_count) {
-            AcceptAnswer::Accepted => check_lists(iid_count, sid_count, iid_index, sid_index),
-            AcceptAnswer::Refused(fault) => ReadAnswer::Refused(fault),
-        }
-    } else {
-        ReadAnswer::IndexMismatch
+    if !blocks::product_is(m, sid_index.len(), val_len) {
+        return Err(ReadError::IndexMismatch);
     }
-}
-
-pub fn is_done(answer: ReadAnswer) -> bool
-    ensures { result ≡ is_done (read_says answer) }
-{
-    match answer {
-        ReadAnswer::Done => true,
-        ReadAnswer::IndexMismatch => false,
-        ReadAnswer::Refused(_) => false,
-        ReadAnswer::IidIndexTooBig(_) => false,
-        ReadAnswer::SidIndexTooBig(_) => false,
-    }
+    bed_file::accept(file, iid_count, sid_count)?;
+    check_lists(iid_count, sid_count, iid_index, sid_index)
 }

@@ -2,29 +2,24 @@
 use mathlib.Core.Path.{◌≡◌, refl, sym, ap, subst, ◌∙◌}
 use mathlib.Core.Bool.{Bool, true, false, cond}
 use mathlib.Core.List.{List}
-use mathlib.Core.Option.{Option}
 use Prim.Native.Nat.{ℕ, suc, ◌+◌, ◌<◌}
 use native.Mathlib.Omega.{arith}
 use borrow.Author.Tests.{eq-eqb, ne_eqb, eqb-true, le-ltb, ltb-true}
-use lib.Dec.{T, eqb}
+use lib.Dec.{eqb}
 use lib.IntN.{ℤ, pos, negsuc, nat_abs, ◌-ℤ◌}
 use lib.ListN.{length, get_or, set, length-set, replicate, get_or-replicate, length-replicate}
 use lib.Seq.{get_or-set_same, get_or-set_other}
-use lib.Signed.{mag, lt_z, non_neg}
-use mir.Syntax.{w8, w64}
-use mir.Val.{Fits, SFits, of_z, to_z}
+use lib.Signed.{mag, lt_z}
+use mir.Syntax.{w8}
+use mir.Val.{SFits, of_z, to_z}
 use mir.ValLaws.{to_z-of_z}
-use Rattle.answer.specs.Answer.{Answer}
 use Rattle.codes.specs.Value.{i8, same_int, code_of}
 use Rattle.codes.proofs.ValueLaws.{same_int_refl, same_int_eq}
 use Rattle.answer.proofs.Tests.{by_test}
 use Rattle.codes.proofs.ValueLaws.{zero_code, one_code_law, two_code, missing_code, number_bad}
-use Rattle.bed_write.specs.Packing.{place_code, encode_answer, encode_buffer}
-use Rattle.bed_write.specs.Writing.{value_code, first_bad_call}
 use Rattle.bed_write.specs.Groups.{or_four}
-use Rattle.bed_write.specs.Private.{byte_index, CodesOfBytes, by_table}
+use Rattle.bed_write.specs.Private.{byte_index, CodesOfBytes}
 use Rattle.bed_write.proofs.FirstLaws.{code_found, code_lacking}
-use Rattle.answer.proofs.Tabulate.{get_d_inside}
 
 -- ---- the place of an i8
 turn : (z : ℤ) → lt_z z (pos 0) ≡ true → (negsuc 0 -ℤ z ≡ pos (mag z)) × (128 + mag z ≡ byte_index z)
@@ -42,12 +37,6 @@ module _ (x : ℤ) (m : ℕ) (e : x ≡ pos m) (h : m < 128) where
   told : to_z w8 (of_z w8 x) ≡ pos m
   told = ap (λ (y : ℤ). to_z w8 (of_z w8 y)) e ∙ to_z-of_z w8 (pos m) (record { sfits = h })
 
-  pub casts : T (non_neg (to_z w8 (of_z w8 x))) × Fits w64 (nat_abs (to_z w8 (of_z w8 x)))
-  casts = (
-    subst (λ (y : ℤ). T (non_neg y)) (sym told) tt,
-    subst (λ (y : ℤ). Fits w64 (nat_abs y)) (sym told) (record { fits = omega arith }),
-  )
-
   pub cast_is : nat_abs (to_z w8 (of_z w8 x)) ≡ m
   cast_is = ap nat_abs told
 
@@ -62,9 +51,6 @@ module _ (z : ℤ) (f : SFits w8 z) where
     pub turned : negsuc 0 -ℤ to_z w8 (of_z w8 z) ≡ pos (mag z)
     turned = ap (λ (y : ℤ). negsuc 0 -ℤ y) back ∙ (turn z (subst (λ (y : ℤ). lt_z y (pos 0) ≡ true) back h)).0
 
-    pub turned_fits : SFits w8 (negsuc 0 -ℤ to_z w8 (of_z w8 z))
-    turned_fits = subst (λ (y : ℤ). SFits w8 y) (sym turned) (record { sfits = f.sfits })
-
     pub index_turned : (x : ℕ) → x ≡ mag z → (128 + x ≡ byte_index z) × (128 + x < 256)
     index_turned x e = let b = small in let t = (turn z (subst (λ (y : ℤ). lt_z y (pos 0) ≡ true) back h)).1 in (omega arith, omega arith)
 
@@ -76,8 +62,8 @@ module _ (z : ℤ) (f : SFits w8 z) where
     index_fronted x e = let b = small in let t = (front z (subst (λ (y : ℤ). lt_z y (pos 0) ≡ false) back h)).1 in (omega arith, omega arith)
 
 -- as the machine holds it
-pub index_held : (z : ℤ) (r : ℕ) → SFits w8 z → r ≡ byte_index (to_z w8 (of_z w8 z)) → r ≡ byte_index z
-index_held z r f e = e ∙ ap byte_index (to_z-of_z w8 z f)
+pub small_held : (z : ℤ) → SFits w8 z → mag (to_z w8 (of_z w8 z)) < 128
+small_held z f = subst (λ (y : ℤ). mag y < 128) (sym (to_z-of_z w8 z f)) f.sfits
 
 index_below : (z : ℤ) → mag z < 128 → byte_index z < 256
 unfolding byte_index
@@ -95,7 +81,7 @@ same_index (negsuc m) (negsuc n) h g = by_test (eqb m n)
     (λ e. e ∙ sym (ne_eqb (128 + m) (128 + n) (λ q. let r : m ≡ n = omega arith in let z : ◌≡◌ {A = Bool} false true = sym e ∙ eq-eqb m n r in let y : ◌≡◌ {A = ℕ} 0 1 = cc in omega arith)))
 
 -- and exactly if their bits are
-same_bits : (a b : ℤ) → SFits w8 a → SFits w8 b → eqb (of_z w8 a) (of_z w8 b) ≡ same_int a b
+pub same_bits : (a b : ℤ) → SFits w8 a → SFits w8 b → eqb (of_z w8 a) (of_z w8 b) ≡ same_int a b
 same_bits a b f g = by_test (same_int a b)
     (λ e. eq-eqb (of_z w8 a) (of_z w8 b) (ap (of_z w8) (same_int_eq a b e)) ∙ sym e)
     (λ e. ne_eqb (of_z w8 a) (of_z w8 b) (λ q.
@@ -103,10 +89,6 @@ same_bits a b f g = by_test (same_int a b)
     let t : ◌≡◌ {A = Bool} true false = sym (same_int_refl a) ∙ ap (same_int a) r ∙ e in
     let z : ◌≡◌ {A = ℕ} 0 1 = cc in
     omega arith) ∙ sym e)
-
--- a choice by the machine's test
-pub tested : (a b : ℤ) → SFits w8 a → SFits w8 b → (r x y : ℕ) → r ≡ cond (eqb (of_z w8 a) (of_z w8 b)) x y → r ≡ cond (same_int a b) x y
-tested a b f g r x y e = e ∙ ap (λ (t : Bool). cond t x y) (same_bits a b f g)
 
 -- ---- the table: 4 everywhere, then missing, then 2, 1 and 0
 module _ (flag : Bool) (missing : ℤ) (hm : mag missing < 128) (at two zer : ℕ) (ea : at ≡ byte_index missing) (e2 : two ≡ cond flag 0 3) (e0 : zer ≡ cond flag 3 0) where
@@ -167,49 +149,3 @@ module _ (flag : Bool) (missing : ℤ) (hm : mag missing < 128) (at two zer : �
   table_made base e =
       subst (λ (l : List ℕ). CodesOfBytes flag missing (set (set (set (set l at 1) 2 two) 1 2) 0 zer)) (sym e)
       (record { code_of_law = λ v h. found v h })
-
--- the number that a table has for the value at a place
-pub by_table_law :
-    (flag : Bool) (missing : ℤ) (table : List ℕ) (vals : List ℤ) (k : ℕ) → CodesOfBytes flag missing table → k < length vals → mag (get_or vals k (pos 0)) < 128
-    → by_table table vals k ≡ or_four (place_code i8 flag missing vals k)
-unfolding by_table place_code
-by_table_law flag missing table vals k t h f =
-    t.code_of_law (get_or vals k (pos 0)) f ∙ ap (λ (v : ℤ). or_four (code_of i8 flag missing v)) (get_d_inside vals k (pos 0) missing h)
-
--- as the machine holds the value
-pub number_held : (table : List ℕ) (vals : List ℤ) (k r : ℕ) → mag (get_or vals k (pos 0)) < 128 → r ≡ get_or table (byte_index (to_z w8 (of_z w8 (get_or vals k (pos 0))))) 0 → r ≡ by_table table vals k
-unfolding by_table
-number_held table vals k r f e = e ∙ ap (λ (v : ℤ). get_or table (byte_index v) 0) (to_z-of_z w8 (get_or vals k (pos 0)) (record { sfits = f }))
-
-pub code_held : (flag : Bool) (missing v : ℤ) (r : ℕ) → mag v < 128 → r ≡ or_four (code_of i8 flag missing (to_z w8 (of_z w8 v))) → r ≡ or_four (code_of i8 flag missing v)
-code_held flag missing v r f e = e ∙ ap (λ (x : ℤ). or_four (code_of i8 flag missing x)) (to_z-of_z w8 v (record { sfits = f }))
-
-pub good_held :
-    (flag : Bool) (missing v : ℤ) (r : ℕ) → mag v < 128
-    → ((m : ℤ) → or_four (code_of i8 flag m (to_z w8 (of_z w8 v))) < 4 → r ≡ or_four (code_of i8 flag m (to_z w8 (of_z w8 v))))
-    → or_four (code_of i8 flag missing v) < 4 → r ≡ or_four (code_of i8 flag missing v)
-good_held flag missing v r f h =
-    subst (λ (x : ℤ). or_four (code_of i8 flag missing x) < 4 → r ≡ or_four (code_of i8 flag missing x)) (to_z-of_z w8 v (record { sfits = f })) (h missing)
-
--- what is said of `missing` as the machine holds it
-abbrev pub held : ℤ → ℤ
-held z = to_z w8 (of_z w8 z)
-
-module _ (missing : ℤ) (f : SFits w8 missing) where
-  pub as_held : (P : ℤ → Type 0) → P missing → P (held missing)
-  as_held P h = subst P (sym (to_z-of_z w8 missing f)) h
-
-  pub as_given : (P : ℤ → Type 0) → P (held missing) → P missing
-  as_given P h = subst P (to_z-of_z w8 missing f) h
-
-  pub held_answer :
-      (flag : Bool) (vals : List ℤ) (old : List ℕ) {answer : Answer} {out : List ℕ}
-      → (answer ≡ encode_answer (length vals) (place_code i8 flag (held missing) vals) (length old)) × (out ≡ encode_buffer (length vals) (place_code i8 flag (held missing) vals) old)
-      → (answer ≡ encode_answer (length vals) (place_code i8 flag missing vals) (length old)) × (out ≡ encode_buffer (length vals) (place_code i8 flag missing vals) old)
-  held_answer flag vals old {answer} {out} e =
-      as_given (λ m. (answer ≡ encode_answer (length vals) (place_code i8 flag m vals) (length old)) × (out ≡ encode_buffer (length vals) (place_code i8 flag m vals) old)) e
-
-  pub held_found :
-      (flag order : Bool) (iids sids : ℕ) (val : List ℤ) {found : Option (ℕ × ℕ)}
-      → found ≡ first_bad_call iids sids (value_code i8 flag (held missing) order iids sids val) → found ≡ first_bad_call iids sids (value_code i8 flag missing order iids sids val)
-  held_found flag order iids sids val {found} e = as_given (λ m. found ≡ first_bad_call iids sids (value_code i8 flag m order iids sids val)) e

@@ -2,7 +2,7 @@
 use mathlib.Core.Path.{◌≡◌, refl, sym, ap, subst, ◌∙◌}
 use mathlib.Core.Bool.{Bool}
 use mathlib.Core.List.{List, [], ◌∷◌, ◌++◌, append-nil, append_assoc}
-use mathlib.Core.Option.{Option, some, none}
+use Rattle.std.specs.Prelude.{Option, Some, None}
 use Prim.Native.Nat.{ℕ, suc, ◌+◌, ◌-◌, ◌*◌, ◌/◌, ◌<◌, ◌≤◌}
 use native.Mathlib.Nat.{mul-one}
 use native.Mathlib.Numerals.{add-one}
@@ -73,7 +73,7 @@ module _ (n : ℕ) (code : ℕ → Option ℕ) where
       get_d_tabulate (block_width (length codes)) (packed_byte codes) b 0 (subst (λ (x : ℕ). b < block_width x) (sym l) h)
 
 -- ---- a column without bad values, a group at a time
-module _ (w : Width) (flag : Bool) (missing : w.Value) (vals : List w.Value) (good : first_bad_animal (length vals) (place_code w flag missing vals) ≡ none) where
+module _ {V : Type 0} (w : Width V) (flag : Bool) (missing : V) (vals : List V) (good : first_bad_animal (length vals) (place_code w flag missing vals) ≡ None) where
   pub value_good : (k : ℕ) → k < length vals → or_four (place_code w flag missing vals k) < 4
   unfolding first_bad_animal
   value_good k h =
@@ -121,9 +121,6 @@ module _ (w : Width) (flag : Bool) (missing : w.Value) (vals : List w.Value) (go
             front_more new old out b p (omega arith) v (column_byte b c0 c1 c2 c3 full_four (omega arith) v e)
 
     module _ (h : b < length out) where
-      pub last_there : 4 * b < length vals
-      last_there = let l = out_long in let r = (width_room (length vals)).1 in omega arith
-
       module _ (c0 c1 c2 c3 : ℕ)
           (g : ((k : ℕ) → k < length vals - 4 * b → k < 4 → number b k < 4) → Four (in_group (length vals - 4 * b) (number b)) c0 c1 c2 c3) where
         last_four : Four (in_group (length vals - 4 * b) (number b)) c0 c1 c2 c3
@@ -149,10 +146,10 @@ module _ (n : ℕ) (code : ℕ → Option ℕ) (old : List ℕ) where
   encode_length h = (simp (ne_eqb (length old) (block_width n) h), simp (ne_eqb (length old) (block_width n) h))
 
   module _ (l : length old ≡ block_width n) where
-    pub encode_bad : (a : ℕ) → some a ≡ first_bad_animal n code → (refused 7 (pos a ∷ []) ≡ encode_answer n code (length old)) × (old ≡ encode_buffer n code old)
+    pub encode_bad : (a : ℕ) → Some a ≡ first_bad_animal n code → (refused 7 (pos a ∷ []) ≡ encode_answer n code (length old)) × (old ≡ encode_buffer n code old)
     unfolding encode_answer encode_buffer check_animal if_done
     encode_bad a e = (simp (eq-eqb (length old) (block_width n) l, sym e), simp (eq-eqb (length old) (block_width n) l, sym e))
 
-    pub encode_done : none ≡ first_bad_animal n code → (out : List ℕ) → out ≡ packed_codes n code → (done [] ≡ encode_answer n code (length old)) × (out ≡ encode_buffer n code old)
+    pub encode_done : None ≡ first_bad_animal n code → (out : List ℕ) → out ≡ packed_codes n code → (done [] ≡ encode_answer n code (length old)) × (out ≡ encode_buffer n code old)
     unfolding encode_answer encode_buffer check_animal if_done
     encode_done e out o = (simp (eq-eqb (length old) (block_width n) l, sym e), o ∙ simp (eq-eqb (length old) (block_width n) l, sym e))

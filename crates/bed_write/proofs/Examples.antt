@@ -2,7 +2,7 @@
 use mathlib.Core.Path.{◌≡◌, refl}
 use mathlib.Core.Bool.{Bool, true, false}
 use mathlib.Core.List.{List, [], ◌∷◌}
-use mathlib.Core.Option.{Option, some, none}
+use Rattle.std.specs.Prelude.{Option, Some, None}
 use Prim.Native.Nat.{ℕ, zero, suc, ◌<◌}
 use native.Mathlib.Omega.{arith}
 use lib.Dec.{lit≤}
@@ -34,24 +34,24 @@ unfolding write_answer check_buffers check_size check_call first_bad_call first_
 three_not_written_rows flag = refl
 
 -- the first bad value, found and told
-three_found : first_bad_animal 4 (place_code i8 true (negsuc 126) with_three) ≡ some 1
+three_found : first_bad_animal 4 (place_code i8 true (negsuc 126) with_three) ≡ Some 1
 unfolding first_bad_animal first_of or_else if_bad place_code code_of same_or_nan same_int
 three_found = refl
 
 pub three_is_first : IsFirstBad 4 (place_code i8 true (negsuc 126) with_three) 1
 three_is_first = (first_bad_animal_law 4 (place_code i8 true (negsuc 126) with_three) 1).0 three_found
 
-pub three_again : first_bad_animal 4 (place_code i8 true (negsuc 126) with_three) ≡ some 1
+pub three_again : first_bad_animal 4 (place_code i8 true (negsuc 126) with_three) ≡ Some 1
 three_again = (first_bad_animal_law 4 (place_code i8 true (negsuc 126) with_three) 1).1 three_is_first
 
-three_called : first_bad_call 2 2 (value_code i8 true (negsuc 126) true 2 2 with_three) ≡ some (0, 1)
+three_called : first_bad_call 2 2 (value_code i8 true (negsuc 126) true 2 2 with_three) ≡ Some (0, 1)
 unfolding first_bad_call first_of or_else if_bad value_code place_code matrix_place code_of same_or_nan same_int
 three_called = refl
 
 pub three_call_is_first : IsFirstBadCall 2 2 (value_code i8 true (negsuc 126) true 2 2 with_three) 0 1
 three_call_is_first = (first_bad_call_law 2 2 (value_code i8 true (negsuc 126) true 2 2 with_three) 0 1).0 three_called
 
-pub three_call_again : first_bad_call 2 2 (value_code i8 true (negsuc 126) true 2 2 with_three) ≡ some (0, 1)
+pub three_call_again : first_bad_call 2 2 (value_code i8 true (negsuc 126) true 2 2 with_three) ≡ Some (0, 1)
 three_call_again = (first_bad_call_law 2 2 (value_code i8 true (negsuc 126) true 2 2 with_three) 0 1).1 three_call_is_first
 
 -- "missing (any NaN if missing is NaN)": with missing −127 a NaN is bad
@@ -83,27 +83,27 @@ pub second_unchanged : encode_buffer 7 (place_code i8 true (negsuc 126) second_g
 second_unchanged = refused_unchanged 7 (place_code i8 true (negsuc 126) second_group) (0xAA ∷ 0xBB ∷ []) 7 (pos 5 ∷ []) second_refused
 
 -- the writer's search over one marker, in either order
-pub second_searched : (order : Bool) → animal_of (first_bad_call 7 1 (value_code i8 true (negsuc 126) order 7 1 second_group)) ≡ some 5
+pub second_searched : (order : Bool) → animal_of (first_bad_call 7 1 (value_code i8 true (negsuc 126) order 7 1 second_group)) ≡ Some 5
 unfolding first_bad_animal first_of or_else if_bad place_code code_of same_or_nan same_int
 second_searched order = one_marker_first_bad i8 true (negsuc 126) order 7 second_group
 
 -- ---- what is found first, of places at which something is found from 1 on
 abbrev from1 : ℕ → Option ℕ
-from1 zero = none
-from1 (suc k) = some (suc k)
+from1 zero = None
+from1 (suc k) = Some (suc k)
 
-none_at_0 : (j : ℕ) → j < 1 → from1 j ≡ none
+none_at_0 : (j : ℕ) → j < 1 → from1 j ≡ None
 none_at_0 zero h = refl
 none_at_0 (suc j) h = absurd (omega arith)
 
-pub first_from_1 : first_of 3 from1 ≡ some 1
+pub first_from_1 : first_of 3 from1 ≡ Some 1
 first_from_1 = (first_is_least 3 from1 1).1 (record { place = 1; inside = lit≤ tt; found_there = refl; none_lower = none_at_0 })
 
 pub found_from_1 : IsFoundFirst ℕ 3 from1 1
 found_from_1 = (first_is_least 3 from1 1).0 first_from_1
 
-pub none_from_1 : first_of 1 from1 ≡ none
+pub none_from_1 : first_of 1 from1 ≡ None
 none_from_1 = (first_is_none 1 from1).1 none_at_0
 
-pub nothing_at_0 : from1 0 ≡ none
+pub nothing_at_0 : from1 0 ≡ None
 nothing_at_0 = (first_is_none 1 from1).0 none_from_1 0 (lit≤ tt)

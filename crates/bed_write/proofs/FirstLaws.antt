@@ -1,22 +1,23 @@
 -- Laws of what is found first, and of codes that a value may lack.
-use mathlib.Core.Path.{◌≡◌, refl, ap, ◌∙◌}
+use mathlib.Core.Path.{◌≡◌, refl, sym, ap, ◌∙◌}
 use mathlib.Core.Bool.{Bool, true, false, cond}
 use mathlib.Core.List.{List}
-use mathlib.Core.Option.{Option, some, none}
+use Rattle.std.specs.Prelude.{Option, Some, None}
 use Prim.Native.Nat.{ℕ, zero, suc, ◌<◌}
 use native.Mathlib.Omega.{arith}
 use lib.ListN.{length, get_or}
+use Rattle.std.specs.Option.{is_none}
 use Rattle.codes.specs.Value.{Width, code_of, same_or_nan}
 use Rattle.bed_write.specs.Packing.{place_code, or_zero, or_else, first_of, if_bad}
-use Rattle.bed_write.specs.Groups.{or_four}
+use Rattle.bed_write.specs.Groups.{or_four, CodesGood}
 use Rattle.answer.proofs.Tabulate.{get_d_inside}
 
-pub first_none : {A : Type 0} (n : ℕ) (f : ℕ → Option A) → ((k : ℕ) → k < n → f k ≡ none) → first_of n f ≡ none
+pub first_none : {A : Type 0} (n : ℕ) (f : ℕ → Option A) → ((k : ℕ) → k < n → f k ≡ None) → first_of n f ≡ None
 unfolding first_of
 first_none zero f h = refl
 first_none (suc n) f h = ap (λ o. or_else o (first_of n (λ k. f (suc k)))) (h 0 (omega arith)) ∙ first_none n (λ k. f (suc k)) (λ k b. h (suc k) (omega arith))
 
-pub first_some : {A : Type 0} (n : ℕ) (f : ℕ → Option A) (i : ℕ) (x : A) → i < n → ((k : ℕ) → k < i → f k ≡ none) → f i ≡ some x → first_of n f ≡ some x
+pub first_some : {A : Type 0} (n : ℕ) (f : ℕ → Option A) (i : ℕ) (x : A) → i < n → ((k : ℕ) → k < i → f k ≡ None) → f i ≡ Some x → first_of n f ≡ Some x
 unfolding first_of
 first_some zero f i x b h e = absurd (omega arith)
 first_some (suc n) f zero x b h e = ap (λ o. or_else o (first_of n (λ k. f (suc k)))) e
@@ -32,74 +33,80 @@ first_ext (suc n) f g e =
     ∙ ap (or_else (g 0)) (first_ext n (λ k. f (suc k)) (λ k. g (suc k)) (λ k h. e (suc k) (omega arith)))
 
 -- where nothing is found, there is nothing at any place
-pub first_all : {A : Type 0} (n : ℕ) (f : ℕ → Option A) → first_of n f ≡ none → (k : ℕ) → k < n → f k ≡ none
+pub first_all : {A : Type 0} (n : ℕ) (f : ℕ → Option A) → first_of n f ≡ None → (k : ℕ) → k < n → f k ≡ None
 unfolding first_of
 first_all zero f e k b = absurd (omega arith)
 first_all (suc n) f e zero b = at_first (f 0) (first_of n (λ k. f (suc k))) e
   where
-    at_first : {A : Type 0} (o later : Option A) → or_else o later ≡ none → o ≡ none
-    at_first none later e = refl
-    at_first (some x) later e = e
+    at_first : {A : Type 0} (o later : Option A) → or_else o later ≡ None → o ≡ None
+    at_first None later e = refl
+    at_first (Some x) later e = e
 first_all (suc n) f e (suc k) b = first_all n (λ k. f (suc k)) (at_later (f 0) (first_of n (λ k. f (suc k))) e) k (omega arith)
   where
-    at_later : {A : Type 0} (o later : Option A) → or_else o later ≡ none → later ≡ none
-    at_later none later e = e
-    at_later (some x) later e = absurd (let q : ◌≡◌ {A = ℕ} 0 1 = cc in omega arith)
+    at_later : {A : Type 0} (o later : Option A) → or_else o later ≡ None → later ≡ None
+    at_later None later e = e
+    at_later (Some x) later e = absurd (let q : ◌≡◌ {A = ℕ} 0 1 = cc in omega arith)
 
 -- ---- a code that may be lacking
-pub code_found : (o : Option ℕ) (c : ℕ) → some c ≡ o → c ≡ or_four o
+pub code_found : (o : Option ℕ) (c : ℕ) → Some c ≡ o → c ≡ or_four o
 unfolding or_four
 code_found o c e = ap or_four e
 
-pub code_lacking : (o : Option ℕ) → none ≡ o → 4 ≡ or_four o
+pub code_lacking : (o : Option ℕ) → None ≡ o → 4 ≡ or_four o
 unfolding or_four
 code_lacking o e = ap or_four e
 
-pub bad_none : {A : Type 0} (o : Option ℕ) (x : A) → or_four o < 4 → if_bad o x ≡ none
+pub bad_none : {A : Type 0} (o : Option ℕ) (x : A) → or_four o < 4 → if_bad o x ≡ None
 unfolding or_four if_bad
-bad_none (some c) x h = refl
-bad_none none x h = absurd (omega arith)
+bad_none (Some c) x h = refl
+bad_none None x h = absurd (omega arith)
 
-pub bad_some : {A : Type 0} (o : Option ℕ) (x : A) → ((c : ℕ) → o ≡ some c → c < 4) → 3 < or_four o → if_bad o x ≡ some x
+pub bad_some : {A : Type 0} (o : Option ℕ) (x : A) → ((c : ℕ) → o ≡ Some c → c < 4) → 3 < or_four o → if_bad o x ≡ Some x
 unfolding or_four if_bad
-bad_some (some c) x h b = absurd (let l = h c refl in omega arith)
-bad_some none x h b = refl
+bad_some (Some c) x h b = absurd (let l = h c refl in omega arith)
+bad_some None x h b = refl
 
-pub not_bad : {A : Type 0} (o : Option ℕ) (x : A) → if_bad o x ≡ none → o ≡ some (or_zero o)
+pub not_bad : {A : Type 0} (o : Option ℕ) (x : A) → if_bad o x ≡ None → o ≡ Some (or_zero o)
 unfolding if_bad or_zero
-not_bad (some c) x e = refl
-not_bad none x e = absurd (let q : ◌≡◌ {A = ℕ} 0 1 = cc in omega arith)
+not_bad (Some c) x e = refl
+not_bad None x e = absurd (let q : ◌≡◌ {A = ℕ} 0 1 = cc in omega arith)
 
 -- a value that is not bad has a code
-pub code_known : {A : Type 0} (o : Option ℕ) (x : A) → ((c : ℕ) → o ≡ some c → c < 4) → if_bad o x ≡ none → or_four o < 4
+pub code_known : {A : Type 0} (o : Option ℕ) (x : A) → ((c : ℕ) → o ≡ Some c → c < 4) → if_bad o x ≡ None → or_four o < 4
 unfolding if_bad or_four
-code_known (some c) x h e = h c refl
-code_known none x h e = absurd (let q : ◌≡◌ {A = ℕ} 0 1 = cc in omega arith)
+code_known (Some c) x h e = h c refl
+code_known None x h e = absurd (let q : ◌≡◌ {A = ℕ} 0 1 = cc in omega arith)
 
 pub zero_four : (o : Option ℕ) → or_four o < 4 → or_four o ≡ or_zero o
 unfolding or_four or_zero
-zero_four (some c) h = refl
-zero_four none h = absurd (omega arith)
+zero_four (Some c) h = refl
+zero_four None h = absurd (omega arith)
 
-pub zero_below : (o : Option ℕ) → ((c : ℕ) → o ≡ some c → c < 4) → or_zero o < 4
+pub zero_below : (o : Option ℕ) → ((c : ℕ) → o ≡ Some c → c < 4) → or_zero o < 4
 unfolding or_zero
-zero_below (some c) h = h c refl
-zero_below none h = omega arith
+zero_below (Some c) h = h c refl
+zero_below None h = omega arith
+
+-- by whether there is a code
+pub coded_if : (o : Option ℕ) → ((c : ℕ) → o ≡ Some c → c < 4) → is_none o ≡ false → or_four o < 4
+unfolding or_four
+coded_if (Some c) h e = h c refl
+coded_if None h e = absurd (let q : ◌≡◌ {A = ℕ} 0 1 = cc in omega arith)
 
 -- ---- the code of a value is a code
 abbrev pub Coded : (ℕ → Option ℕ) → Type 0
-Coded code = (k c : ℕ) → code k ≡ some c → c < 4
+Coded code = (k c : ℕ) → code k ≡ Some c → c < 4
 
-some_below : (k c : ℕ) → k < 4 → ◌≡◌ {A = Option ℕ} (some k) (some c) → c < 4
+some_below : (k c : ℕ) → k < 4 → ◌≡◌ {A = Option ℕ} (Some k) (Some c) → c < 4
 some_below k c h e = let q : k ≡ c = cc in omega arith
 
-pub code_small : (w : Width) (flag : Bool) (missing v : w.Value) (c : ℕ) → code_of w flag missing v ≡ some c → c < 4
+pub code_small : {V : Type 0} (w : Width V) (flag : Bool) (missing v : V) (c : ℕ) → code_of w flag missing v ≡ Some c → c < 4
 unfolding code_of
 code_small w flag missing v c e = by_tests_law flag (w.same v w.zero) (w.same v w.one) (w.same v w.two) (same_or_nan w v missing) c e
   where
     by_tests_law :
         (flag a b d f : Bool) (c : ℕ)
-        → cond a (some (cond flag 3 0)) (cond b (some 2) (cond d (some (cond flag 0 3)) (cond f (some 1) none))) ≡ some c → c < 4
+        → cond a (Some (cond flag 3 0)) (cond b (Some 2) (cond d (Some (cond flag 0 3)) (cond f (Some 1) None))) ≡ Some c → c < 4
     by_tests_law true true b d f c e = some_below 3 c (omega arith) e
     by_tests_law false true b d f c e = some_below 0 c (omega arith) e
     by_tests_law flag false true d f c e = some_below 2 c (omega arith) e
@@ -108,22 +115,18 @@ code_small w flag missing v c e = by_tests_law flag (w.same v w.zero) (w.same v 
     by_tests_law flag false false false true c e = some_below 1 c (omega arith) e
     by_tests_law flag false false false false c e = absurd (let q : ◌≡◌ {A = ℕ} 0 1 = cc in omega arith)
 
-pub place_coded : (w : Width) (flag : Bool) (missing : w.Value) (vals : List w.Value) → Coded (place_code w flag missing vals)
+pub place_coded : {V : Type 0} (w : Width V) (flag : Bool) (missing : V) (vals : List V) → Coded (place_code w flag missing vals)
 unfolding place_code
 place_coded w flag missing vals k c e = code_small w flag missing (get_or vals k missing) c e
 
--- a code that is read, of a value that has one
-pub good_read :
-    (w : Width) (flag : Bool) (missing : w.Value) (vals : List w.Value) (k : ℕ) (d : w.Value) (r : ℕ) → k < length vals
-    → or_four (place_code w flag missing vals k) < 4
-    → (or_four (code_of w flag missing (get_or vals k d)) < 4 → r ≡ or_four (code_of w flag missing (get_or vals k d)))
-    → r ≡ or_four (place_code w flag missing vals k)
-unfolding place_code
-good_read w flag missing vals k d r h g e =
-    let s : or_four (code_of w flag missing (get_or vals k d)) ≡ or_four (code_of w flag missing (get_or vals k missing)) =
-    ap (λ v. or_four (code_of w flag missing v)) (get_d_inside vals k d missing h) in
-    e (omega arith) ∙ s
+-- a value that is read: its code, if it has one, and that it has one
+module _ {V : Type 0} (w : Width V) (flag : Bool) (missing : V) (vals : List V) (k : ℕ) (v d : V) (h : k < length vals) (e : v ≡ get_or vals k d) where
+  pub value_read : code_of w flag missing v ≡ place_code w flag missing vals k
+  unfolding place_code
+  value_read = ap (code_of w flag missing) (e ∙ get_d_inside vals k d missing h)
 
-pub code_read : (w : Width) (flag : Bool) (missing : w.Value) (vals : List w.Value) (k : ℕ) (d : w.Value) (r : ℕ) → k < length vals → r ≡ or_four (code_of w flag missing (get_or vals k d)) → r ≡ or_four (place_code w flag missing vals k)
-unfolding place_code
-code_read w flag missing vals k d r h e = e ∙ ap (λ v. or_four (code_of w flag missing v)) (get_d_inside vals k d missing h)
+  pub good_read : (r : ℕ) → CodesGood w flag missing v r → or_four (place_code w flag missing vals k) < 4 → r ≡ or_four (place_code w flag missing vals k)
+  good_read r g b = let s = ap or_four value_read in g (omega arith) ∙ s
+
+  pub coded_read : (bad : Bool) → bad ≡ is_none (code_of w flag missing v) → bad ≡ false → or_four (place_code w flag missing vals k) < 4
+  coded_read bad b f = coded_if (place_code w flag missing vals k) (place_coded w flag missing vals k) (ap is_none (sym value_read) ∙ sym b ∙ f)

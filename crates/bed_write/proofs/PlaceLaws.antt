@@ -2,16 +2,11 @@
 use mathlib.Core.Path.{◌≡◌, refl, sym, ap, subst, ◌∙◌}
 use mathlib.Core.Bool.{Bool, true, false, cond}
 use mathlib.Core.List.{List}
-use mathlib.Core.Option.{Option, some, none}
-use Prim.Native.Nat.{ℕ, ◌+◌, ◌-◌, ◌*◌, ◌^◌, ◌<◌}
-use native.Mathlib.Nat.{mul_comm}
+use Rattle.std.specs.Prelude.{Option, Some, None}
+use Prim.Native.Nat.{ℕ, ◌+◌, ◌-◌, ◌*◌, ◌<◌}
 use native.Mathlib.Omega.{arith}
-use lib.Arith.{digits_lt}
-use lib.IntN.{ℤ, pos}
-use lib.Ieee.{Float}
 use lib.ListN.{length, get_or}
-use lib.Signed.{mag}
-use Rattle.codes.specs.Value.{Width, i8, float, code_of}
+use Rattle.codes.specs.Value.{Width, code_of}
 use Rattle.codes.specs.Code.{group_byte, packed_byte}
 use Rattle.answer.specs.Lists.{tabulate}
 use Rattle.answer.specs.Matrix.{matrix_place}
@@ -19,42 +14,33 @@ use Rattle.answer.proofs.MatrixLaws.{place_below}
 use Rattle.bed_write.specs.Packing.{place_code, or_zero}
 use Rattle.bed_write.specs.Writing.{value_code}
 use Rattle.bed_write.specs.Groups.{or_four, in_group, Four}
-use Rattle.bed_write.specs.Private.{CodesOfBytes, by_table, by_tests, first_over, placed}
-use Rattle.bed_write.proofs.FirstLaws.{code_read}
-use Rattle.bed_write.proofs.ByteLaws.{by_table_law}
+use Rattle.bed_write.specs.Private.{by_tests, first_over, placed}
+use Rattle.bed_write.proofs.FirstLaws.{value_read}
 use Rattle.bed_write.proofs.GroupLaws.{good_four, group_byte_law}
 use Rattle.bed_write.proofs.SearchLaws.{none_over}
 
--- ---- places of a matrix
-module _ (i m iids sids : ℕ) (hi : i < iids) (hm : m < sids) (f : iids * sids < 2 ^ 64) where
-  pub by_animal : i * sids + m < 2 ^ 64
-  by_animal = let d : i * sids + m < iids * sids = digits_lt hi hm in omega arith
-
-  pub by_animal_times : i * sids < 2 ^ 64
-  by_animal_times = let d = by_animal in omega arith
-
-  pub by_marker : m * iids + i < 2 ^ 64
-  by_marker = let d : m * iids + i < sids * iids = digits_lt hm hi in let c = mul_comm sids iids in omega arith
-
-  pub by_marker_times : m * iids < 2 ^ 64
-  by_marker_times = let d = by_marker in omega arith
-
-pub order_true : (order : Bool) (iids sids i m : ℕ) → order ≡ true → i * sids + m ≡ matrix_place order iids sids i m
-unfolding matrix_place
-order_true order iids sids i m e = ap (λ (o : Bool). matrix_place o iids sids i m) (sym e)
-
-pub order_false : (order : Bool) (iids sids i m : ℕ) → order ≡ false → m * iids + i ≡ matrix_place order iids sids i m
-unfolding matrix_place
-order_false order iids sids i m e = ap (λ (o : Bool). matrix_place o iids sids i m) (sym e)
+-- ---- places of a matrix, by strides
+module _ (order : Bool) (iids sids i m a b : ℕ) (ea : a ≡ cond order sids 1) (eb : b ≡ cond order 1 iids) where
+  pub place_strided : i * a + m * b ≡ matrix_place order iids sids i m
+  unfolding matrix_place
+  place_strided = ap (λ (x : ℕ). i * x + m * b) ea ∙ ap (λ (x : ℕ). i * cond order sids 1 + m * x) eb ∙ by_order order
+    where
+      by_order : (o : Bool) → i * cond o sids 1 + m * cond o 1 iids ≡ matrix_place o iids sids i m
+      by_order true = omega arith
+      by_order false = omega arith
 
 -- the number of the value that was read at the place of an animal and a marker
-module _ (w : Width) (flag : Bool) (missing : w.Value) (order : Bool) (iids sids : ℕ) (val : List w.Value) (long : iids * sids ≡ length val) (a m at : ℕ) (ha : a < iids) (hm : m < sids) (e : at ≡ matrix_place order iids sids a m) where
+module _ {V : Type 0} (w : Width V) (flag : Bool) (missing : V) (order : Bool) (iids sids : ℕ) (val : List V) (long : iids * sids ≡ length val) (a m at : ℕ) (ha : a < iids) (hm : m < sids) (e : at ≡ matrix_place order iids sids a m) where
   pub read_inside : at < length val
   read_inside = let p : matrix_place order iids sids a m < iids * sids = place_below iids sids a m ha hm order in omega arith
 
-  pub read_number : (d : w.Value) (r : ℕ) → r ≡ or_four (code_of w flag missing (get_or val at d)) → r ≡ or_four (value_code w flag missing order iids sids val a m)
-  unfolding value_code
-  read_number d r f = code_read w flag missing val at d r read_inside f ∙ ap (λ (k : ℕ). or_four (place_code w flag missing val k)) e
+  module _ (v d : V) (q : v ≡ get_or val at d) where
+    read_code : code_of w flag missing v ≡ value_code w flag missing order iids sids val a m
+    unfolding value_code
+    read_code = value_read w flag missing val at v d read_inside q ∙ ap (place_code w flag missing val) e
+
+    pub read_number : (r : ℕ) → r ≡ or_four (code_of w flag missing v) → r ≡ or_four (value_code w flag missing order iids sids val a m)
+    read_number r n = n ∙ ap or_four read_code
 
 -- ---- a matrix whose numbers are found by place
 module _ (number : ℕ → ℕ) (order : Bool) (iids sids : ℕ) where
@@ -74,16 +60,16 @@ module _ (number : ℕ → ℕ) (order : Bool) (iids sids : ℕ) where
         let q = walk k in omega arith
 
     -- where no value is bad, no number of the group is
-    pub walk_good : first_over iids sids (placed number order iids sids) ≡ none → (k : ℕ) → k < iids - 4 * b → number (start + k * stride) < 4
+    pub walk_good : first_over iids sids (placed number order iids sids) ≡ None → (k : ℕ) → k < iids - 4 * b → number (start + k * stride) < 4
     unfolding placed
     walk_good good k h =
         subst (λ (x : ℕ). number x < 4) (sym (walk k)) (none_over iids sids (placed number order iids sids) good (4 * b + k) m (omega arith) hm)
 
     -- the byte of a group without bad values
-    module _ (good : first_over iids sids (placed number order iids sids) ≡ none) (c0 c1 c2 c3 : ℕ)
+    module _ (good : first_over iids sids (placed number order iids sids) ≡ None) (c0 c1 c2 c3 : ℕ)
         (q : Four (in_group (iids - 4 * b) (λ j. number (start + j * stride))) c0 c1 c2 c3) where
       abbrev code : ℕ → Option ℕ
-      code a = some (placed number order iids sids a m)
+      code a = Some (placed number order iids sids a m)
 
       same : (k : ℕ) → k < 4 → k < iids - 4 * b → number (start + k * stride) ≡ or_four (code (4 * b + k))
       unfolding or_four placed
@@ -100,18 +86,8 @@ module _ (number : ℕ → ℕ) (order : Bool) (iids sids : ℕ) where
       matrix_byte v e = group_byte_law iids code b (λ j. number (start + j * stride)) same c0 c1 c2 c3 q v e matrix_codes
 
 -- ---- the numbers of a matrix are those of its codes
-pub float_same :
-    (flag : Bool) (missing : Float) (order : Bool) (iids sids : ℕ) (val : List Float) (a m : ℕ) → a < iids → m < sids
-    → placed (by_tests float flag missing val) order iids sids a m ≡ or_four (value_code float flag missing order iids sids val a m)
+pub placed_same :
+    {V : Type 0} (w : Width V) (flag : Bool) (missing : V) (order : Bool) (iids sids : ℕ) (val : List V) (a m : ℕ) → a < iids → m < sids
+    → placed (by_tests w flag missing val) order iids sids a m ≡ or_four (value_code w flag missing order iids sids val a m)
 unfolding placed value_code
-float_same flag missing order iids sids val a m ha hm = refl
-
-pub byte_same :
-    (flag : Bool) (missing : ℤ) (table : List ℕ) (order : Bool) (iids sids : ℕ) (val : List ℤ) → CodesOfBytes flag missing table → iids * sids ≡ length val
-    → ((k : ℕ) → k < length val → mag (get_or val k (pos 0)) < 128) → (a m : ℕ) → a < iids → m < sids
-    → placed (by_table table val) order iids sids a m ≡ or_four (value_code i8 flag missing order iids sids val a m)
-unfolding placed value_code
-byte_same flag missing table order iids sids val t e f a m ha hm =
-    let p : matrix_place order iids sids a m < iids * sids = place_below iids sids a m ha hm order in
-    let q : matrix_place order iids sids a m < length val = omega arith in
-    by_table_law flag missing table val (matrix_place order iids sids a m) t q (f (matrix_place order iids sids a m) q)
+placed_same w flag missing order iids sids val a m ha hm = refl

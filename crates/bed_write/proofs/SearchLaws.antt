@@ -1,11 +1,12 @@
 -- Laws of the search for the first bad value.
 use mathlib.Core.Path.{◌≡◌, refl, sym, subst, ◌∙◌}
-use mathlib.Core.Bool.{Bool}
+use mathlib.Core.Bool.{Bool, true, false, ◌||◌}
 use mathlib.Core.List.{List}
-use mathlib.Core.Option.{Option, some, none}
-use Prim.Native.Nat.{ℕ, ◌+◌, ◌*◌, ◌<◌, ◌≤◌, ◌/◌}
+use Rattle.std.specs.Prelude.{Option, Some, None}
+use Prim.Native.Nat.{ℕ, ◌+◌, ◌*◌, ◌<◌, ◌≤◌}
 use native.Mathlib.Nat.{le_refl}
 use native.Mathlib.Omega.{arith}
+use borrow.Author.Count.{below_more}
 use borrow.Author.Tests.{lt-ltb, le-ltb}
 use lib.ListN.{length}
 use Rattle.codes.specs.Value.{Width}
@@ -20,11 +21,11 @@ use Rattle.bed_write.proofs.FirstLaws.{first_none, first_some, first_all, first_
 use Rattle.bed_write.proofs.BedLaws.{bed_ext}
 
 -- ---- the first marker, and in it the first animal
-pub over_none : {A : Type 0} (n : ℕ) (x : A) → n < 4 → if_over n x ≡ none
+pub over_none : {A : Type 0} (n : ℕ) (x : A) → n < 4 → if_over n x ≡ None
 unfolding if_over
 over_none n x h = simp (lt-ltb n 4 h)
 
-pub over_some : {A : Type 0} (n : ℕ) (x : A) → 3 < n → if_over n x ≡ some x
+pub over_some : {A : Type 0} (n : ℕ) (x : A) → 3 < n → if_over n x ≡ Some x
 unfolding if_over
 over_some n x h = simp (le-ltb n 4 (omega arith))
 
@@ -37,16 +38,16 @@ module _ (iids sids : ℕ) (number : ℕ → ℕ → ℕ) where
   abbrev pub GoodMarker : ℕ → Type 0
   GoodMarker m = (a : ℕ) → a < iids → number a m < 4
 
-  marker_none : (m : ℕ) → GoodMarker m → first_of iids (λ a. if_over (number a m) (call a m)) ≡ none
+  marker_none : (m : ℕ) → GoodMarker m → first_of iids (λ a. if_over (number a m) (call a m)) ≡ None
   marker_none m g = first_none iids (λ a. if_over (number a m) (call a m)) (λ a h. over_none (number a m) (call a m) (g a h))
 
-  pub found_none : (marker : ℕ) → sids ≤ marker → ((m : ℕ) → m < marker → GoodMarker m) → none ≡ first_over iids sids number
+  pub found_none : (marker : ℕ) → sids ≤ marker → ((m : ℕ) → m < marker → GoodMarker m) → None ≡ first_over iids sids number
   unfolding first_over
   found_none marker h g = sym (first_none sids (λ m. first_of iids (λ a. if_over (number a m) (call a m))) (λ m l. marker_none m (g m (omega arith))))
 
   pub found_at :
       (marker animal : ℕ) → marker < sids → animal < iids → ((m : ℕ) → m < marker → GoodMarker m) → ((a : ℕ) → a < animal → number a marker < 4)
-      → 3 < number animal marker → some (call animal marker) ≡ first_over iids sids number
+      → 3 < number animal marker → Some (call animal marker) ≡ first_over iids sids number
   unfolding first_over
   found_at marker animal hm ha before here b =
       sym (first_some sids (λ m. first_of iids (λ a. if_over (number a m) (call a m))) marker (call animal marker) hm (λ m l. marker_none m (before m l))
@@ -54,17 +55,17 @@ module _ (iids sids : ℕ) (number : ℕ → ℕ → ℕ) where
       (over_some (number animal marker) (call animal marker) b)))
 
   -- where nothing was found, every number is a code
-  pub none_over : first_over iids sids number ≡ none → (a m : ℕ) → a < iids → m < sids → number a m < 4
+  pub none_over : first_over iids sids number ≡ None → (a m : ℕ) → a < iids → m < sids → number a m < 4
   unfolding first_over if_over
   none_over e a m ha hm =
       not_over (number a m) (call a m)
       (first_all iids (λ a. if_over (number a m) (call a m)) (first_all sids (λ m. first_of iids (λ a. if_over (number a m) (call a m))) e m hm) a ha)
     where
-      not_over : (n : ℕ) (x : ℕ × ℕ) → if_over n x ≡ none → n < 4
-      not_over n x e = by_lt n 4 (λ h. h) (λ h. absurd (let q : ◌≡◌ {A = Option (ℕ × ℕ)} (some x) none = sym (over_some n x (omega arith)) ∙ e in let z : ◌≡◌ {A = ℕ} 0 1 = cc in omega arith))
+      not_over : (n : ℕ) (x : ℕ × ℕ) → if_over n x ≡ None → n < 4
+      not_over n x e = by_lt n 4 (λ h. h) (λ h. absurd (let q : ◌≡◌ {A = Option (ℕ × ℕ)} (Some x) None = sym (over_some n x (omega arith)) ∙ e in let z : ◌≡◌ {A = ℕ} 0 1 = cc in omega arith))
 
   -- numbers of codes: what is found is the first bad call
-  module _ (code : ℕ → ℕ → Option ℕ) (coded : (a m c : ℕ) → code a m ≡ some c → c < 4) (same : (a m : ℕ) → a < iids → m < sids → number a m ≡ or_four (code a m)) where
+  module _ (code : ℕ → ℕ → Option ℕ) (coded : (a m c : ℕ) → code a m ≡ Some c → c < 4) (same : (a m : ℕ) → a < iids → m < sids → number a m ≡ or_four (code a m)) where
     pub over_bad : first_over iids sids number ≡ first_bad_call iids sids code
     unfolding first_over first_bad_call
     over_bad = first_ext sids _ _ (λ m hm. first_ext iids _ _ (λ a ha. one a m ha hm))
@@ -76,8 +77,8 @@ module _ (iids sids : ℕ) (number : ℕ → ℕ → ℕ) where
             (λ h. over_some (number a m) (call a m) (omega arith) ∙ sym (bad_some (code a m) (call a m) (coded a m) (subst (λ (x : ℕ). 3 < x) (same a m ha hm) (omega arith))))
 
     -- where no call is bad
-    module _ (e : none ≡ first_bad_call iids sids code) where
-      pub none_called : first_over iids sids number ≡ none
+    module _ (e : None ≡ first_bad_call iids sids code) where
+      pub none_called : first_over iids sids number ≡ None
       none_called = over_bad ∙ sym e
 
       pub same_file : bed_file iids sids number ≡ bed_file iids sids (λ a m. or_zero (code a m))
@@ -86,36 +87,33 @@ module _ (iids sids : ℕ) (number : ℕ → ℕ → ℕ) where
           (λ a m ha hm. let s = same a m ha hm in s ∙ zero_four (code a m) (subst (λ (x : ℕ). x < 4) s (none_over none_called a m ha hm)))
 
 -- ---- the search, by the codes of the calls
-module _ (iids sids : ℕ) (code : ℕ → ℕ → Option ℕ) (coded : (a m c : ℕ) → code a m ≡ some c → c < 4) where
+module _ (iids sids : ℕ) (code : ℕ → ℕ → Option ℕ) (coded : (a m c : ℕ) → code a m ≡ Some c → c < 4) where
   abbrev pub GoodCodes : ℕ → Type 0
   GoodCodes m = GoodMarker iids sids (λ a m. or_four (code a m)) m
 
   found : first_over iids sids (λ a m. or_four (code a m)) ≡ first_bad_call iids sids code
   found = over_bad iids sids (λ a m. or_four (code a m)) code coded (λ a m ha hm. refl)
 
-  pub called_none : (marker : ℕ) → sids ≤ marker → ((m : ℕ) → m < marker → GoodCodes m) → none ≡ first_bad_call iids sids code
+  pub called_none : (marker : ℕ) → sids ≤ marker → ((m : ℕ) → m < marker → GoodCodes m) → None ≡ first_bad_call iids sids code
   called_none marker h g = found_none iids sids (λ a m. or_four (code a m)) marker h g ∙ found
 
   pub called_at :
       (marker animal : ℕ) → marker < sids → animal < iids → ((m : ℕ) → m < marker → GoodCodes m) → ((a : ℕ) → a < animal → or_four (code a marker) < 4)
-      → 3 < or_four (code animal marker) → some (call animal marker) ≡ first_bad_call iids sids code
+      → 3 < or_four (code animal marker) → Some (call animal marker) ≡ first_bad_call iids sids code
   called_at marker animal hm ha before here b = found_at iids sids (λ a m. or_four (code a m)) marker animal hm ha before here b ∙ found
 
--- ---- a scan of all values that keeps the worst
-pub grow :
-    (Q : ℕ → ℕ → Type 0) → ((k x y : ℕ) → x ≤ y → Q k x → Q k y) → (i x y : ℕ) → x ≤ y → ((k : ℕ) → k < i → Q k x) → Q i y → (k : ℕ) → k < i + 1 → Q k y
-grow Q mono i x y h before here k l =
-    by_lt k i (λ b. mono k x y h (before k b)) (λ b. let e : i ≡ k = omega arith in subst (λ (j : ℕ). Q j y) e here)
-
--- nothing counted so far and nothing here: a number of 4 or more would be counted
-pub none_counted : (number : ℕ → ℕ) (i bad n : ℕ) → (bad ≡ 0 → (k : ℕ) → k < i → number k < 4) → n ≡ number i → bad + n / 4 ≡ 0 → (k : ℕ) → k < i + 1 → number k < 4
-none_counted number i bad n before e z k l =
-    by_lt k i (λ b. before (omega arith) k b) (λ b. let q : i ≡ k = omega arith in subst (λ (j : ℕ). number j < 4) q (let h : n < 4 = omega arith in omega arith))
+-- ---- a look at all values
+-- none was bad so far, and this one is not
+pub none_so_far :
+    (number : ℕ → ℕ) (i : ℕ) (bad here : Bool) → (bad ≡ false → (k : ℕ) → k < i → number k < 4) → (here ≡ false → number i < 4)
+    → (bad || here) ≡ false → (k : ℕ) → k < i + 1 → number k < 4
+none_so_far number i true here before h e = absurd (let q : ◌≡◌ {A = ℕ} 0 1 = cc in omega arith)
+none_so_far number i false here before h e = below_more _ _ (before refl) (h e)
 
 -- no value at any place is bad
 pub all_good :
-    (w : Width) (flag : Bool) (missing : w.Value) (order : Bool) (iids sids : ℕ) (val : List w.Value) → iids * sids ≡ length val
-    → ((k : ℕ) → k < length val → or_four (place_code w flag missing val k) < 4) → none ≡ first_bad_call iids sids (value_code w flag missing order iids sids val)
+    {V : Type 0} (w : Width V) (flag : Bool) (missing : V) (order : Bool) (iids sids : ℕ) (val : List V) → iids * sids ≡ length val
+    → ((k : ℕ) → k < length val → or_four (place_code w flag missing val k) < 4) → None ≡ first_bad_call iids sids (value_code w flag missing order iids sids val)
 unfolding value_code
 all_good w flag missing order iids sids val e g =
     called_none iids sids (value_code w flag missing order iids sids val) (λ a m c. place_coded w flag missing val (matrix_place order iids sids a m) c) sids (le_refl sids)

@@ -2,7 +2,7 @@
 use mathlib.Core.Path.{◌≡◌, refl, ap, subst, ◌∙◌}
 use mathlib.Core.Bool.{Bool, true, false}
 use mathlib.Core.List.{List}
-use mathlib.Core.Option.{Option, some, none}
+use Rattle.std.specs.Prelude.{Option, Some, None}
 use Prim.Native.Nat.{ℕ, zero, suc, ◌<◌}
 use native.Mathlib.Omega.{arith}
 use lib.IntN.{ℤ}
@@ -16,56 +16,56 @@ use Rattle.bed_write.specs.First.{IsFoundFirst, HasCode, IsFirstBad, IsFirstBadC
 use Rattle.bed_write.specs.Writing.{value_code, first_bad_call}
 use Rattle.bed_write.proofs.FirstLaws.{first_none, first_some, first_all, first_ext}
 
-least : {A : Type 0} (n : ℕ) (found : ℕ → Option A) (x : A) → first_of n found ≡ some x → IsFoundFirst A n found x
+least : {A : Type 0} (n : ℕ) (found : ℕ → Option A) (x : A) → first_of n found ≡ Some x → IsFoundFirst A n found x
 unfolding first_of
 least zero found x e = absurd (let q : ◌≡◌ {A = ℕ} 0 1 = cc in omega arith)
 least {A} (suc n) found x e = go (found 0) refl e (least n (λ k. found (suc k)) x)
   where
-    go : (o : Option A) → found 0 ≡ o → or_else o (first_of n (λ k. found (suc k))) ≡ some x
-        → (first_of n (λ k. found (suc k)) ≡ some x → IsFoundFirst A n (λ k. found (suc k)) x) → IsFoundFirst A (suc n) found x
-    go (some y) a e later = record { place = 0; inside = omega arith; found_there = a ∙ e; none_lower = λ j h. absurd (omega arith) }
-    go none a e later =
+    go : (o : Option A) → found 0 ≡ o → or_else o (first_of n (λ k. found (suc k))) ≡ Some x
+        → (first_of n (λ k. found (suc k)) ≡ Some x → IsFoundFirst A n (λ k. found (suc k)) x) → IsFoundFirst A (suc n) found x
+    go (Some y) a e later = record { place = 0; inside = omega arith; found_there = a ∙ e; none_lower = λ j h. absurd (omega arith) }
+    go None a e later =
         let l = later e in
         let h = l.inside in
         record { place = suc l.place; inside = omega arith; found_there = l.found_there; none_lower = lower l }
       where
-        lower : (l : IsFoundFirst A n (λ k. found (suc k)) x) (j : ℕ) → j < suc l.place → found j ≡ none
+        lower : (l : IsFoundFirst A n (λ k. found (suc k)) x) (j : ℕ) → j < suc l.place → found j ≡ None
         lower l zero h = a
         lower l (suc j) h = l.none_lower j (omega arith)
 
 -- what is found first is what is found at the least place at which something is found
 pub first_is_least : {A : Type 0} (n : ℕ) (found : ℕ → Option A) (x : A)
-    → (first_of n found ≡ some x → IsFoundFirst A n found x) × (IsFoundFirst A n found x → first_of n found ≡ some x)
+    → (first_of n found ≡ Some x → IsFoundFirst A n found x) × (IsFoundFirst A n found x → first_of n found ≡ Some x)
 first_is_least n found x = (least n found x, λ l. first_some n found l.place x l.inside l.none_lower l.found_there)
 
 -- and nothing is found first exactly if nothing is found at any place
 pub first_is_none : {A : Type 0} (n : ℕ) (found : ℕ → Option A)
-    → (first_of n found ≡ none → (k : ℕ) → k < n → found k ≡ none) × (((k : ℕ) → k < n → found k ≡ none) → first_of n found ≡ none)
+    → (first_of n found ≡ None → (k : ℕ) → k < n → found k ≡ None) × (((k : ℕ) → k < n → found k ≡ None) → first_of n found ≡ None)
 first_is_none n found = (first_all n found, first_none n found)
 
 -- ---- 7: the first bad value
 -- a value has a code or is bad
-good_none : {A : Type 0} (o : Option ℕ) (x : A) → HasCode o → if_bad o x ≡ none
+good_none : {A : Type 0} (o : Option ℕ) (x : A) → HasCode o → if_bad o x ≡ None
 unfolding if_bad
 good_none o x (c, e) = ap (λ (p : Option ℕ). if_bad p x) e
 
-none_good : {A : Type 0} (o : Option ℕ) (x : A) → if_bad o x ≡ none → HasCode o
+none_good : {A : Type 0} (o : Option ℕ) (x : A) → if_bad o x ≡ None → HasCode o
 unfolding if_bad
-none_good (some c) x e = (c, refl)
-none_good none x e = absurd (let q : ◌≡◌ {A = ℕ} 0 1 = cc in omega arith)
+none_good (Some c) x e = (c, refl)
+none_good None x e = absurd (let q : ◌≡◌ {A = ℕ} 0 1 = cc in omega arith)
 
-bad_some : {A : Type 0} (o : Option ℕ) (x : A) → o ≡ none → if_bad o x ≡ some x
+bad_some : {A : Type 0} (o : Option ℕ) (x : A) → o ≡ None → if_bad o x ≡ Some x
 unfolding if_bad
 bad_some o x e = ap (λ (p : Option ℕ). if_bad p x) e
 
-some_bad : {A : Type 0} (o : Option ℕ) (x y : A) → if_bad o x ≡ some y → (o ≡ none) × (x ≡ y)
+some_bad : {A : Type 0} (o : Option ℕ) (x y : A) → if_bad o x ≡ Some y → (o ≡ None) × (x ≡ y)
 unfolding if_bad
-some_bad (some c) x y e = absurd (let q : ◌≡◌ {A = ℕ} 0 1 = cc in omega arith)
-some_bad none x y e = (refl, cc)
+some_bad (Some c) x y e = absurd (let q : ◌≡◌ {A = ℕ} 0 1 = cc in omega arith)
+some_bad None x y e = (refl, cc)
 
 -- "carries the first one's animal"
 pub first_bad_animal_law : (n : ℕ) (code : ℕ → Option ℕ) (a : ℕ)
-    → (first_bad_animal n code ≡ some a → IsFirstBad n code a) × (IsFirstBad n code a → first_bad_animal n code ≡ some a)
+    → (first_bad_animal n code ≡ Some a → IsFirstBad n code a) × (IsFirstBad n code a → first_bad_animal n code ≡ Some a)
 unfolding first_bad_animal
 first_bad_animal_law n code a = (
   λ e. let l = least n (λ a. if_bad (code a) a) a e in
@@ -79,7 +79,7 @@ module _ (iids sids : ℕ) (code : ℕ → ℕ → Option ℕ) where
   at : ℕ → ℕ → Option (ℕ × ℕ)
   at m a = if_bad (code a m) (a, m)
 
-  pub first_bad_call_law : (a m : ℕ) → (first_bad_call iids sids code ≡ some (a, m) → IsFirstBadCall iids sids code a m) × (IsFirstBadCall iids sids code a m → first_bad_call iids sids code ≡ some (a, m))
+  pub first_bad_call_law : (a m : ℕ) → (first_bad_call iids sids code ≡ Some (a, m) → IsFirstBadCall iids sids code a m) × (IsFirstBadCall iids sids code a m → first_bad_call iids sids code ≡ Some (a, m))
   unfolding first_bad_call at
   first_bad_call_law a m = (
     λ e. let k = least sids (λ m. first_of iids (at m)) (a, m) e in
@@ -115,10 +115,10 @@ only_animal (suc n) o x = go (o 0) (only_animal n (λ k. o (suc k)) (λ k. x (su
     go : (p : Option ℕ)
         → animal_of (first_of n (λ k. if_bad (o (suc k)) (x (suc k), 0))) ≡ first_of n (λ k. if_bad (o (suc k)) (x (suc k)))
         → animal_of (or_else (if_bad p (x 0, 0)) (first_of n (λ k. if_bad (o (suc k)) (x (suc k), 0)))) ≡ or_else (if_bad p (x 0)) (first_of n (λ k. if_bad (o (suc k)) (x (suc k))))
-    go (some c) later = later
-    go none later = refl
+    go (Some c) later = later
+    go None later = refl
 
-pub one_marker_first_bad : (w : Width) (flag : Bool) (missing : w.Value) (order : Bool) (n : ℕ) (val : List w.Value)
+pub one_marker_first_bad : {V : Type 0} (w : Width V) (flag : Bool) (missing : V) (order : Bool) (n : ℕ) (val : List V)
     → animal_of (first_bad_call n 1 (value_code w flag missing order n 1 val)) ≡ first_bad_animal n (place_code w flag missing val)
 unfolding first_bad_call first_bad_animal first_of or_else value_code
 one_marker_first_bad w flag missing order n val =
@@ -126,6 +126,11 @@ one_marker_first_bad w flag missing order n val =
     ∙ only_animal n (λ a. place_code w flag missing val (matrix_place order n 1 a 0)) (λ a. a)
     ∙ first_ext n _ _ (λ a h. ap (λ (k : ℕ). if_bad (place_code w flag missing val k) a) (at_one order n a))
   where
-    last : (o : Option (ℕ × ℕ)) → or_else o none ≡ o
-    last (some x) = refl
-    last none = refl
+    last : (o : Option (ℕ × ℕ)) → or_else o None ≡ o
+    last (Some x) = refl
+    last None = refl
+
+pub one_marker_found :
+    {V : Type 0} (w : Width V) (flag : Bool) (missing : V) (order : Bool) (n : ℕ) (val : List V) (found : Option (ℕ × ℕ))
+    → found ≡ first_bad_call n 1 (value_code w flag missing order n 1 val) → animal_of found ≡ first_bad_animal n (place_code w flag missing val)
+one_marker_found w flag missing order n val found e = ap animal_of e ∙ one_marker_first_bad w flag missing order n val

@@ -1,8 +1,8 @@
 -- Laws of the whole-file writer: its checks, and what it answers and leaves by what was found.
-use mathlib.Core.Path.{◌≡◌, sym, ap, ◌∙◌}
+use mathlib.Core.Path.{◌≡◌, refl, sym, ap, ◌∙◌}
 use mathlib.Core.Bool.{Bool, true, false}
 use mathlib.Core.List.{List, [], ◌∷◌}
-use mathlib.Core.Option.{Option, some, none}
+use Rattle.std.specs.Prelude.{Option, Some, None, Result, Ok, Err, IsErrAnd}
 use Prim.Native.Nat.{ℕ, ◌+◌, ◌-◌, ◌*◌, ◌^◌, ◌<◌, ◌≤◌}
 use native.Mathlib.Omega.{arith}
 use borrow.Author.Tests.{eqb-true, leb-true, eq-eqb, ne_eqb}
@@ -17,6 +17,9 @@ use Rattle.answer.proofs.AnswerLaws.{Stage, lets, refuses, check_stage, then_sta
 use Rattle.blocks.proofs.Widths.{Sized, width_given, size_stage}
 use Rattle.bed_write.specs.Packing.{or_zero}
 use Rattle.bed_write.specs.Writing.{value_code, first_bad_call, check_call, check_buffers, write_answer, bed_file, write_buffer}
+use Rattle.bed_write.specs.declared.write.WriteError.{WriteError}
+use Rattle.bed_write.specs.declared.write.WriteError.TheVariants as writes
+use Rattle.bed_write.specs.Says.{write_refusal, write_says}
 use Rattle.bed_write.proofs.FirstLaws.{place_coded}
 use Rattle.bed_write.proofs.SearchLaws.{call}
 
@@ -71,7 +74,7 @@ module _ (iids sids : ℕ) (code : ℕ → ℕ → Option ℕ) (val_length : ℕ
   heard_later = heard (buffers_stage iids sids val_length (length old)) [] (sym (ap is_done d))
 
   pub write_bad :
-      (a m : ℕ) → some (call a m) ≡ first_bad_call iids sids code
+      (a m : ℕ) → Some (call a m) ≡ first_bad_call iids sids code
       → (refused 7 (pos a ∷ pos m ∷ []) ≡ write_answer iids sids code val_length (length old)) × (old ≡ write_buffer iids sids code val_length old)
   unfolding write_answer write_buffer check_call
   write_bad a m e =
@@ -80,7 +83,7 @@ module _ (iids sids : ℕ) (code : ℕ → ℕ → Option ℕ) (val_length : ℕ
       (sym q, sym (old_if_not _ _ old (ap is_done q)))
 
   pub write_done :
-      none ≡ first_bad_call iids sids code → (out : List ℕ) → out ≡ bed_file iids sids (λ a m. or_zero (code a m))
+      None ≡ first_bad_call iids sids code → (out : List ℕ) → out ≡ bed_file iids sids (λ a m. or_zero (code a m))
       → (done [] ≡ write_answer iids sids code val_length (length old)) × (out ≡ write_buffer iids sids code val_length old)
   unfolding write_answer write_buffer check_call
   write_done e out o =
@@ -102,8 +105,8 @@ write_refused iids sids code val_length old a e n =
 
 -- ---- the code of a value of a matrix is a code
 pub value_coded :
-    (w : Width) (flag : Bool) (missing : w.Value) (order : Bool) (iids sids : ℕ) (val : List w.Value) (a m c : ℕ)
-    → value_code w flag missing order iids sids val a m ≡ some c → c < 4
+    {V : Type 0} (w : Width V) (flag : Bool) (missing : V) (order : Bool) (iids sids : ℕ) (val : List V) (a m c : ℕ)
+    → value_code w flag missing order iids sids val a m ≡ Some c → c < 4
 unfolding value_code
 value_coded w flag missing order iids sids val a m c e = place_coded w flag missing val (matrix_place order iids sids a m) c e
 
@@ -128,3 +131,21 @@ passed iids sids val_length out_length a e t =
     let d3 = check_done (eqb (iids * sids) val_length) 15 _ d2.1 in
     let d4 = check_done (eqb out_length (file_length iids sids)) 16 _ d3.1 in
     record { is_done_law = e ∙ h; pass = sym h; product = eqb-true (iids * sids) val_length d3.0; out_long = eqb-true out_length (file_length iids sids) d4.0; iids_fit = d0.0; sids_fit = d1.0; file_fits = leb-true (file_length iids sids) (2 ^ 64 - 1) d2.0 }
+
+-- ---- refusals as the code gives them
+-- of counts, by `?`
+pub size_told : (r : Result Unit WriteError) (n : ℕ) → IsErrAnd r (λ error. write_refusal error ≡ refused n []) → write_says r ≡ refused n []
+size_told (Ok _) n h = absurd h
+size_told (Err error) n h = h
+
+-- a refusal that is handed on
+pub error_kept : (r : Result Unit WriteError) (e : WriteError) → IsErrAnd r (λ error. error ≡ e) → write_says r ≡ write_refusal e
+error_kept (Ok _) e h = absurd h
+error_kept (Err error) e h = ap write_refusal h
+
+pub not_done : (e : WriteError) → is_done (write_refusal e) ≡ false
+not_done writes.CountTooLarge = refl
+not_done writes.IndexesTooBigForFiles = refl
+not_done writes.IndexMismatch = refl
+not_done writes.EncodingLength = refl
+not_done (writes.BadValue animal marker) = refl

@@ -1,6 +1,6 @@
 -- What only private functions speak in.
 use Rattle.std.specs.Prelude.{◌≡◌, Bool, cond, List, ℕ, ◌+◌, ◌*◌, ◌<◌, ltb, ℤ, pos, negsuc, get_or}
-use Rattle.std.proofs.Math.Option.{Option, some, none}
+use Rattle.std.specs.Prelude.{Option, Some, None}
 use Rattle.std.specs.Int.Signed.{mag}
 use Rattle.codes.specs.Code.{packed_byte}
 use Rattle.answer.specs.Lists.{tabulate}
@@ -9,8 +9,8 @@ use Rattle.codes.specs.Value.{Width, i8, code_of}
 use Rattle.bed_write.specs.Packing.{place_code, first_of}
 use Rattle.bed_write.specs.Writing.{value_code, first_bad_call}
 use Rattle.bed_write.specs.Groups.{or_four, in_group, Four}
-use Rattle.bed_write.specs.declared.search.BadCall.{BadCall}
-use Rattle.bed_write.specs.declared.search.BadCall.TheVariants as bads
+use Rattle.entries.specs.declared.IidIndex.{IidIndex}
+use Rattle.entries.specs.declared.SidIndex.{SidIndex}
 
 -- the place of an i8 in a table of 256
 unfoldable pub byte_index : ℤ → ℕ
@@ -21,20 +21,16 @@ byte_index (negsuc k) = 128 + k
 pub record CodesOfBytes (flag : Bool) (missing : ℤ) (table : List ℕ) : Type 0 where
   pub code_of_law : (v : ℤ) → mag v < 128 → get_or table (byte_index v) 0 ≡ or_four (code_of i8 flag missing v)
 
--- the number of the value at a place of a list, by a table
-unfoldable pub by_table : List ℕ → List ℤ → ℕ → ℕ
-by_table table vals k = get_or table (byte_index (get_or vals k (pos 0))) 0
-
 -- a number that is no code, and this is found
 unfoldable pub if_over : {A : Type 0} → ℕ → A → Option A
-if_over number place = cond (ltb number 4) none (some place)
+if_over number place = cond (ltb number 4) None (Some place)
 
 -- the first marker, and in it the first animal, whose number is no code
 unfoldable pub first_over : ℕ → ℕ → (ℕ → ℕ → ℕ) → Option (ℕ × ℕ)
 first_over iids sids number = first_of sids (λ m. first_of iids (λ a. if_over (number a m) (a, m)))
 
 -- the number of the value at a place of a list, by tests
-abbrev pub by_tests : (w : Width) → Bool → w.Value → List w.Value → ℕ → ℕ
+abbrev pub by_tests : {V : Type 0} (w : Width V) → Bool → V → List V → ℕ → ℕ
 by_tests w flag missing vals k = or_four (place_code w flag missing vals k)
 
 -- the number of animal a at marker m of a matrix, by that of each place
@@ -46,40 +42,33 @@ placed number order iids sids a m = number (matrix_place order iids sids a m)
 abbrev pub strided : (ℕ → ℕ) → ℕ → ℕ → ℕ → ℕ
 strided number start stride k = number (start + k * stride)
 
--- place k, if it is there, is inside a list of that length; each of the four is
-abbrev pub PlaceInside : ℕ → ℕ → ℕ → ℕ → ℕ → Type 0
-PlaceInside len start stride left k = k < left → start + k * stride < len
-
+-- each of the four places that is there is inside a list of that length
 abbrev pub FourInside : ℕ → ℕ → ℕ → ℕ → Type 0
 FourInside len start stride left = (k : ℕ) → k < left → k < 4 → start + k * stride < len
 
--- the code of a value, of the value at place k, and of those at four places, if none of them is bad; `missing` is any
-abbrev pub GoodCode : (w : Width) → Bool → w.Value → ℕ → Type 0
-GoodCode w flag v r = (missing : w.Value) → or_four (code_of w flag missing v) < 4 → r ≡ or_four (code_of w flag missing v)
+-- the code of the value at place k, and those at four places, if none of them is bad
+abbrev pub GoodPlace : {V : Type 0} (w : Width V) → Bool → V → List V → ℕ → ℕ → ℕ → ℕ → ℕ → Type 0
+GoodPlace w flag missing val start stride left k r =
+    (k < left → strided (by_tests w flag missing val) start stride k < 4) → r ≡ in_group left (strided (by_tests w flag missing val) start stride) k
 
-abbrev pub GoodPlace : (w : Width) → Bool → List w.Value → ℕ → ℕ → ℕ → ℕ → ℕ → Type 0
-GoodPlace w flag val start stride left k r =
-    (missing : w.Value) → (k < left → strided (by_tests w flag missing val) start stride k < 4)
-    → r ≡ in_group left (strided (by_tests w flag missing val) start stride) k
-
-abbrev pub GoodFour : (w : Width) → Bool → List w.Value → ℕ → ℕ → ℕ → ℕ → ℕ → ℕ → ℕ → Type 0
-GoodFour w flag val start stride left c0 c1 c2 c3 =
-    (missing : w.Value) → ((k : ℕ) → k < left → k < 4 → strided (by_tests w flag missing val) start stride k < 4)
+abbrev pub GoodFour : {V : Type 0} (w : Width V) → Bool → V → List V → ℕ → ℕ → ℕ → ℕ → ℕ → ℕ → ℕ → Type 0
+GoodFour w flag missing val start stride left c0 c1 c2 c3 =
+    ((k : ℕ) → k < left → k < 4 → strided (by_tests w flag missing val) start stride k < 4)
     → Four (in_group left (strided (by_tests w flag missing val) start stride)) c0 c1 c2 c3
 
 -- ---- a matrix, by the number of the value at each place
 -- the animal and the marker that were found, if any
-abbrev pub bad_says : BadCall → Option (ℕ × ℕ)
-bad_says (bads.At animal marker) = some (animal.0, marker.0)
-bad_says bads.Nothing = none
+abbrev pub bad_says : Option (IidIndex × SidIndex) → Option (ℕ × ℕ)
+bad_says (Some (animal, marker)) = Some (animal.0, marker.0)
+bad_says None = None
 
 -- the first bad call of a matrix of values
-abbrev pub Finds : (w : Width) → Bool → w.Value → Bool → ℕ → ℕ → List w.Value → Option (ℕ × ℕ) → Type 0
+abbrev pub Finds : {V : Type 0} (w : Width V) → Bool → V → Bool → ℕ → ℕ → List V → Option (ℕ × ℕ) → Type 0
 Finds w flag missing order iids sids val found = found ≡ first_bad_call iids sids (value_code w flag missing order iids sids val)
 
 -- there is a value for each call, and none is bad
 abbrev pub GoodMatrix : (ℕ → ℕ) → Bool → ℕ → ℕ → ℕ → Type 0
-GoodMatrix number order iids sids len = (iids * sids ≡ len) × (first_over iids sids (placed number order iids sids) ≡ none)
+GoodMatrix number order iids sids len = (iids * sids ≡ len) × (first_over iids sids (placed number order iids sids) ≡ None)
 
 -- byte b of the packed block of marker m
 abbrev pub block_byte : (ℕ → ℕ) → Bool → ℕ → ℕ → ℕ → ℕ → ℕ

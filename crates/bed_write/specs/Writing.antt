@@ -1,6 +1,6 @@
 -- Writing a whole file.
 use Rattle.std.specs.Prelude.{◌≡◌, Bool, List, [], ◌∷◌, ◌++◌, ℕ, zero, suc, ◌*◌, eqb, pos, length}
-use Rattle.std.proofs.Math.Option.{Option, some, none}
+use Rattle.std.specs.Prelude.{Option, Some, None}
 use Rattle.answer.specs.Answer.{Answer, done, refused, check, check_count, if_done}
 use Rattle.blocks.specs.Block.{file_length, check_size}
 use Rattle.codes.specs.Code.{packed}
@@ -10,7 +10,7 @@ use Rattle.codes.specs.Value.{Width}
 use Rattle.bed_write.specs.Packing.{place_code, or_zero, first_of, if_bad}
 
 -- the code of the value of animal a at marker m of a matrix, in animal order (true) or marker order (false)
-unfoldable pub value_code : (w : Width) → Bool → w.Value → Bool → ℕ → ℕ → List w.Value → ℕ → ℕ → Option ℕ
+unfoldable pub value_code : {V : Type 0} (w : Width V) → Bool → V → Bool → ℕ → ℕ → List V → ℕ → ℕ → Option ℕ
 unfolding place_code
 value_code w flag missing animal_order iids sids val a m = place_code w flag missing val (matrix_place animal_order iids sids a m)
 
@@ -20,8 +20,8 @@ first_bad_call iids sids code = first_of sids (λ m. first_of iids (λ a. if_bad
 
 -- 7: "carries the first one's animal, in the whole-file writer its marker too"
 unfoldable pub check_call : Option (ℕ × ℕ) → Answer → Answer
-check_call none later = later
-check_call (some (animal, marker)) later = refused 7 (pos animal ∷ pos marker ∷ [])
+check_call None later = later
+check_call (Some (animal, marker)) later = refused 7 (pos animal ∷ pos marker ∷ [])
 
 -- "18, 4, 15, 16", of counts and of how long the buffers are. 15: "value buffer is not the product of .. the two counts";
 -- 16: "packed buffer has the wrong length"
@@ -55,7 +55,7 @@ write_buffer iids sids code val_length old =
     if_done (write_answer iids sids code val_length (length old)) (bed_file iids sids (λ a m. or_zero (code a m))) old
 
 -- the whole-file writer of a matrix of values: what it answers, and the later packed buffer
-abbrev pub Writes : (w : Width) → Bool → w.Value → Bool → ℕ → ℕ → List w.Value → Answer → List ℕ → List ℕ → Type 0
+abbrev pub Writes : {V : Type 0} (w : Width V) → Bool → V → Bool → ℕ → ℕ → List V → Answer → List ℕ → List ℕ → Type 0
 Writes w flag missing animal_order iids sids val said old new =
     (said ≡ write_answer iids sids (value_code w flag missing animal_order iids sids val) (length val) (length old))
     × (new ≡ write_buffer iids sids (value_code w flag missing animal_order iids sids val) (length val) old)

@@ -1,18 +1,23 @@
 // Writing a whole file.
-ghost use Rattle.std.specs.Prelude.{◌≡◌, [], ◌<◌, ◌≤◌};
-ghost use Rattle.answer.specs.Answer.{done, is_done};
-ghost use Rattle.bed_write.specs.Writing.{check_buffers};
-ghost use Rattle.bed_write.specs.Says.{write_says};
+ghost use Rattle.std.specs.Prelude.{◌≡◌, [], ◌*◌, ◌<◌, ◌≤◌, cond, length};
+ghost use Rattle.answer.specs.Answer.{done, refused};
+ghost use Rattle.blocks.specs.Block.{block_width, file_length};
+ghost use Rattle.blocks.specs.Says.{div_number};
+ghost use Rattle.bed_write.specs.Writing.{check_buffers, bed_file, Writes};
+ghost use Rattle.bed_write.specs.Says.{write_says, write_refusal};
+ghost use Rattle.bed_write.specs.Private.{by_tests, placed, GoodMatrix, block_byte};
 
-pub mod write_f64;
-pub mod write_i8;
-
-use blocks::DivAnswer;
+use crate::group::Strided;
+use crate::matrix::Matrix;
+use crate::search;
+use crate::value_codes::{Coder, Coding, WriteVal};
+use blocks::DivError;
+use codes::BedVal;
 use entries::{IidIndex, SidIndex};
 
-#[derive(Clone, Copy)]
-pub enum WriteAnswer {
-    Done,
+// What `write_val` refuses: 18, 4, 15, 16, or 7.
+#[derive(Clone, Copy, Debug, PartialEq, Eq)]
+pub enum WriteError {
     CountTooLarge,
     IndexesTooBigForFiles,
     IndexMismatch,
@@ -20,48 +25,126 @@ pub enum WriteAnswer {
     BadValue(IidIndex, SidIndex),
 }
 
+impl From<DivError> for WriteError {
+    ghost from_gives = { λ a b. write_refusal b ≡ refused (div_number a) [] };
+
+    fn from(error: DivError) -> WriteError {
+        match error {
+            DivError::CountTooLarge => WriteError::CountTooLarge,
+            DivError::IndexesTooBigForFiles => WriteError::IndexesTooBigForFiles,
+        }
+    }
+}
+
 // 18, 4, 15, 16, of counts and lengths.
-fn check_write(iid_count: usize, sid_count: usize, val_len: usize, out_len: usize) -> WriteAnswer
+fn check_write(
+    iid_count: usize,
+    sid_count: usize,
+    val_len: usize,
+    out_len: usize,
+) -> Result<(), WriteError>
     ensures { write_says result ≡ check_buffers iid_count sid_count val_len out_len (done []) }
 {
-    match blocks::try_div_4(iid_count, sid_count) {
-        DivAnswer::CountTooLarge => WriteAnswer::CountTooLarge,
-        DivAnswer::IndexesTooBigForFiles => WriteAnswer::IndexesTooBigForFiles,
-        DivAnswer::Width(width) => {
-            if blocks::product_is(iid_count, sid_count, val_len) {
-                if out_len == width * sid_count + 3 {
-                    return WriteAnswer::Done;
+    let width = blocks::try_div_4(iid_count, sid_count)?;
+    if !blocks::product_is(iid_count, sid_count, val_len) {
+        return Err(WriteError::IndexMismatch);
+    }
+    if out_len == width * sid_count + 3 {
+        Ok(())
+    } else {
+        Err(WriteError::EncodingLength)
+    }
+}
+
+// A matrix without bad values, and what codes them.
+#[derive(Drop)]
+struct Writer<'a, T: BedVal, C: Coder<T>> {
+    matrix: Matrix<'a, T>,
+    coder: C,
+    ghost is_good: { GoodMatrix (by_tests T.width (C.flag coder) (C.missing coder) matrix.val.now) matrix.animal_order matrix.iid_count matrix.sid_count (length matrix.val.now) },
+}
+
+impl<'a, T: BedVal, C: Coder<T>> Writer<'a, T, C> {
+    // Byte b of the packed block of marker m.
+    fn byte_at(&self, m: usize, b: usize) -> u8
+        requires { (m < self.now.matrix.sid_count) × (4 * b < self.now.matrix.iid_count) }
+        ensures { result ≡ block_byte (by_tests T.width (C.flag self.now.coder) (C.missing self.now.coder) self.now.matrix.val.now)
+            self.now.matrix.animal_order self.now.matrix.iid_count self.now.matrix.sid_count m b }
+    {
+        let first = 4 * b;
+        let group = Strided {
+            val: self.matrix.val,
+            start: self.matrix.place(IidIndex(first), SidIndex(m)),
+            stride: self.matrix.animal_stride(),
+            left: self.matrix.iid_count - first,
+        };
+        codes::byte_of(group.codes(&self.coder))
+    }
+
+    // How many markers are packed together: one in marker order, and 16 in animal order, whose rows are read along.
+    fn tile(&self) -> usize
+        ensures { 0 < result }
+    {
+        if self.matrix.animal_order { 16 } else { 1 }
+    }
+
+    // The file.
+    fn write(&self, out: &mut [u8])
+        requires { length out.old ≡ file_length self.now.matrix.iid_count self.now.matrix.sid_count }
+        ensures { out.new ≡ bed_file self.now.matrix.iid_count self.now.matrix.sid_count
+            (placed (by_tests T.width (C.flag self.now.coder) (C.missing self.now.coder) self.now.matrix.val.now)
+            self.now.matrix.animal_order self.now.matrix.iid_count self.now.matrix.sid_count) }
+    {
+        out[0] = 0x6C;
+        out[1] = 0x1B;
+        out[2] = 1;
+        let width = blocks::block_width(self.matrix.iid_count);
+        if width == 0 {
+            return;
+        }
+        let tile = self.tile();
+        for from in (0..self.matrix.sid_count).step_by(tile) {
+            let until = from + tile.min(self.matrix.sid_count - from);
+            for b in 0..width {
+                for m in from..until {
+                    out[3 + m * width + b] = self.byte_at(m, b);
                 }
-                return WriteAnswer::EncodingLength;
             }
-            WriteAnswer::IndexMismatch
         }
     }
 }
 
-fn is_done(answer: WriteAnswer) -> bool
-    ensures { result ≡ is_done (write_says answer) }
+// Writes the values of a matrix as a file of mode 1.
+pub fn write_val<T: WriteVal>(
+    val: &[T],
+    iid_count: usize,
+    sid_count: usize,
+    animal_order: bool,
+    is_a1_counted: bool,
+    missing: T,
+    out: &mut [u8],
+) -> Result<(), WriteError>
+    ensures { Writes T.width is_a1_counted missing animal_order iid_count sid_count val.now
+        (write_says result) out.old out.new }
 {
-    match answer {
-        WriteAnswer::Done => true,
-        WriteAnswer::CountTooLarge => false,
-        WriteAnswer::IndexesTooBigForFiles => false,
-        WriteAnswer::IndexMismatch => false,
-        WriteAnswer::EncodingLength => false,
-        WriteAnswer::BadValue(_, _) => false,
+    check_write(iid_count, sid_count, val.len(), out.len())?;
+    let coding = Coding {
+        is_a1_counted,
+        missing,
+    };
+    let matrix = Matrix {
+        val,
+        iid_count,
+        sid_count,
+        animal_order,
+    };
+    if let Some((animal, marker)) = search::search(&matrix, coding) {
+        return Err(WriteError::BadValue(animal, marker));
     }
-}
-
-// The end of the markers that are packed together from `from` on: one in marker order, and 16 in animal order, whose rows are read along.
-fn tile_end(animal_order: bool, from: usize, sid_count: usize) -> usize
-    requires { from < sid_count }
-    ensures { (from < result) × (result ≤ sid_count) }
-{
-    if animal_order {
-        if sid_count - from < 16 {
-            return sid_count;
-        }
-        return from + 16;
-    }
-    from + 1
+    let writer = Writer {
+        matrix,
+        coder: T::across(coding),
+    };
+    writer.write(out);
+    Ok(())
 }

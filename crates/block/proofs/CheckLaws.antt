@@ -77,6 +77,9 @@ module _ (byte_count iids val_length : ℕ) where
   unfolding decode_answer
   decodable d = let p = column_done iids val_length _ d in (p.1, bytes_done byte_count iids _ p.2)
 
+  pub decodable_width : done [] ≡ decode_answer byte_count iids val_length → byte_count ≡ block_width val_length
+  decodable_width t = let p = decodable (sym (ap is_done t)) in p.1 ∙ ap block_width (sym p.0)
+
 -- ---- an animal's byte
 pub byte_below : (byte_count iids w iid : ℕ) → w ≡ block_width iids → byte_count ≡ w → iid < iids → iid / 4 < byte_count
 byte_below byte_count iids w iid f e h = let r = (width_room iids).0 in omega arith

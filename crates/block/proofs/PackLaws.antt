@@ -1,7 +1,7 @@
 -- Laws of packing a block: 18, 16 and 15, then what `encode1` says.
 use mathlib.Core.Path.{◌≡◌, sym, ap, ◌∙◌}
 use mathlib.Core.List.{List, []}
-use mathlib.Core.Option.{Option}
+use Rattle.std.specs.Prelude.{Option, Result, Ok, Err, IsErrAnd}
 use Prim.Native.Nat.{ℕ, ◌≤◌, ◌<◌}
 use borrow.Author.Tests.{eq-eqb, ne_eqb}
 use lib.Dec.{eqb}
@@ -10,6 +10,8 @@ use Rattle.answer.specs.Answer.{Answer, done, refused, check, is_done, if_done, 
 use Rattle.blocks.specs.Block.{block_width}
 use Rattle.answer.proofs.AnswerLaws.{check_passes, check_refuses, count_passes, count_refuses, old_if_not}
 use Rattle.bed_write.specs.Packing.{packed_codes, first_bad_animal, check_animal, encode_answer, encode_buffer}
+use Rattle.block.specs.declared.pack.PackError.{PackError}
+use Rattle.block.specs.Says.{pack_refusal, pack_says}
 use Rattle.block.specs.Blocks.{pack_answer, pack_buffer}
 use Rattle.block.proofs.CheckLaws.{bytes_refuse, bytes_pass}
 
@@ -55,3 +57,8 @@ module _ (iids val_length : ℕ) (code : ℕ → Option ℕ) (old : List ℕ) wh
           a.0 ∙ ap (λ (n : ℕ). encode_answer n code (length old)) e ∙ same_answer,
           a.1 ∙ ap (λ (n : ℕ). encode_buffer n code old) e ∙ ap (λ (r : Answer). if_done r (packed_codes iids code) old) same_answer,
         )
+
+-- what `?` turns into a refusal of packing
+pub refusal_told : (r : Result Unit PackError) (a : Answer) → IsErrAnd r (λ error. pack_refusal error ≡ a) → pack_says r ≡ a
+refusal_told (Ok _) a h = absurd h
+refusal_told (Err error) a h = h

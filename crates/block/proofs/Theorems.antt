@@ -2,7 +2,7 @@
 use mathlib.Core.Path.{◌≡◌, refl, sym, ap, subst, ◌∙◌}
 use mathlib.Core.Bool.{Bool, true}
 use mathlib.Core.List.{List, []}
-use mathlib.Core.Option.{Option, some, none}
+use Rattle.std.specs.Prelude.{Option, Some, None}
 use Prim.Native.Nat.{ℕ, ◌≤◌, ◌<◌}
 use native.Mathlib.Omega.{arith}
 use lib.Dec.{eqb}
@@ -24,15 +24,15 @@ use Rattle.bed_write.proofs.FirstLaws.{first_all, not_bad, zero_below, place_cod
 use Rattle.block.specs.Blocks.{check_bytes, pack_answer, pack_buffer, decode_answer, column_of, decode_buffer}
 use Rattle.block.proofs.CheckLaws.{decode_done}
 
-no_animal : (o : Option ℕ) → is_done (check_animal o (done [])) ≡ true → o ≡ none
+no_animal : (o : Option ℕ) → is_done (check_animal o (done [])) ≡ true → o ≡ None
 unfolding check_animal
-no_animal none e = refl
-no_animal (some a) e = absurd (let q : ◌≡◌ {A = ℕ} 0 1 = cc in omega arith)
+no_animal None e = refl
+no_animal (Some a) e = absurd (let q : ◌≡◌ {A = ℕ} 0 1 = cc in omega arith)
 
 -- what is known where packing is done
 record Packable (iids : ℕ) (code : ℕ → Option ℕ) : Type 0 where
   fits : iids ≤ count_limit
-  no_bad : first_bad_animal iids code ≡ none
+  no_bad : first_bad_animal iids code ≡ None
 
 packable : (iids val_length : ℕ) (code : ℕ → Option ℕ) (byte_count : ℕ) → is_done (pack_answer iids val_length code byte_count) ≡ true → Packable iids code
 unfolding pack_answer check_bytes
@@ -66,8 +66,8 @@ module _ (iids : ℕ) (code : ℕ → Option ℕ) (small : (k : ℕ) → or_zero
   code_back k h = packed_code (tabulate iids (λ a. or_zero (code a))) codes_small k ∙ get_d_tabulate iids (λ a. or_zero (code a)) k 0 h
 
 -- ---- packed, then decoded
-module _ (w : Width) (flag : Bool) (missing : w.Value) (iids : ℕ) (val : List w.Value) (old : List ℕ)
-    (d : is_done (pack_answer iids (length val) (place_code w flag missing val) (length old)) ≡ true) (out : List w.Value) (l : length out ≡ iids) where
+module _ {V : Type 0} (w : Width V) (flag : Bool) (missing : V) (iids : ℕ) (val : List V) (old : List ℕ)
+    (d : is_done (pack_answer iids (length val) (place_code w flag missing val) (length old)) ≡ true) (out : List V) (l : length out ≡ iids) where
   abbrev code : ℕ → Option ℕ
   code = place_code w flag missing val
 
@@ -92,16 +92,16 @@ module _ (w : Width) (flag : Bool) (missing : w.Value) (iids : ℕ) (val : List 
       ∙ get_d_tabulate iids (λ a. value_of w flag missing (item_code new a)) k missing h
       ∙ ap (value_of w flag missing) (ap (λ (bytes : List ℕ). item_code bytes k) (filled iids (length val) code old d) ∙ code_back iids code small k h)
 
-  has_code : (k : ℕ) → k < iids → code k ≡ some (or_zero (code k))
+  has_code : (k : ℕ) → k < iids → code k ≡ Some (or_zero (code k))
   unfolding first_bad_animal
   has_code k h = not_bad (code k) k (first_all iids (λ a. if_bad (code a) a) p.no_bad k h)
 
 -- "Under one flag and one missing value, an accepted writing read back gives every value, equal by number or NaN for NaN.": of one block. Where packing is done,
 -- decoding the bytes that it left into a column of the right length is done, and gives every value.
 pub packed_read_back :
-    (w : Width) (flag : Bool) (missing : w.Value) (iids : ℕ) (val : List w.Value) (old : List ℕ)
+    {V : Type 0} (w : Width V) (flag : Bool) (missing : V) (iids : ℕ) (val : List V) (old : List ℕ)
     → is_done (pack_answer iids (length val) (place_code w flag missing val) (length old)) ≡ true
-    → (out : List w.Value) → length out ≡ iids
+    → (out : List V) → length out ≡ iids
     → (decode_answer (length (pack_buffer iids (length val) (place_code w flag missing val) old)) iids (length out) ≡ done [])
     × ((k : ℕ) → k < iids
     → same_or_nan w (get_or val k missing)

@@ -1,7 +1,7 @@
 -- "One marker's block travels as its bytes together with its animal count.": what its functions answer and leave. Throughout, `bytes` and
 -- `iids` are a block's bytes and its animal count.
 use Rattle.std.specs.Prelude.{◌≡◌, Bool, List, [], ◌∷◌, ℕ, eqb, pos, length}
-use Rattle.std.proofs.Math.Option.{Option}
+use Rattle.std.specs.Prelude.{Option}
 use Rattle.answer.specs.Answer.{Answer, done, check, check_count, check_entry, if_done}
 use Rattle.blocks.specs.Block.{block_width}
 use Rattle.codes.specs.Code.{item_code}
@@ -34,11 +34,11 @@ unfolding check_column check_bytes
 decode_answer byte_count iids val_length = check_column iids val_length (check_bytes byte_count iids (done []))
 
 -- the column of a block: the value of each animal's code
-unfoldable pub column_of : (w : Width) → Bool → w.Value → List ℕ → ℕ → List w.Value
+unfoldable pub column_of : {V : Type 0} (w : Width V) → Bool → V → List ℕ → ℕ → List V
 column_of w flag missing bytes iids = tabulate iids (λ a. value_of w flag missing (item_code bytes a))
 
 -- the later column of decoding
-unfoldable pub decode_buffer : (w : Width) → Bool → w.Value → List ℕ → ℕ → List w.Value → List w.Value
+unfoldable pub decode_buffer : {V : Type 0} (w : Width V) → Bool → V → List ℕ → ℕ → List V → List V
 decode_buffer w flag missing bytes iids old =
     if_done (decode_answer (length bytes) iids (length old)) (column_of w flag missing bytes iids) old
 
@@ -53,12 +53,12 @@ unfoldable pub pack_buffer : ℕ → ℕ → (ℕ → Option ℕ) → List ℕ �
 pack_buffer iids val_length code old = if_done (pack_answer iids val_length code (length old)) (packed_codes iids code) old
 
 -- decoding a block into a column: what it answers, and the later column
-abbrev pub Decodes : (w : Width) → Bool → w.Value → List ℕ → ℕ → Answer → List w.Value → List w.Value → Type 0
+abbrev pub Decodes : {V : Type 0} (w : Width V) → Bool → V → List ℕ → ℕ → Answer → List V → List V → Type 0
 Decodes w flag missing bytes iids said old new =
     (said ≡ decode_answer (length bytes) iids (length old)) × (new ≡ decode_buffer w flag missing bytes iids old)
 
 -- packing a column into a block: what it answers, and the later bytes
-abbrev pub Packs : (w : Width) → Bool → w.Value → List w.Value → ℕ → Answer → List ℕ → List ℕ → Type 0
+abbrev pub Packs : {V : Type 0} (w : Width V) → Bool → V → List V → ℕ → Answer → List ℕ → List ℕ → Type 0
 Packs w flag missing column iids said old new =
     (said ≡ pack_answer iids (length column) (place_code w flag missing column) (length old))
     × (new ≡ pack_buffer iids (length column) (place_code w flag missing column) old)

@@ -1,28 +1,40 @@
--- What each answer enum of the code says: document 01's number and the values for each of its cases.
-use Rattle.std.specs.Prelude.{[], ◌∷◌, pos}
+-- What each result of the code says: document 01's number and the values for each of its cases.
+use Rattle.std.specs.Prelude.{[], ◌∷◌, ℕ, pos, Result, Ok, Err}
 use Rattle.answer.specs.Answer.{Answer, done, refused}
-use Rattle.block.specs.declared.decode.CodeAnswer.{CodeAnswer}
-use Rattle.block.specs.declared.decode.CodeAnswer.TheVariants as codes
-use Rattle.block.specs.declared.decode.DecodeAnswer.{DecodeAnswer}
-use Rattle.block.specs.declared.decode.DecodeAnswer.TheVariants as decodes
-use Rattle.block.specs.declared.pack.PackAnswer.{PackAnswer}
-use Rattle.block.specs.declared.pack.PackAnswer.TheVariants as packs
+use Rattle.block.specs.declared.decode.CodeError.{CodeError}
+use Rattle.block.specs.declared.decode.CodeError.TheVariants as codes
+use Rattle.block.specs.declared.decode.DecodeError.{DecodeError}
+use Rattle.block.specs.declared.decode.DecodeError.TheVariants as decodes
+use Rattle.block.specs.declared.pack.PackError.{PackError}
+use Rattle.block.specs.declared.pack.PackError.TheVariants as packs
 
-abbrev pub code_says : CodeAnswer → Answer
-code_says (codes.Code c) = done (pos c ∷ [])
-code_says codes.CountTooLarge = refused 18 []
-code_says codes.EncodingLength = refused 16 []
-code_says (codes.IidIndexTooBig iid) = refused 5 (pos iid.0 ∷ [])
+-- the refusals of asking for a code
+abbrev pub code_refusal : CodeError → Answer
+code_refusal codes.CountTooLarge = refused 18 []
+code_refusal codes.EncodingLength = refused 16 []
+code_refusal (codes.IidIndexTooBig iid) = refused 5 (pos iid.0 ∷ [])
 
-abbrev pub decode_says : DecodeAnswer → Answer
-decode_says decodes.Done = done []
-decode_says decodes.CountTooLarge = refused 18 []
-decode_says decodes.IndexMismatch = refused 15 []
-decode_says decodes.EncodingLength = refused 16 []
+abbrev pub code_says : Result ℕ CodeError → Answer
+code_says (Ok code) = done (pos code ∷ [])
+code_says (Err error) = code_refusal error
 
-abbrev pub pack_says : PackAnswer → Answer
-pack_says packs.Done = done []
-pack_says packs.CountTooLarge = refused 18 []
-pack_says packs.IndexMismatch = refused 15 []
-pack_says packs.EncodingLength = refused 16 []
-pack_says (packs.BadValue animal) = refused 7 (pos animal.0 ∷ [])
+-- the numbers of decoding's refusals, which carry nothing
+abbrev pub decode_number : DecodeError → ℕ
+decode_number decodes.CountTooLarge = 18
+decode_number decodes.IndexMismatch = 15
+decode_number decodes.EncodingLength = 16
+
+abbrev pub decode_says : Result Unit DecodeError → Answer
+decode_says (Ok _) = done []
+decode_says (Err error) = refused (decode_number error) []
+
+-- the refusals of packing
+abbrev pub pack_refusal : PackError → Answer
+pack_refusal packs.CountTooLarge = refused 18 []
+pack_refusal packs.IndexMismatch = refused 15 []
+pack_refusal packs.EncodingLength = refused 16 []
+pack_refusal (packs.BadValue animal) = refused 7 (pos animal.0 ∷ [])
+
+abbrev pub pack_says : Result Unit PackError → Answer
+pack_says (Ok _) = done []
+pack_says (Err error) = pack_refusal error

@@ -3,16 +3,16 @@
 #![tactic(auto)]
 
 ghost use Rattle.std.specs.Prelude.{◌≡◌, length};
-ghost use Rattle.codes.specs.Value.{i8, float};
 ghost use Rattle.block.specs.Blocks.{code_answer, Decodes, Packs};
 ghost use Rattle.block.specs.Says.{code_says, decode_says, pack_says};
 
 mod decode;
 mod pack;
 
-pub use decode::{CodeAnswer, DecodeAnswer};
+use bed_write::EncodeVal;
+pub use decode::{CodeError, DecodeError, DecodeVal};
 use entries::IidIndex;
-pub use pack::PackAnswer;
+pub use pack::PackError;
 
 // A block to be decoded.
 #[derive(Clone, Copy)]
@@ -36,36 +36,23 @@ impl<'a> MarkerBlock<'a> {
     }
 
     // The code of one animal.
-    pub fn code(self, iid: IidIndex) -> CodeAnswer
+    pub fn code(self, iid: IidIndex) -> Result<u8, CodeError>
         ensures { code_says result ≡ code_answer self.entry.bytes.now self.entry.iid_count iid.0 }
     {
         decode::code_of_iid(self.bytes, self.iid_count, iid)
     }
 
     // Every animal's value, into a lent column.
-    pub fn decode_i8(self, is_a1_counted: bool, missing_value: i8, out: &mut [i8]) -> DecodeAnswer
-        ensures { Decodes i8 is_a1_counted missing_value self.entry.bytes.now self.entry.iid_count
-            (decode_says result) out.old out.new }
-    {
-        decode::decode1_i8(
-            self.bytes,
-            self.iid_count,
-            is_a1_counted,
-            missing_value,
-            out,
-        )
-    }
-
-    pub fn decode_f64(
+    pub fn decode<T: DecodeVal>(
         self,
         is_a1_counted: bool,
-        missing_value: f64,
-        out: &mut [f64],
-    ) -> DecodeAnswer
-        ensures { Decodes float is_a1_counted missing_value self.entry.bytes.now self.entry.iid_count
+        missing_value: T,
+        out: &mut [T],
+    ) -> Result<(), DecodeError>
+        ensures { Decodes T.width is_a1_counted missing_value self.entry.bytes.now self.entry.iid_count
             (decode_says result) out.old out.new }
     {
-        decode::decode1_f64(
+        decode::decode1(
             self.bytes,
             self.iid_count,
             is_a1_counted,
@@ -83,26 +70,17 @@ impl<'a> MarkerBlockMut<'a> {
     }
 
     // Packs a column into the block's bytes.
-    pub fn encode1_i8(self, in_vector: &[i8], is_a1_counted: bool, missing: i8) -> PackAnswer
-        ensures { Packs i8 is_a1_counted missing in_vector.now self.entry.iid_count
+    pub fn encode1<T: EncodeVal>(
+        self,
+        in_vector: &[T],
+        is_a1_counted: bool,
+        missing: T,
+    ) -> Result<(), PackError>
+        ensures { Packs T.width is_a1_counted missing in_vector.now self.entry.iid_count
             (pack_says result) self.entry.bytes.now self.exit.0.now }
     {
         let iid_count = self.iid_count;
-        pack::pack1_i8(
-            &mut *self.bytes,
-            iid_count,
-            in_vector,
-            is_a1_counted,
-            missing,
-        )
-    }
-
-    pub fn encode1_f64(self, in_vector: &[f64], is_a1_counted: bool, missing: f64) -> PackAnswer
-        ensures { Packs float is_a1_counted missing in_vector.now self.entry.iid_count
-            (pack_says result) self.entry.bytes.now self.exit.0.now }
-    {
-        let iid_count = self.iid_count;
-        pack::pack1_f64(
+        pack::pack1(
             &mut *self.bytes,
             iid_count,
             in_vector,
@@ -113,56 +91,32 @@ impl<'a> MarkerBlockMut<'a> {
 }
 
 // The same with plain parameters: the block is made here.
-pub fn code_in_block(bytes: &[u8], iid_count: usize, iid: IidIndex) -> CodeAnswer
+pub fn code_in_block(bytes: &[u8], iid_count: usize, iid: IidIndex) -> Result<u8, CodeError>
     ensures { code_says result ≡ code_answer bytes.now iid_count iid.0 }
 {
     MarkerBlock::new(bytes, iid_count).code(iid)
 }
 
-pub fn decode_block_i8(
+pub fn decode_block<T: DecodeVal>(
     bytes: &[u8],
     iid_count: usize,
     is_a1_counted: bool,
-    missing_value: i8,
-    out: &mut [i8],
-) -> DecodeAnswer
-    ensures { Decodes i8 is_a1_counted missing_value bytes.now iid_count (decode_says result) out.old out.new }
+    missing_value: T,
+    out: &mut [T],
+) -> Result<(), DecodeError>
+    ensures { Decodes T.width is_a1_counted missing_value bytes.now iid_count (decode_says result) out.old out.new }
 {
-    MarkerBlock::new(bytes, iid_count).decode_i8(is_a1_counted, missing_value, out)
+    MarkerBlock::new(bytes, iid_count).decode(is_a1_counted, missing_value, out)
 }
 
-pub fn decode_block_f64(
-    bytes: &[u8],
-    iid_count: usize,
-    is_a1_counted: bool,
-    missing_value: f64,
-    out: &mut [f64],
-) -> DecodeAnswer
-    ensures { Decodes float is_a1_counted missing_value bytes.now iid_count (decode_says result) out.old out.new }
-{
-    MarkerBlock::new(bytes, iid_count).decode_f64(is_a1_counted, missing_value, out)
-}
-
-pub fn encode_block_i8(
+pub fn encode_block<T: EncodeVal>(
     bytes: &mut [u8],
     iid_count: usize,
-    in_vector: &[i8],
+    in_vector: &[T],
     is_a1_counted: bool,
-    missing: i8,
-) -> PackAnswer
-    ensures { Packs i8 is_a1_counted missing in_vector.now iid_count (pack_says result) bytes.old bytes.new }
+    missing: T,
+) -> Result<(), PackError>
+    ensures { Packs T.width is_a1_counted missing in_vector.now iid_count (pack_says result) bytes.old bytes.new }
 {
-    MarkerBlockMut::new(bytes, iid_count).encode1_i8(in_vector, is_a1_counted, missing)
-}
-
-pub fn encode_block_f64(
-    bytes: &mut [u8],
-    iid_count: usize,
-    in_vector: &[f64],
-    is_a1_counted: bool,
-    missing: f64,
-) -> PackAnswer
-    ensures { Packs float is_a1_counted missing in_vector.now iid_count (pack_says result) bytes.old bytes.new }
-{
-    MarkerBlockMut::new(bytes, iid_count).encode1_f64(in_vector, is_a1_counted, missing)
+    MarkerBlockMut::new(bytes, iid_count).encode1(in_vector, is_a1_counted, missing)
 }

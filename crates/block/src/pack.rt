@@ -1,67 +1,51 @@
 // Packing a block, with plain parameters.
-ghost use Rattle.codes.specs.Value.{i8, float};
+ghost use Rattle.std.specs.Prelude.{◌≡◌};
+ghost use Rattle.bed_write.specs.Says.{encode_refusal};
 ghost use Rattle.block.specs.Blocks.{Packs};
-ghost use Rattle.block.specs.Says.{pack_says};
+ghost use Rattle.block.specs.Says.{pack_says, pack_refusal};
 
-use bed_write::EncodeAnswer;
+use bed_write::{EncodeError, EncodeVal};
 use entries::IidIndex;
 
-#[derive(Clone, Copy)]
-pub enum PackAnswer {
-    Done,
+// What a block's `encode1` refuses: 18, 16, 15, or 7.
+#[derive(Clone, Copy, Debug, PartialEq, Eq)]
+pub enum PackError {
     CountTooLarge,
     IndexMismatch,
     EncodingLength,
     BadValue(IidIndex),
 }
 
-// Packs a column into a block's bytes.
-pub(crate) fn pack1_i8(
-    bytes: &mut [u8],
-    iid_count: usize,
-    in_vector: &[i8],
-    is_a1_counted: bool,
-    missing: i8,
-) -> PackAnswer
-    ensures { Packs i8 is_a1_counted missing in_vector.now iid_count (pack_says result) bytes.old bytes.new }
-{
-    if iid_count > answer::COUNT_LIMIT {
-        return PackAnswer::CountTooLarge;
-    }
-    if bytes.len() != blocks::block_width(iid_count) {
-        return PackAnswer::EncodingLength;
-    }
-    if in_vector.len() != iid_count {
-        return PackAnswer::IndexMismatch;
-    }
-    match bed_write::encode1_i8(in_vector, bytes, is_a1_counted, missing) {
-        EncodeAnswer::Done => PackAnswer::Done,
-        EncodeAnswer::EncodingLength => PackAnswer::EncodingLength,
-        EncodeAnswer::BadValue(animal) => PackAnswer::BadValue(animal),
+impl From<EncodeError> for PackError {
+    ghost from_gives = { λ a b. pack_refusal b ≡ encode_refusal a };
+
+    fn from(error: EncodeError) -> PackError {
+        match error {
+            EncodeError::EncodingLength => PackError::EncodingLength,
+            EncodeError::BadValue(animal) => PackError::BadValue(animal),
+        }
     }
 }
 
-pub(crate) fn pack1_f64(
+// Packs a column into a block's bytes.
+pub(crate) fn pack1<T: EncodeVal>(
     bytes: &mut [u8],
     iid_count: usize,
-    in_vector: &[f64],
+    in_vector: &[T],
     is_a1_counted: bool,
-    missing: f64,
-) -> PackAnswer
-    ensures { Packs float is_a1_counted missing in_vector.now iid_count (pack_says result) bytes.old bytes.new }
+    missing: T,
+) -> Result<(), PackError>
+    ensures { Packs T.width is_a1_counted missing in_vector.now iid_count (pack_says result) bytes.old bytes.new }
 {
     if iid_count > answer::COUNT_LIMIT {
-        return PackAnswer::CountTooLarge;
+        return Err(PackError::CountTooLarge);
     }
     if bytes.len() != blocks::block_width(iid_count) {
-        return PackAnswer::EncodingLength;
+        return Err(PackError::EncodingLength);
     }
     if in_vector.len() != iid_count {
-        return PackAnswer::IndexMismatch;
+        return Err(PackError::IndexMismatch);
     }
-    match bed_write::encode1_f64(in_vector, bytes, is_a1_counted, missing) {
-        EncodeAnswer::Done => PackAnswer::Done,
-        EncodeAnswer::EncodingLength => PackAnswer::EncodingLength,
-        EncodeAnswer::BadValue(animal) => PackAnswer::BadValue(animal),
-    }
+    bed_write::encode1(in_vector, bytes, is_a1_counted, missing)?;
+    Ok(())
 }

@@ -5,10 +5,9 @@ ghost use Rattle.std.specs.Prelude.{◌≡◌, ◌*◌, eqb, leb};
 ghost use Rattle.blocks.specs.Block.{block_width, div_answer};
 ghost use Rattle.blocks.specs.Says.{div_says};
 
-// What `try_div_4` answers: the block width, or 18, or 4.
-#[derive(Clone, Copy)]
-pub enum DivAnswer {
-    Width(usize),
+// What `try_div_4` refuses: 18, or 4.
+#[derive(Clone, Copy, Debug, PartialEq, Eq)]
+pub enum DivError {
     CountTooLarge,
     IndexesTooBigForFiles,
 }
@@ -24,23 +23,23 @@ pub fn block_width(count: usize) -> usize
 }
 
 // The width of a block of `in_iid_count` items, for `in_sid_count` blocks.
-pub fn try_div_4(in_iid_count: usize, in_sid_count: usize) -> DivAnswer
+pub fn try_div_4(in_iid_count: usize, in_sid_count: usize) -> Result<usize, DivError>
     ensures { div_says result ≡ div_answer in_iid_count in_sid_count }
 {
     if in_iid_count > answer::COUNT_LIMIT {
-        return DivAnswer::CountTooLarge;
+        return Err(DivError::CountTooLarge);
     }
     if in_sid_count > answer::COUNT_LIMIT {
-        return DivAnswer::CountTooLarge;
+        return Err(DivError::CountTooLarge);
     }
     let width = block_width(in_iid_count);
     if width == 0 {
-        return DivAnswer::Width(0);
+        return Ok(0);
     }
     if in_sid_count > 18446744073709551612 / width {
-        return DivAnswer::IndexesTooBigForFiles;
+        return Err(DivError::IndexesTooBigForFiles);
     }
-    DivAnswer::Width(width)
+    Ok(width)
 }
 
 // Whether a × b is n, in exact arithmetic.

@@ -1,5 +1,5 @@
 -- Laws of the two bits of codes, over plain numbers and lists.
-use mathlib.Core.Path.{◌≡◌, refl, sym, ap, ◌∙◌}
+use mathlib.Core.Path.{◌≡◌, refl, sym, ap, subst, ◌∙◌}
 use mathlib.Core.List.{List}
 use Prim.Native.Nat.{ℕ, zero, suc, ◌+◌, ◌-◌, ◌*◌, ◌/◌, ◌%◌, ◌^◌, ◌<◌, ◌≤◌}
 use native.Mathlib.Nat.{add-zero, add-suc}
@@ -211,6 +211,18 @@ module _ (file : List ℕ) (start : ℕ) where
         high_is = add_rows high_bit r k high high' b.high_is c.high_is;
         both_is = add_rows both_bits r k both both' b.both_is c.both_is;
       }
+
+  -- three rows more
+  pub triple_more :
+      (t low high both low' high' both' : ℕ) → BitsCounted file start (192 * t) low high both → BitsCounted file (start + 48 * t) 192 low' high' both'
+      → BitsCounted file start (192 * (t + 1)) (low + low') (high + high') (both + both')
+  triple_more t low high both low' high' both' b c =
+      let n : 192 * t ≡ 64 * (3 * t) = omega arith in
+      let a : start + 48 * t ≡ start + 16 * (3 * t) = omega arith in
+      let m : 64 * (3 * t + 3) ≡ 192 * (t + 1) = omega arith in
+      let b' = subst (λ (x : ℕ). BitsCounted file start x low high both) n b in
+      let c' = subst (λ (x : ℕ). BitsCounted file x 192 low' high' both') a c in
+      subst (λ (x : ℕ). BitsCounted file start x (low + low') (high + high') (both + both')) m (bits_more (3 * t) 3 low high both low' high' both' b' c')
 
 -- ---- the tally by the bits
 module _ (z o t b : ℕ) where

@@ -2,7 +2,7 @@
 use mathlib.Core.Path.{◌≡◌, sym, ap, subst, ◌∙◌}
 use mathlib.Core.Bool.{Bool, true, false}
 use mathlib.Core.List.{List}
-use mathlib.Core.Option.{none}
+use Rattle.std.specs.Prelude.{None}
 use Prim.Native.Nat.{ℕ, suc, ◌+◌, ◌-◌, ◌*◌, ◌/◌, ◌%◌, ◌^◌, ◌<◌, ◌≤◌}
 use native.Mathlib.Omega.{arith}
 use lib.IntN.{ℤ, pos}
@@ -22,6 +22,11 @@ use Rattle.calls.proofs.PlaceLaws.{sid_byte_law}
 use Rattle.call_counts.specs.Counts.{code_named}
 use Rattle.call_counts.specs.Private.{InOrder, total, total_items, in_byte, weight, byte_tallies, tally_items, tally_named}
 use Rattle.call_counts.proofs.TallyLaws.{tally_most, total_ext}
+
+-- ---- the tally of a byte, by the table
+pub byte_there : (table : List ℕ) (x byte : ℕ) → table ≡ byte_tallies → x ≡ byte → byte < 256 → get_or table x 0 ≡ in_byte weight byte
+unfolding byte_tallies
+byte_there table x byte t e h = ap (λ (k : ℕ). get_or table k 0) e ∙ ap (λ (l : List ℕ). get_or l byte 0) t ∙ get_d_tabulate 256 (in_byte weight) byte 0 h
 
 -- ---- four items at a time
 four_more :
@@ -57,24 +62,19 @@ module _ (file : List ℕ) (start : ℕ) where
       let f = four_more h (λ i. code_at (get_or file (start + i / 4) 0) (i % 4)) b in
       omega (arith, f, w0, w1, w2, w3)
 
-  -- by the table
-  module _ (b byte sum : ℕ) (table : List ℕ) (t : table ≡ byte_tallies) (eb : byte ≡ get_or file (start + b) 0) (h : byte < 256)
-      (e : sum ≡ tally_items file start (4 * b)) where
-    pub block_more_law : sum + get_or table byte 0 ≡ tally_items file start (4 * (b + 1))
-    unfolding byte_tallies
-    block_more_law =
-        let there = ap (λ (l : List ℕ). get_or l byte 0) t ∙ get_d_tabulate 256 (in_byte weight) byte 0 h in
-        let f = byte_more weight b byte eb in
-        omega (arith, e, f, there)
+  -- by its tally
+  module _ (b byte sum more : ℕ) (eb : byte ≡ get_or file (start + b) 0) (em : more ≡ in_byte weight byte) (e : sum ≡ tally_items file start (4 * b)) where
+    pub block_more_law : sum + more ≡ tally_items file start (4 * (b + 1))
+    block_more_law = omega (arith, e, em, byte_more weight b byte eb)
 
-    pub block_room : 4 * b + 4 < 65536 → sum + get_or table byte 0 < 2 ^ 64
+    pub block_room : 4 * b + 4 < 65536 → sum + more < 2 ^ 64
     block_room l =
         let m = tally_most (λ i. code_at (get_or file (start + i / 4) 0) (i % 4)) (4 * (b + 1)) in
         let g = block_more_law in
         omega (arith, m, g)
 
 -- ---- entries in file order, in mode 1: n of them from `from` on are items of the marker's block
-module _ (file : List ℕ) (shape : Shape) (sh : Shaped file shape) (il : List ℤ) (gi : first_bad shape.iids il ≡ none) (mode : shape.mode1 ≡ true)
+module _ (file : List ℕ) (shape : Shape) (sh : Shaped file shape) (il : List ℤ) (gi : first_bad shape.iids il ≡ None) (mode : shape.mode1 ≡ true)
     (order : InOrder shape.iids il (length il)) (m from n start : ℕ) (hm : m < shape.sids) (l : from + n ≤ length il) (whole : from % 4 ≡ 0)
     (fits : length file < 2 ^ 64) (em : start ≡ in_word (part_byte (is_block shape.mode1 false) shape.width m)) (small : m < 2 ^ 64) where
   width_is : shape.width ≡ block_width shape.iids

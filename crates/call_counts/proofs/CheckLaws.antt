@@ -1,70 +1,33 @@
 -- Laws of the checks of counting, in order.
-use mathlib.Core.Path.{◌≡◌, sym, ap, subst, ◌∙◌}
-use mathlib.Core.Bool.{Bool, true, false}
+use mathlib.Core.Path.{◌≡◌, ap, subst, ◌∙◌}
+use mathlib.Core.Bool.{true}
 use mathlib.Core.List.{List, []}
-use mathlib.Core.Option.{none}
-use Prim.Native.Nat.{ℕ, ◌*◌, ◌<◌, ◌≤◌}
+use Rattle.std.specs.Prelude.{None}
+use Prim.Native.Nat.{ℕ, ◌*◌}
 use borrow.Author.Tests.{eqb-true}
 use lib.Dec.{eqb}
 use lib.IntN.{ℤ}
 use lib.ListN.{length}
-use Rattle.answer.specs.Answer.{Answer, done, refused, check, count_limit, is_done}
-use Rattle.answer.proofs.AnswerLaws.{check_passes, check_refuses, count_passes, count_refuses, check_done, count_done, heard, stays, before_later}
+use Rattle.answer.specs.Answer.{Answer, done, is_done}
+use Rattle.answer.proofs.AnswerLaws.{check_done, count_done, heard, before_later}
 use Rattle.blocks.specs.Block.{file_length}
 use Rattle.entries.specs.Entry.{first_bad}
-use Rattle.bed_file.specs.File.{is_mode1, items, blocks, check_file, accept_answer}
-use Rattle.bed_file.proofs.FileLaws.{accepted, accept_file, file_stage, file_length_law}
+use Rattle.bed_file.specs.File.{is_mode1, items, blocks}
+use Rattle.bed_file.proofs.FileLaws.{file_stage, file_length_law}
 use Rattle.calls.specs.declared.Shape.{Shape}
 use Rattle.calls.specs.Places.{IsShape}
 use Rattle.calls.proofs.PlaceLaws.{shape_read}
-use Rattle.bed_read.specs.Reading.{check_lists, lists_answer}
+use Rattle.bed_read.specs.Reading.{check_lists}
 use Rattle.bed_read.proofs.ReadLaws.{lists_done}
 use Rattle.call_counts.specs.Counts.{counts_answer}
 use Rattle.call_counts.specs.Private.{Ready}
-
-module _ (file : List ℕ) (iids sids : ℕ) (il sl : List ℤ) (size : ℕ) where
-  abbrev lists : Answer
-  lists = check_lists iids sids il sl (done [])
-
-  pub counts_first : count_limit < iids → refused 18 [] ≡ counts_answer file iids sids il sl size
-  unfolding counts_answer
-  counts_first h = sym (count_refuses iids _ h)
-
-  module _ (hi : iids ≤ count_limit) where
-    pub counts_second : count_limit < sids → refused 18 [] ≡ counts_answer file iids sids il sl size
-    unfolding counts_answer
-    counts_second h = sym (count_passes iids _ hi ∙ count_refuses sids _ h)
-
-    module _ (hs : sids ≤ count_limit) where
-      after_counts : counts_answer file iids sids il sl size ≡ check (eqb (4 * length sl) size) 15 (check_file file iids sids lists)
-      unfolding counts_answer
-      after_counts = count_passes iids _ hi ∙ count_passes sids _ hs
-
-      lists_counted : lists_answer iids sids il sl ≡ lists
-      unfolding lists_answer
-      lists_counted = count_passes iids _ hi ∙ count_passes sids _ hs
-
-      module _ (b : Bool) (e : b ≡ eqb (4 * length sl) size) where
-        pub counts_mismatch : b ≡ false → refused 15 [] ≡ counts_answer file iids sids il sl size
-        counts_mismatch f = sym (after_counts ∙ check_refuses (eqb (4 * length sl) size) 15 (check_file file iids sids lists) (sym e ∙ f))
-
-        module _ (t : b ≡ true) where
-          after_size : counts_answer file iids sids il sl size ≡ check_file file iids sids lists
-          after_size = after_counts ∙ check_passes (eqb (4 * length sl) size) 15 (check_file file iids sids lists) (sym e ∙ t)
-
-          pub counts_not_accepted : (n : ℕ) → refused n [] ≡ accept_answer file iids sids → refused n [] ≡ counts_answer file iids sids il sl size
-          counts_not_accepted n a =
-              sym (after_size ∙ stays (file_stage file iids sids) [] n [] (sym (a ∙ accept_file file iids sids hi hs)) lists)
-
-          pub counts_lists : (a : Answer) → done [] ≡ accept_answer file iids sids → a ≡ lists_answer iids sids il sl → a ≡ counts_answer file iids sids il sl size
-          counts_lists a d l = l ∙ lists_counted ∙ sym (after_size ∙ (accepted file iids sids (sym (ap is_done d))).heard_later lists)
 
 -- ---- what is known where counting is done
 pub record Countable (file : List ℕ) (iids sids : ℕ) (il sl : List ℤ) (size : ℕ) : Type 0 where
   pub size_is : 4 * length sl ≡ size
   pub length_is : length file ≡ file_length (items (is_mode1 file) iids sids) (blocks (is_mode1 file) iids sids)
-  pub iids_good : first_bad iids il ≡ none
-  pub sids_good : first_bad sids sl ≡ none
+  pub iids_good : first_bad iids il ≡ None
+  pub sids_good : first_bad sids sl ≡ None
 
 pub countable :
     (file : List ℕ) (iids sids : ℕ) (il sl : List ℤ) (size : ℕ) → is_done (counts_answer file iids sids il sl size) ≡ true

@@ -2,51 +2,24 @@
 use mathlib.Core.Path.{◌≡◌, sym, ap, subst, ◌∙◌}
 use mathlib.Core.Bool.{Bool, true, false, cond}
 use mathlib.Core.List.{List}
-use mathlib.Core.Option.{none}
+use Rattle.std.specs.Prelude.{None}
 use Prim.Native.Nat.{ℕ, ◌+◌, ◌-◌, ◌*◌, ◌/◌, ◌%◌, ◌^◌, ◌<◌, ◌≤◌}
 use native.Mathlib.Omega.{arith}
 use lib.IntN.{ℤ, pos}
-use lib.ListN.{length, get_or, set, length-set}
-use lib.Seq.{get_or-set_same, get_or-set_other}
-use Rattle.answer.proofs.Tests.{by_lt, by_test}
+use lib.ListN.{length, get_or}
+use Rattle.answer.proofs.Tests.{by_test}
 use Rattle.entries.specs.Entry.{first_bad, means}
 use Rattle.entries.proofs.EntryLaws.{means_below, all_good}
 use Rattle.codes.specs.Code.{code_at}
 use Rattle.calls.specs.declared.Part.{Part}
 use Rattle.calls.specs.declared.Shape.{Shape}
-use Rattle.calls.specs.Places.{Shaped, IsPart, is_block, part_byte, part_place, in_word}
+use Rattle.calls.specs.Places.{Shaped, IsPart, is_block, part_place}
 use Rattle.calls.proofs.PlaceLaws.{iid_byte_law, sid_byte_law, pair_byte, pair_place, pair_inside, pair_code}
+use Rattle.call_counts.specs.declared.run.RunParts.{RunParts}
 use Rattle.call_counts.specs.Counts.{code_named}
 use Rattle.call_counts.specs.Private.{Along, EntryParts, Inside, weight, tally_items, tally_parts, tally_named}
 use Rattle.call_counts.proofs.TallyLaws.{if_true, if_false, total_ext}
 use Rattle.call_counts.proofs.BlockLaws.{block_tally, block_inside}
-
--- ---- entries so far
-module _ (shape : Shape) (il : List ℤ) (from : ℕ) where
-  pub parts_none : (bytes places : List ℕ) → length bytes ≡ 2048 → length places ≡ 2048 → EntryParts shape il from 0 bytes places
-  parts_none bytes places b p = record { bytes_long = b; places_long = p; byte_is = λ k h. absurd (omega arith); place_is = λ k h. absurd (omega arith) }
-
-  one_more :
-      (f : ℕ → ℕ) (l : List ℕ) (n v : ℕ) → n < length l → ((k : ℕ) → k < n → get_or l k 0 ≡ f k) → v ≡ f n → (k : ℕ) → k < n + 1 → get_or (set l n v) k 0 ≡ f k
-  one_more f l n v h e s k b =
-      by_lt k n (λ c. get_or-set_other l n k v 0 (λ x. omega arith) ∙ e k c)
-      (λ c. let q : n ≡ k = omega arith in subst (λ (x : ℕ). get_or (set l n v) x 0 ≡ f x) q (get_or-set_same l n v 0 h ∙ s))
-
-  -- one entry more, which means the animal a
-  pub parts_more :
-      (n a : ℕ) (part : Part) (bytes places : List ℕ) → EntryParts shape il from n bytes places → n < 2048 → a ≡ means shape.iids (get_or il (from + n) (pos 0))
-      → IsPart (is_block shape.mode1 true) shape.width a part → EntryParts shape il from (n + 1) (set bytes n part.byte) (set places n part.place)
-  parts_more n a part bytes places r h e p =
-      record {
-        bytes_long = length-set bytes n part.byte ∙ r.bytes_long;
-        places_long = length-set places n part.place ∙ r.places_long;
-        byte_is =
-            one_more (λ k. in_word (part_byte (is_block shape.mode1 true) shape.width (means shape.iids (get_or il (from + k) (pos 0))))) bytes n part.byte
-            (let l = r.bytes_long in omega arith) r.byte_is (p.byte_is ∙ ap (λ (x : ℕ). in_word (part_byte (is_block shape.mode1 true) shape.width x)) e);
-        place_is =
-            one_more (λ k. part_place (is_block shape.mode1 true) (means shape.iids (get_or il (from + k) (pos 0)))) places n part.place
-            (let l = r.places_long in omega arith) r.place_is (p.place_is ∙ ap (part_place (is_block shape.mode1 true)) e);
-      }
 
 -- one of an animal and a marker is a block, which adds no place
 one_adds : (b : Bool) (x y : ℕ) → part_place (is_block b true) x + part_place (is_block b false) y < 4
@@ -55,53 +28,53 @@ one_adds true x y = omega arith
 one_adds false x y = omega arith
 
 -- ---- resolved entries at the marker m
-module _ (file : List ℕ) (shape : Shape) (sh : Shaped file shape) (fits : length file < 2 ^ 64) (il : List ℤ) (gi : first_bad shape.iids il ≡ none)
+module _ (file : List ℕ) (shape : Shape) (sh : Shaped file shape) (fits : length file < 2 ^ 64) (il : List ℤ) (gi : first_bad shape.iids il ≡ None)
     (m from n : ℕ) (hm : m < shape.sids) (small : m < 2 ^ 64) (few : shape.iids < 2 ^ 64) (l : from + n ≤ length il) (part : Part)
-    (pm : IsPart (is_block shape.mode1 false) shape.width m part) (bytes places : List ℕ) where
-  module _ (r : EntryParts shape il from n bytes places) where
+    (pm : IsPart (is_block shape.mode1 false) shape.width m part) (run : RunParts) where
+  module _ (r : EntryParts shape il from n run) where
     abbrev animal : ℕ → ℕ
     animal k = means shape.iids (get_or il (from + k) (pos 0))
 
     animal_below : (k : ℕ) → k < n → animal k < shape.iids
     animal_below k h = means_below shape.iids (get_or il (from + k) (pos 0)) (all_good shape.iids il (from + k) gi (omega arith))
 
-    byte_there : (k : ℕ) (h : k < n) → part.byte + get_or bytes k 0 ≡ pair_byte file shape sh (animal k) m (animal_below k h) hm
+    byte_there : (k : ℕ) (h : k < n) → part.byte + get_or run.bytes k 0 ≡ pair_byte file shape sh (animal k) m (animal_below k h) hm
     byte_there k h =
         let a = r.byte_is k h ∙ iid_byte_law file shape sh fits (animal k) (animal_below k h) (let b = animal_below k h in omega arith) in
         let s = pm.byte_is ∙ sid_byte_law file shape sh fits m hm small in
         omega (arith, a, s)
 
-    place_there : (k : ℕ) (h : k < n) → part.place + get_or places k 0 ≡ pair_place file shape sh (animal k) m (animal_below k h) hm
+    place_there : (k : ℕ) (h : k < n) → part.place + get_or run.places k 0 ≡ pair_place file shape sh (animal k) m (animal_below k h) hm
     place_there k h = let a = r.place_is k h in let s = pm.place_is in omega (arith, a, s)
 
-    pub parts_inside : Inside file part bytes places n
+    pub parts_inside : Inside file part run n
     parts_inside =
         record {
           byte_in = λ k h. subst (λ (x : ℕ). x < length file) (sym (byte_there k h)) (pair_inside file shape sh (animal k) m (animal_below k h) hm);
           place_in = λ k h. subst (λ (x : ℕ). x < 4) (sym (place_there k h)) (one_adds shape.mode1 (animal k) m);
         }
 
-    parts_code : (k : ℕ) → k < n → code_named file shape.iids shape.sids il m (from + k) ≡ code_at (get_or file (part.byte + get_or bytes k 0) 0) (part.place + get_or places k 0)
+    parts_code : (k : ℕ) → k < n → code_named file shape.iids shape.sids il m (from + k) ≡ code_at (get_or file (part.byte + get_or run.bytes k 0) 0) (part.place + get_or run.places k 0)
     unfolding code_named
     parts_code k h =
         sym
-        (ap (λ (x : ℕ). code_at (get_or file x 0) (part.place + get_or places k 0)) (byte_there k h)
+        (ap (λ (x : ℕ). code_at (get_or file x 0) (part.place + get_or run.places k 0)) (byte_there k h)
         ∙ ap (code_at (get_or file (pair_byte file shape sh (animal k) m (animal_below k h) hm) 0)) (place_there k h)
         ∙ pair_code file shape sh (animal k) m (animal_below k h) hm)
 
-    parts_tally : tally_parts file part bytes places n ≡ tally_named file shape.iids shape.sids il m from n
+    parts_tally : tally_parts file part run n ≡ tally_named file shape.iids shape.sids il m from n
     parts_tally = sym (total_ext weight _ _ n parts_code)
 
   -- ---- by whole bytes, or by resolved entries
-  module _ (along : Bool) (whole : from % 4 ≡ 0) (a : along ≡ true → Along shape il) (p : along ≡ false → EntryParts shape il from n bytes places × (n ≤ 2048)) where
+  module _ (along : Bool) (whole : from % 4 ≡ 0) (a : along ≡ true → Along shape il) (p : along ≡ false → EntryParts shape il from n run × (n ≤ 2048)) where
     pub run_block : along ≡ true → n ≤ 4 * (length file - (part.byte + from / 4))
     run_block t = block_inside file shape sh il gi (a t).0 (a t).1 m from n part.byte hm l whole fits pm.byte_is small
 
-    pub run_parts : along ≡ false → Inside file part bytes places n × (n ≤ 2048)
+    pub run_parts : along ≡ false → Inside file part run n × (n ≤ 2048)
     run_parts f = (parts_inside (p f).0, (p f).1)
 
     pub run_tally :
-        (r : ℕ) → r ≡ cond along (tally_items file (part.byte + from / 4) n) (tally_parts file part bytes places n)
+        (r : ℕ) → r ≡ cond along (tally_items file (part.byte + from / 4) n) (tally_parts file part run n)
         → r ≡ tally_named file shape.iids shape.sids il m from n
     run_tally r e = by_test along
         (λ t. block_tally file shape sh il gi (a t).0 (a t).1 m from n part.byte hm l whole fits pm.byte_is small r (e ∙ if_true along _ _ t))

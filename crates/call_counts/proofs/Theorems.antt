@@ -2,7 +2,7 @@
 use mathlib.Core.Path.{◌≡◌, refl, sym, ap, ◌∙◌}
 use mathlib.Core.Bool.{true}
 use mathlib.Core.List.{List, []}
-use mathlib.Core.Option.{Option, some, none}
+use Rattle.std.specs.Prelude.{Option, Some, None}
 use Prim.Native.Nat.{ℕ, ◌+◌, ◌*◌, ◌/◌, ◌%◌, ◌<◌, ◌≤◌}
 use native.Mathlib.Nat.{add-zero}
 use native.Mathlib.Omega.{arith}
@@ -29,7 +29,7 @@ module _ (file : List ℕ) (iids sids : ℕ) (il : List ℤ) where
   -- the four counts of a marker add up to the length of the animal list
   pub marker_adds_up :
       (m : ℕ)
-      → calls_with file iids sids il m (some 0) + calls_with file iids sids il m (some 1) + calls_with file iids sids il m (some 2) + calls_with file iids sids il m none
+      → calls_with file iids sids il m (Some 0) + calls_with file iids sids il m (Some 1) + calls_with file iids sids il m (Some 2) + calls_with file iids sids il m None
       ≡ length il
   unfolding calls_with counted
   marker_adds_up m = four_add (code_named file iids sids il m) (length il)
@@ -95,10 +95,10 @@ module _ (file : List ℕ) (iids sids : ℕ) (il : List ℤ) where
 -- in file order they add up to the animals
 pub file_order_adds_up :
     (file : List ℕ) (iids sids m : ℕ)
-    → calls_with file iids sids (file_order iids) m (some 0)
-    + calls_with file iids sids (file_order iids) m (some 1)
-    + calls_with file iids sids (file_order iids) m (some 2)
-    + calls_with file iids sids (file_order iids) m none
+    → calls_with file iids sids (file_order iids) m (Some 0)
+    + calls_with file iids sids (file_order iids) m (Some 1)
+    + calls_with file iids sids (file_order iids) m (Some 2)
+    + calls_with file iids sids (file_order iids) m None
     ≡ iids
 unfolding file_order
 file_order_adds_up file iids sids m = marker_adds_up file iids sids (file_order iids) m ∙ length_tabulate iids pos
@@ -120,7 +120,7 @@ module _ (f g : List ℕ) (iids sids : ℕ) (df : is_done (accept_answer f iids 
   pub agree_answer : (size : ℕ) → counts_answer f iids sids il sl size ≡ counts_answer g iids sids il sl size
   agree_answer size = counts_accepted f iids sids il sl size df ∙ sym (counts_accepted g iids sids il sl size dg)
 
-  same_counts : first_bad iids il ≡ none → first_bad sids sl ≡ none → new_counts f iids sids il sl ≡ new_counts g iids sids il sl
+  same_counts : first_bad iids il ≡ None → first_bad sids sl ≡ None → new_counts f iids sids il sl ≡ new_counts g iids sids il sl
   unfolding new_counts calls_with code_named
   same_counts gi gs =
       tabulate_ext (4 * length sl) _ _

@@ -1,6 +1,6 @@
 -- Counting the calls of the animals named, at each marker named.
 use Rattle.std.specs.Prelude.{◌≡◌, Bool, true, false, List, [], ℕ, zero, suc, ◌*◌, ◌/◌, ◌%◌, eqb, ℤ, pos, length, get_or}
-use Rattle.std.proofs.Math.Option.{Option, some, none}
+use Rattle.std.specs.Prelude.{Option, Some, None}
 use Rattle.answer.specs.Answer.{Answer, done, check, check_count, if_done}
 use Rattle.answer.specs.Lists.{tabulate, how_many}
 use Rattle.entries.specs.Entry.{means}
@@ -21,10 +21,10 @@ counts_answer file iids sids iid_list sid_list counts_length =
 
 -- whether two calls have the same number of copies of the first allele, or are both missing
 unfoldable pub same_copies : Option ℕ → Option ℕ → Bool
-same_copies none none = true
-same_copies none (some n) = false
-same_copies (some m) none = false
-same_copies (some m) (some n) = eqb m n
+same_copies None None = true
+same_copies None (Some n) = false
+same_copies (Some m) None = false
+same_copies (Some m) (Some n) = eqb m n
 
 -- the code of the animal that entry k of the animal list means, at marker m
 unfoldable pub code_named : List ℕ → ℕ → ℕ → List ℤ → ℕ → ℕ → ℕ
@@ -36,10 +36,10 @@ calls_with file iids sids iid_list m c = how_many (length iid_list) (λ k. same_
 
 -- "how many calls are 0, 1, 2 and missing", first allele counted: what is counted at each of a marker's four places
 unfoldable pub counted : ℕ → Option ℕ
-counted zero = some 0
-counted (suc zero) = some 1
-counted (suc (suc zero)) = some 2
-counted (suc (suc (suc j))) = none
+counted zero = Some 0
+counted (suc zero) = Some 1
+counted (suc (suc zero)) = Some 2
+counted (suc (suc (suc j))) = None
 
 -- "for each marker named .. four u64 a marker at 4m to 4m + 3", m being its place in the list: a repeated entry has its own four places
 unfoldable pub new_counts : List ℕ → ℕ → ℕ → List ℤ → List ℤ → List ℕ

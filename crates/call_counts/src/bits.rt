@@ -10,12 +10,6 @@ struct BitCounts {
     both: u64,
 }
 
-fn wide(count: u8) -> u64
-    ensures { result ≡ count }
-{
-    count as u64
-}
-
 // The sum of the four codes of a byte.
 fn sum_of_codes(byte: u8) -> u8
     ensures { result ≡ in_byte (λ code. code) byte }
@@ -53,18 +47,16 @@ fn count_row(file: &[u8], at: usize) -> BitCounts
     let mut low: u8 = 0;
     let mut high: u8 = 0;
     let mut both: u8 = 0;
-    let mut j = 0;
-    while j < 16 {
+    for j in 0..16 {
         let x = file[at + j];
         low = low + low_bits(x, 0, 0);
         high = high + high_bits(x, 0, 0);
         both = both + both_bits(x, 0, 0);
-        j += 1;
     }
     BitCounts {
-        low: wide(low),
-        high: wide(high),
-        both: wide(both),
+        low: u64::from(low),
+        high: u64::from(high),
+        both: u64::from(both),
     }
 }
 
@@ -76,20 +68,18 @@ fn count_three_rows(file: &[u8], at: usize) -> BitCounts
     let mut low: u8 = 0;
     let mut high: u8 = 0;
     let mut both: u8 = 0;
-    let mut j = 0;
-    while j < 16 {
+    for j in 0..16 {
         let x = file[at + j];
         let y = file[at + 16 + j];
         let z = file[at + 32 + j];
         low = low + low_bits(x, y, z);
         high = high + high_bits(x, y, z);
         both = both + both_bits(x, y, z);
-        j += 1;
     }
     BitCounts {
-        low: wide(low),
-        high: wide(high),
-        both: wide(both),
+        low: u64::from(low),
+        high: u64::from(high),
+        both: u64::from(both),
     }
 }
 
@@ -112,20 +102,18 @@ pub(crate) fn tally_rows(file: &[u8], start: usize, rows: usize) -> u64
     let mut low: u64 = 0;
     let mut high: u64 = 0;
     let mut both: u64 = 0;
-    let mut row = 0;
-    while row + 3 <= rows {
-        let bits = count_three_rows(file, start + 16 * row);
+    let triples = rows / 3;
+    for triple in 0..triples {
+        let bits = count_three_rows(file, start + 48 * triple);
         low = low + bits.low;
         high = high + bits.high;
         both = both + bits.both;
-        row += 3;
     }
-    while row < rows {
+    for row in 3 * triples..rows {
         let bits = count_row(file, start + 16 * row);
         low = low + bits.low;
         high = high + bits.high;
         both = both + bits.both;
-        row += 1;
     }
     tally_of((64 * rows) as u64, low, high, both)
 }

@@ -3,40 +3,29 @@
 
 ghost use Rattle.std.specs.Prelude.{◌≡◌, true, false, ℕ, ◌+◌, ◌*◌, ◌%◌, ◌<◌, ◌≤◌, length, get_or};
 ghost use Rattle.call_counts.specs.Counts.{CountsCalls};
-ghost use Rattle.call_counts.specs.Private.{Ready, InOrder, Along, EntryParts, code_weights, byte_tallies, count_at, CountedTo};
+ghost use Rattle.call_counts.specs.Private.{Ready, InOrder, Along, EntryParts, count_at, CountedTo};
 ghost use Rattle.bed_read.specs.Says.{read_says};
 
 mod bits;
-mod checks;
+mod run;
 mod table;
 mod tallies;
 
-use bed_read::ReadAnswer;
+use bed_read::ReadError;
 use calls::Shape;
-
-// All counts 0.
-fn clear(counts: &mut [u64])
-    ensures { (length counts.new ≡ length counts.old)
-        × ((p : ℕ) → p < length counts.old → get_or counts.new p 0 ≡ 0) }
-{
-    let mut i = 0;
-    while i < counts.len() {
-        counts[i] = 0;
-        i += 1;
-    }
-}
+use entries::{IidIndex, SidIndex};
+use run::RunParts;
+use table::TallyTable;
 
 // Whether the entries of the animal list mean 0, 1, 2 and so on.
 fn is_in_order(iid_count: usize, iid_index: &[i64]) -> bool
     ensures { result ≡ true → InOrder iid_count iid_index.now (length iid_index.now) }
 {
-    let mut k = 0;
-    while k < iid_index.len() {
-        let iid = entries::iid_of(iid_count, iid_index[k]);
+    for k in 0..iid_index.len() {
+        let iid: IidIndex = entries::item_of(iid_count, iid_index[k]);
         if iid.0 != k {
             return false;
         }
-        k += 1;
     }
     true
 }
@@ -45,10 +34,7 @@ fn is_in_order(iid_count: usize, iid_index: &[i64]) -> bool
 fn is_along(shape: Shape, iid_index: &[i64]) -> bool
     ensures { result ≡ true → Along shape iid_index.now }
 {
-    if shape.mode1 {
-        return is_in_order(shape.iids, iid_index);
-    }
-    false
+    shape.mode1 && is_in_order(shape.iids, iid_index)
 }
 
 // How many entries are tallied together: in order what a tally holds, in whole bytes, else as many as are resolved, fewer where each is a block.
@@ -69,32 +55,19 @@ fn run_length(from: usize, len: usize, limit: usize) -> usize
     requires { (from < len) × (0 < limit) }
     ensures { (0 < result) × (from + result ≤ len) × (result ≤ limit) × (from + result < len → result ≡ limit) }
 {
-    if len - from < limit {
-        return len - from;
-    }
-    limit
+    limit.min(len - from)
 }
 
 // What n entries of the animal list, from `from` on, add to where a call stands.
-fn resolve(
-    shape: Shape,
-    iid_index: &[i64],
-    from: usize,
-    n: usize,
-    bytes: &mut [usize; 2048],
-    places: &mut [u8; 2048],
-)
-    requires { (from + n ≤ length iid_index.now) × (n ≤ 2048) × (length bytes.old ≡ 2048) × (length places.old ≡ 2048) }
-    ensures { EntryParts shape iid_index.now from n bytes.new places.new }
+fn resolve(shape: Shape, iid_index: &[i64], from: usize, n: usize, run: &mut RunParts)
+    requires { (from + n ≤ length iid_index.now) × (n ≤ 2048) }
+    ensures { EntryParts shape iid_index.now from n run.new }
 {
-    let mut k = 0;
-    while k < n {
-        let at = from + k;
-        let iid = entries::iid_of(shape.iids, iid_index[at]);
-        let part = calls::iid_part(shape, iid);
-        bytes[k] = part.byte;
-        places[k] = part.place as u8;
-        k += 1;
+    for k in 0..n {
+        let iid: IidIndex = entries::item_of(shape.iids, iid_index[from + k]);
+        let part = calls::part_of(shape, iid);
+        run.bytes[k] = part.byte;
+        run.places[k] = part.place as u8;
     }
 }
 
@@ -105,17 +78,15 @@ fn resolve_run(
     along: bool,
     from: usize,
     n: usize,
-    bytes: &mut [usize; 2048],
-    places: &mut [u8; 2048],
+    run: &mut RunParts,
 )
-    requires { (from + n ≤ length iid_index.now) × (along ≡ false → n ≤ 2048) × (length bytes.old ≡ 2048) × (length places.old ≡ 2048) }
-    ensures { (along ≡ false → EntryParts shape iid_index.now from n bytes.new places.new)
-        × (length bytes.new ≡ 2048) × (length places.new ≡ 2048) }
+    requires { (from + n ≤ length iid_index.now) × (along ≡ false → n ≤ 2048) }
+    ensures { along ≡ false → EntryParts shape iid_index.now from n run.new }
 {
     if along {
         return;
     }
-    resolve(shape, iid_index, from, n, bytes, places);
+    resolve(shape, iid_index, from, n, run);
 }
 
 // Counts the n entries of the animal list from `from` on, at every marker named.
@@ -126,30 +97,25 @@ fn count_run(
     sid_index: &[i64],
     along: bool,
     from: usize,
-    bytes: &[usize; 2048],
-    places: &[u8; 2048],
+    run: &RunParts,
     n: usize,
-    table: &[u64; 256],
-    weights: &[u64; 4],
+    table: &TallyTable,
     counts: &mut [u64],
 )
     requires { Ready file.now shape iid_index.now sid_index.now
         × (from + n ≤ length iid_index.now) × (from % 4 ≡ 0) × (0 < n) × (n < 65536)
         × (along ≡ true → Along shape iid_index.now)
-        × (along ≡ false → EntryParts shape iid_index.now from n bytes.now places.now × (n ≤ 2048))
-        × (table.now ≡ byte_tallies) × (weights.now ≡ code_weights)
+        × (along ≡ false → EntryParts shape iid_index.now from n run.now × (n ≤ 2048))
         × CountedTo (count_at file.now shape.iids shape.sids iid_index.now sid_index.now) (4 * length sid_index.now) from counts.old }
     ensures { CountedTo (count_at file.now shape.iids shape.sids iid_index.now sid_index.now)
         (4 * length sid_index.now) (from + n) counts.new }
 {
     let first = from / 4;
-    let mut m = 0;
-    while m < sid_index.len() {
-        let sid = entries::sid_of(shape.sids, sid_index[m]);
-        let part = calls::sid_part(shape, sid);
-        let packed = tallies::tally_run(file, part, along, first, bytes, places, n, table, weights);
+    for m in 0..sid_index.len() {
+        let sid: SidIndex = entries::item_of(shape.sids, sid_index[m]);
+        let part = calls::part_of(shape, sid);
+        let packed = tallies::tally_run(file, part, along, first, run, n, table);
         tallies::add_tally(counts, 4 * m, packed);
-        m += 1;
     }
 }
 
@@ -159,22 +125,20 @@ fn count_all(file: &[u8], shape: Shape, iid_index: &[i64], sid_index: &[i64], co
     ensures { CountedTo (count_at file.now shape.iids shape.sids iid_index.now sid_index.now)
         (4 * length sid_index.now) (length iid_index.now) counts.new }
 {
-    let table = table::byte_tallies();
-    let weights = tallies::weights();
+    let table = TallyTable::new();
     let along = is_along(shape, iid_index);
     let limit = run_limit(shape.mode1, along);
-    let mut bytes = [0usize; 2048];
-    let mut places = [0u8; 2048];
-    clear(counts);
-    let mut from = 0;
-    while from < iid_index.len() {
+    let mut run = RunParts {
+        bytes: [0; 2048],
+        places: [0; 2048],
+    };
+    counts.fill(0);
+    for from in (0..iid_index.len()).step_by(limit) {
         let n = run_length(from, iid_index.len(), limit);
-        resolve_run(shape, iid_index, along, from, n, &mut bytes, &mut places);
+        resolve_run(shape, iid_index, along, from, n, &mut run);
         count_run(
-            file, shape, iid_index, sid_index, along, from, &bytes, &places, n, &table, &weights,
-            counts,
+            file, shape, iid_index, sid_index, along, from, &run, n, &table, counts,
         );
-        from += n;
     }
 }
 
@@ -186,21 +150,20 @@ pub fn count_calls(
     iid_index: &[i64],
     sid_index: &[i64],
     counts: &mut [u64],
-) -> ReadAnswer
+) -> Result<(), ReadError>
     ensures { CountsCalls file.now iid_count sid_count iid_index.now sid_index.now
         (read_says result) counts.old counts.new }
 {
-    let checked = checks::check_counts(
+    bed_read::check_read(
         file,
         iid_count,
         sid_count,
         iid_index,
         sid_index,
+        4,
         counts.len(),
-    );
-    if bed_read::is_done(checked) {
-        let shape = calls::shape_of(file, iid_count, sid_count);
-        count_all(file, shape, iid_index, sid_index, counts);
-    }
-    checked
+    )?;
+    let shape = calls::shape_of(file, iid_count, sid_count);
+    count_all(file, shape, iid_index, sid_index, counts);
+    Ok(())
 }

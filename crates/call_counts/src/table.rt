@@ -1,6 +1,7 @@
-// The table of tallies.
-ghost use Rattle.std.specs.Prelude.{◌≡◌};
-ghost use Rattle.call_counts.specs.Private.{byte_tallies};
+// What one code, and what the four codes of a byte, add to a tally.
+ghost use Rattle.std.specs.Prelude.{◌≡◌, ◌<◌};
+ghost use Rattle.codes.specs.Code.{code_at};
+ghost use Rattle.call_counts.specs.Private.{weight, code_weights, in_byte, byte_tallies};
 
 // The tally of the four codes of every byte.
 const TALLIES: [u64; 256] = [
@@ -262,8 +263,42 @@ const TALLIES: [u64; 256] = [
     4,
 ];
 
-pub(crate) fn byte_tallies() -> [u64; 256]
-    ensures { result ≡ byte_tallies }
+// The weights of the four codes.
+fn weights() -> [u64; 4]
+    ensures { result ≡ code_weights }
 {
-    TALLIES
+    [4294967296, 281474976710656, 65536, 1]
+}
+
+// The table of both, made once by whoever counts many calls.
+#[derive(Drop)]
+pub(crate) struct TallyTable {
+    tallies: [u64; 256],
+    weights: [u64; 4],
+    ghost are_tallies: { tallies ≡ byte_tallies },
+    ghost are_weights: { weights ≡ code_weights },
+}
+
+impl TallyTable {
+    pub(crate) fn new() -> TallyTable {
+        TallyTable {
+            tallies: TALLIES,
+            weights: weights(),
+        }
+    }
+
+    // The tally of the four codes of a byte.
+    pub(crate) fn tally_of_byte(&self, byte: u8) -> u64
+        ensures { result ≡ in_byte weight byte }
+    {
+        self.tallies[usize::from(byte)]
+    }
+
+    // The weight of the code at a place of a byte.
+    pub(crate) fn weight_at(&self, byte: u8, place: usize) -> u64
+        requires { place < 4 }
+        ensures { result ≡ weight (code_at byte place) }
+    {
+        self.weights[usize::from(byte >> (2 * place)) % 4]
+    }
 }

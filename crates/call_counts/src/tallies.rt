@@ -1,76 +1,38 @@
 // Tallies: the counts of a marker over a part of the animal list, in one number.
 ghost use Rattle.std.specs.Prelude.{◌≡◌, true, false, cond, ℕ, ◌+◌, ◌-◌, ◌*◌, ◌^◌, ◌<◌, ◌≤◌, length, get_or};
-ghost use Rattle.codes.specs.Code.{code_at};
-ghost use Rattle.call_counts.specs.Private.{Inside, weight, code_weights, byte_tallies, tally_items, tally_parts, in_tally, Added};
+ghost use Rattle.call_counts.specs.Private.{Inside, tally_items, tally_parts, in_tally, Added};
 
 use crate::bits;
+use crate::run::RunParts;
+use crate::table::TallyTable;
 use calls::Part;
 
-fn wide(byte: u8) -> usize
-    ensures { (result ≡ byte) × (result < 256) }
-{
-    byte as usize
-}
-
-// The weights of the four codes.
-pub(crate) fn weights() -> [u64; 4]
-    ensures { result ≡ code_weights }
-{
-    [4294967296, 281474976710656, 65536, 1]
-}
-
-// The weight of the code at a place of a byte of the file.
-fn weight_at(file: &[u8], byte: usize, place: usize, weights: &[u64; 4]) -> u64
-    requires { (byte < length file.now) × (place < 4) × (weights.now ≡ code_weights) }
-    ensures { result ≡ weight (code_at (get_or file.now byte 0) place) }
-{
-    let code = wide(file[byte] >> (2 * place)) % 4;
-    weights[code]
-}
-
 // The tally of the first n items of the block that starts at a byte: by rows of 16 bytes, then byte by byte, then the items of the last one; pads are not counted.
-fn tally_block(file: &[u8], start: usize, n: usize, table: &[u64; 256], weights: &[u64; 4]) -> u64
-    requires { (n ≤ 4 * (length file.now - start)) × (n < 65536) × (table.now ≡ byte_tallies) × (weights.now ≡ code_weights) }
+fn tally_block(file: &[u8], start: usize, n: usize, table: &TallyTable) -> u64
+    requires { (n ≤ 4 * (length file.now - start)) × (n < 65536) }
     ensures { result ≡ tally_items file.now start n }
 {
     let whole = n / 4;
     let rows = whole / 16;
     let mut sum = bits::tally_rows(file, start, rows);
-    let mut b = 16 * rows;
-    while b < whole {
-        let byte = wide(file[start + b]);
-        sum = sum + table[byte];
-        b += 1;
+    for b in 16 * rows..whole {
+        sum = sum + table.tally_of_byte(file[start + b]);
     }
-    let mut i = 4 * whole;
-    while i < n {
-        let more = weight_at(file, start + i / 4, i % 4, weights);
-        sum = sum + more;
-        i += 1;
+    for i in 4 * whole..n {
+        sum = sum + table.weight_at(file[start + i / 4], i % 4);
     }
     sum
 }
 
 // The tally of n resolved entries at a marker.
-fn tally_parts(
-    file: &[u8],
-    part: Part,
-    bytes: &[usize; 2048],
-    places: &[u8; 2048],
-    n: usize,
-    weights: &[u64; 4],
-) -> u64
-    requires { Inside file.now part bytes.now places.now n × (n ≤ 2048) × (weights.now ≡ code_weights) }
-    ensures { result ≡ tally_parts file.now part bytes.now places.now n }
+fn tally_parts(file: &[u8], part: Part, run: &RunParts, n: usize, table: &TallyTable) -> u64
+    requires { Inside file.now part run.now n × (n ≤ 2048) }
+    ensures { result ≡ tally_parts file.now part run.now n }
 {
-    let byte = part.byte;
-    let place = part.place;
     let mut sum: u64 = 0;
-    let mut k = 0;
-    while k < n {
-        let more = weight_at(file, byte + bytes[k], place + places[k] as usize, weights);
-        sum = sum + more;
-        k += 1;
+    for k in 0..n {
+        let byte = file[part.byte + run.bytes[k]];
+        sum = sum + table.weight_at(byte, part.place + usize::from(run.places[k]));
     }
     sum
 }
@@ -81,23 +43,20 @@ pub(crate) fn tally_run(
     part: Part,
     along: bool,
     first: usize,
-    bytes: &[usize; 2048],
-    places: &[u8; 2048],
+    run: &RunParts,
     n: usize,
-    table: &[u64; 256],
-    weights: &[u64; 4],
+    table: &TallyTable,
 ) -> u64
     requires { (along ≡ true → n ≤ 4 * (length file.now - (part.byte + first)))
-        × (along ≡ false → Inside file.now part bytes.now places.now n × (n ≤ 2048))
-        × (0 < n) × (n < 65536) × (table.now ≡ byte_tallies) × (weights.now ≡ code_weights) }
+        × (along ≡ false → Inside file.now part run.now n × (n ≤ 2048))
+        × (0 < n) × (n < 65536) }
     ensures { result ≡ cond along (tally_items file.now (part.byte + first) n)
-        (tally_parts file.now part bytes.now places.now n) }
+        (tally_parts file.now part run.now n) }
 {
     if along {
-        let start = part.byte + first;
-        return tally_block(file, start, n, table, weights);
+        return tally_block(file, part.byte + first, n, table);
     }
-    tally_parts(file, part, bytes, places, n, weights)
+    tally_parts(file, part, run, n, table)
 }
 
 // Adds the four counts of a tally to those from place `at` on.

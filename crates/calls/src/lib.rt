@@ -7,10 +7,10 @@ ghost use Rattle.bed_file.specs.File.{is_mode1};
 ghost use Rattle.calls.specs.Calls.{call_code};
 ghost use Rattle.calls.specs.Places.{IsShape, is_block, IsPart};
 
-use entries::{IidIndex, SidIndex};
+use entries::{IidIndex, Item, SidIndex};
 
 // How a file holds its calls: its mode, the width of a block, the counts of animals and markers.
-#[derive(Clone, Copy)]
+#[derive(Clone, Copy, Debug, PartialEq, Eq)]
 pub struct Shape {
     pub mode1: bool,
     pub width: usize,
@@ -19,7 +19,7 @@ pub struct Shape {
 }
 
 // What an animal or a marker adds to where a call stands: to the byte, and to the place in it.
-#[derive(Clone, Copy)]
+#[derive(Clone, Copy, Debug, PartialEq, Eq)]
 pub struct Part {
     pub byte: usize,
     pub place: usize,
@@ -28,27 +28,17 @@ pub struct Part {
 fn is_mode_1(file: &[u8]) -> bool
     ensures { result ≡ is_mode1 file.now }
 {
-    if file.len() < 3 {
-        return false;
-    }
-    file[2] == 1
+    file.len() > 2 && file[2] == 1
 }
 
 // The shape of a file for two counts.
 pub fn shape_of(file: &[u8], iid_count: usize, sid_count: usize) -> Shape
     ensures { IsShape file.now iid_count sid_count result }
 {
-    if is_mode_1(file) {
-        return Shape {
-            mode1: true,
-            width: blocks::block_width(iid_count),
-            iids: iid_count,
-            sids: sid_count,
-        };
-    }
+    let mode1 = is_mode_1(file);
     Shape {
-        mode1: false,
-        width: blocks::block_width(sid_count),
+        mode1,
+        width: blocks::block_width(if mode1 { iid_count } else { sid_count }),
         iids: iid_count,
         sids: sid_count,
     }
@@ -58,21 +48,18 @@ pub fn shape_of(file: &[u8], iid_count: usize, sid_count: usize) -> Shape
 fn item_part(item: usize) -> Part
     ensures { (result.byte ≡ item / 4) × (result.place ≡ item % 4) }
 {
-    let byte = item / 4;
-    let place = item % 4;
-    Part { byte, place }
+    Part {
+        byte: item / 4,
+        place: item % 4,
+    }
 }
 
 // Whether 64 bits hold the first byte of a block: no division where both numbers are below 2^32.
 fn start_fits(width: usize, block: usize) -> bool
     ensures { result ≡ leb (width * block) 18446744073709551612 }
 {
-    if width < 4294967296 {
-        if block < 4294967296 {
-            return true;
-        }
-    }
-    blocks::product_at_most(width, block, 18446744073709551612)
+    (width < 4294967296 && block < 4294967296)
+        || blocks::product_at_most(width, block, 18446744073709551612)
 }
 
 // What the number of a block adds: its first byte, or 2^64 − 1 if that passes 64 bits.
@@ -92,24 +79,14 @@ fn block_part(width: usize, block: usize) -> Part
     }
 }
 
-// An animal is an item of every block in mode 1, a block in mode 0.
-pub fn iid_part(shape: Shape, iid: IidIndex) -> Part
-    ensures { IsPart (is_block shape.mode1 true) shape.width iid.0 result }
+// An animal is an item of every block in mode 1, a block in mode 0; a marker is a block in mode 1, an item in mode 0.
+pub fn part_of<I: Item>(shape: Shape, item: I) -> Part
+    ensures { IsPart (is_block shape.mode1 I.is_animal) shape.width (I.number item) result }
 {
-    if shape.mode1 {
-        return item_part(iid.0);
+    if shape.mode1 == I::is_animal() {
+        return item_part(item.number());
     }
-    block_part(shape.width, iid.0)
-}
-
-// A marker is a block in mode 1, an item of every block in mode 0.
-pub fn sid_part(shape: Shape, sid: SidIndex) -> Part
-    ensures { IsPart (is_block shape.mode1 false) shape.width sid.0 result }
-{
-    if shape.mode1 {
-        return block_part(shape.width, sid.0);
-    }
-    item_part(sid.0)
+    block_part(shape.width, item.number())
 }
 
 // The code of an item of a block of `width` bytes; 0 if the block or the file has no such byte.

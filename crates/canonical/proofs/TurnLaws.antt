@@ -2,7 +2,7 @@
 use mathlib.Core.Path.{◌≡◌, refl, sym, ap, subst, ◌∙◌}
 use mathlib.Core.Bool.{Bool, true, false}
 use mathlib.Core.List.{List, [], ◌∷◌}
-use mathlib.Core.Option.{Option, some}
+use Rattle.std.specs.Prelude.{Option, Some}
 use Prim.Native.Nat.{ℕ, zero, suc, ◌+◌, ◌-◌, ◌*◌, ◌%◌, ◌^◌, ◌<◌}
 use native.Mathlib.Omega.{arith}
 use lib.ListN.{length, get_or}
@@ -106,7 +106,7 @@ module _ (file : List ℕ) (shape : Shape) (sh : Shaped file shape) (l : length 
   group_inside = record { byte_in = inside }
 
   abbrev code : ℕ → Option ℕ
-  code a = some (call_code file shape.iids shape.sids a m)
+  code a = Some (call_code file shape.iids shape.sids a m)
 
   same : (k : ℕ) → k < 4 → k < left → group_code file starts item k ≡ or_four (code (4 * b + k))
   unfolding or_four

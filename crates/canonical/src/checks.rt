@@ -1,36 +1,47 @@
 // The checks of the canonical call.
-ghost use Rattle.std.specs.Prelude.{◌≡◌};
-ghost use Rattle.answer.specs.Answer.{is_done};
+ghost use Rattle.std.specs.Prelude.{◌≡◌, []};
+ghost use Rattle.answer.specs.Answer.{refused};
+ghost use Rattle.blocks.specs.Says.{div_number};
+ghost use Rattle.bed_file.specs.Says.{file_number};
 ghost use Rattle.canonical.specs.Canonical.{canonical_answer};
 ghost use Rattle.canonical.specs.Private.{written_answer};
-ghost use Rattle.canonical.specs.Says.{canonical_says};
+ghost use Rattle.canonical.specs.Says.{canonical_number, canonical_says};
 
-use bed_file::{AcceptAnswer, FileFault};
-use blocks::DivAnswer;
+use bed_file::FileError;
+use blocks::DivError;
 
-#[derive(Clone, Copy)]
-pub enum CanonicalAnswer {
-    Done,
-    Refused(FileFault),
+// What the canonical call refuses: what the file is refused by, or 16.
+#[derive(Clone, Copy, Debug, PartialEq, Eq)]
+pub enum CanonicalError {
+    File(FileError),
     EncodingLength,
 }
 
+impl From<FileError> for CanonicalError {
+    ghost from_gives = { λ file error. file_number file ≡ canonical_number error };
+
+    fn from(error: FileError) -> CanonicalError {
+        CanonicalError::File(error)
+    }
+}
+
+impl From<DivError> for CanonicalError {
+    ghost from_gives = { λ size error. div_number size ≡ canonical_number error };
+
+    fn from(error: DivError) -> CanonicalError {
+        CanonicalError::File(FileError::from(error))
+    }
+}
+
 // The length to be written: 4, then 16.
-fn check_written(iid_count: usize, sid_count: usize, out_len: usize) -> CanonicalAnswer
+fn check_written(iid_count: usize, sid_count: usize, out_len: usize) -> Result<(), CanonicalError>
     ensures { canonical_says result ≡ written_answer iid_count sid_count out_len }
 {
-    match blocks::try_div_4(iid_count, sid_count) {
-        DivAnswer::CountTooLarge => CanonicalAnswer::Refused(FileFault::CountTooLarge),
-        DivAnswer::IndexesTooBigForFiles => CanonicalAnswer::Refused(
-            FileFault::IndexesTooBigForFiles,
-        ),
-        DivAnswer::Width(width) => {
-            if out_len == width * sid_count + 3 {
-                return CanonicalAnswer::Done;
-            }
-            CanonicalAnswer::EncodingLength
-        }
+    let width = blocks::try_div_4(iid_count, sid_count)?;
+    if out_len != width * sid_count + 3 {
+        return Err(CanonicalError::EncodingLength);
     }
+    Ok(())
 }
 
 // The reading's checks, then those of the length to be written.
@@ -39,21 +50,9 @@ pub(crate) fn check_canonical(
     iid_count: usize,
     sid_count: usize,
     out_len: usize,
-) -> CanonicalAnswer
+) -> Result<(), CanonicalError>
     ensures { canonical_says result ≡ canonical_answer file.now iid_count sid_count out_len }
 {
-    match bed_file::accept(file, iid_count, sid_count) {
-        AcceptAnswer::Accepted => check_written(iid_count, sid_count, out_len),
-        AcceptAnswer::Refused(fault) => CanonicalAnswer::Refused(fault),
-    }
-}
-
-pub(crate) fn is_done(answer: CanonicalAnswer) -> bool
-    ensures { result ≡ is_done (canonical_says answer) }
-{
-    match answer {
-        CanonicalAnswer::Done => true,
-        CanonicalAnswer::Refused(_) => false,
-        CanonicalAnswer::EncodingLength => false,
-    }
+    bed_file::accept(file, iid_count, sid_count)?;
+    check_written(iid_count, sid_count, out_len)
 }

@@ -11,16 +11,12 @@ fn kept_byte(byte: u8, left: usize) -> u8
     requires { 0 < left }
     ensures { result ≡ kept_byte left byte }
 {
-    if left > 3 {
-        return byte;
+    match left {
+        1 => byte % 4,
+        2 => byte % 16,
+        3 => byte % 64,
+        _ => byte,
     }
-    if left == 3 {
-        return byte % 64;
-    }
-    if left == 2 {
-        return byte % 16;
-    }
-    byte % 4
 }
 
 // The canonical file: block by block.
@@ -28,19 +24,11 @@ pub(crate) fn keep_blocks(file: &[u8], shape: Shape, out_width: usize, out: &mut
     requires { Begun file.now shape out_width out.old × (shape.mode1 ≡ true) }
     ensures { out.new ≡ canonical_file file.now shape.iids shape.sids }
 {
-    let iid_count = shape.iids;
-    let sid_count = shape.sids;
-    let mut m = 0;
-    while m < sid_count {
-        let start = calls::sid_part(shape, SidIndex(m)).byte;
+    for m in 0..shape.sids {
+        let start = calls::part_of(shape, SidIndex(m)).byte;
         let at = 3 + m * out_width;
-        let mut b = 0;
-        while b < out_width {
-            let from = start + b;
-            let to = at + b;
-            out[to] = kept_byte(file[from], iid_count - 4 * b);
-            b += 1;
+        for b in 0..out_width {
+            out[at + b] = kept_byte(file[start + b], shape.iids - 4 * b);
         }
-        m += 1;
     }
 }

@@ -3,7 +3,6 @@
 
 ghost use Rattle.std.specs.Prelude.{◌≡◌, ◌+◌, ◌*◌, length};
 ghost use Rattle.blocks.specs.Block.{block_width};
-ghost use Rattle.codes.specs.Code.{code_table};
 ghost use Rattle.calls.specs.Places.{Shaped};
 ghost use Rattle.canonical.specs.Canonical.{canonical_file, MakesCanonical};
 ghost use Rattle.canonical.specs.Says.{canonical_says};
@@ -13,12 +12,11 @@ mod kept;
 mod turned;
 
 use calls::Shape;
-pub use checks::CanonicalAnswer;
+pub use checks::CanonicalError;
 
 // The canonical file of an accepted one: the header, then the blocks.
-fn write_calls(file: &[u8], shape: Shape, out_width: usize, codes: &[u8; 1024], out: &mut [u8])
-    requires { Shaped file.now shape × (out_width ≡ block_width shape.iids) × (length out.old ≡ 3 + out_width * shape.sids)
-        × (codes.now ≡ code_table) }
+fn write_calls(file: &[u8], shape: Shape, out_width: usize, out: &mut [u8])
+    requires { Shaped file.now shape × (out_width ≡ block_width shape.iids) × (length out.old ≡ 3 + out_width * shape.sids) }
     ensures { out.new ≡ canonical_file file.now shape.iids shape.sids }
 {
     out[0] = 0x6C;
@@ -31,19 +29,21 @@ fn write_calls(file: &[u8], shape: Shape, out_width: usize, codes: &[u8; 1024], 
         kept::keep_blocks(file, shape, out_width, out);
         return;
     }
-    turned::turn_blocks(file, shape, out_width, codes, out);
+    turned::turn_blocks(file, shape, out_width, out);
 }
 
 // Writes the canonical file of a file, if it is accepted for the two counts.
-pub fn canonical(file: &[u8], iid_count: usize, sid_count: usize, out: &mut [u8]) -> CanonicalAnswer
+pub fn canonical(
+    file: &[u8],
+    iid_count: usize,
+    sid_count: usize,
+    out: &mut [u8],
+) -> Result<(), CanonicalError>
     ensures { MakesCanonical file.now iid_count sid_count (canonical_says result) out.old out.new }
 {
-    let checked = checks::check_canonical(file, iid_count, sid_count, out.len());
-    if checks::is_done(checked) {
-        let shape = calls::shape_of(file, iid_count, sid_count);
-        let out_width = blocks::block_width(iid_count);
-        let codes = codes::codes();
-        write_calls(file, shape, out_width, &codes, out);
-    }
-    checked
+    checks::check_canonical(file, iid_count, sid_count, out.len())?;
+    let shape = calls::shape_of(file, iid_count, sid_count);
+    let out_width = blocks::block_width(iid_count);
+    write_calls(file, shape, out_width, out);
+    Ok(())
 }

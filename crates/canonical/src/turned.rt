@@ -1,22 +1,15 @@
 // A file of mode 0: the calls of four animals at a marker are gathered into a byte.
 ghost use Rattle.std.specs.Prelude.{◌≡◌, false, ◌+◌, ◌-◌, ◌*◌, ◌<◌, ◌≤◌, length};
-ghost use Rattle.codes.specs.Code.{code_table};
 ghost use Rattle.bed_write.specs.Groups.{in_group};
 ghost use Rattle.canonical.specs.Canonical.{canonical_file};
 ghost use Rattle.canonical.specs.Private.{Begun, animal_start, Starts, code_there, group_code, GroupInside, four_byte};
 
 use calls::{Part, Shape};
-use codes::Group;
+use codes::{CodeTable, Group};
 use entries::{IidIndex, SidIndex};
 
 // "Pads are zero".
 const PAD: u8 = 0;
-
-fn wide(byte: u8) -> usize
-    ensures { (result ≡ byte) × (result < 256) }
-{
-    byte as usize
-}
 
 // The first byte of the block of animal `first` + k, if there is one.
 fn start_of(shape: Shape, first: usize, k: usize) -> usize
@@ -25,7 +18,7 @@ fn start_of(shape: Shape, first: usize, k: usize) -> usize
 {
     if k < shape.iids - first {
         let animal = first + k;
-        return calls::iid_part(shape, IidIndex(animal)).byte;
+        return calls::part_of(shape, IidIndex(animal)).byte;
     }
     0
 }
@@ -43,18 +36,16 @@ fn four_starts(shape: Shape, first: usize) -> [usize; 4]
 }
 
 // The code of an item of the block that starts there.
-fn code_there(file: &[u8], start: usize, item: Part, codes: &[u8; 1024]) -> u8
-    requires { (start + item.byte < length file.now) × (item.place < 4) × (codes.now ≡ code_table) }
+fn code_there(file: &[u8], start: usize, item: Part, codes: &CodeTable) -> u8
+    requires { (start + item.byte < length file.now) × (item.place < 4) }
     ensures { result ≡ code_there file.now start item }
 {
-    let byte = start + item.byte;
-    let at = wide(file[byte]) * 4 + item.place;
-    codes[at]
+    codes.code_of_item(file[start + item.byte], item.place)
 }
 
 // The same of animal k of a group, if it is one of the `left` animals there; else a pad.
-fn held_code(file: &[u8], start: usize, item: Part, left: usize, k: usize, codes: &[u8; 1024]) -> u8
-    requires { (k < left → start + item.byte < length file.now) × (item.place < 4) × (codes.now ≡ code_table) }
+fn held_code(file: &[u8], start: usize, item: Part, left: usize, k: usize, codes: &CodeTable) -> u8
+    requires { (k < left → start + item.byte < length file.now) × (item.place < 4) }
     ensures { result ≡ in_group left (λ _. code_there file.now start item) k }
 {
     if k < left {
@@ -64,8 +55,8 @@ fn held_code(file: &[u8], start: usize, item: Part, left: usize, k: usize, codes
 }
 
 // The byte of a group of four animals at one marker.
-fn turned_byte(file: &[u8], starts: &[usize; 4], item: Part, left: usize, codes: &[u8; 1024]) -> u8
-    requires { GroupInside file.now starts.now item left × (item.place < 4) × (codes.now ≡ code_table) }
+fn turned_byte(file: &[u8], starts: &[usize; 4], item: Part, left: usize, codes: &CodeTable) -> u8
+    requires { GroupInside file.now starts.now item left × (item.place < 4) }
     ensures { result ≡ four_byte (in_group left (group_code file.now starts.now item)) }
 {
     if left > 3 {
@@ -86,47 +77,25 @@ fn turned_byte(file: &[u8], starts: &[usize; 4], item: Part, left: usize, codes:
     })
 }
 
-// The end of the markers that are packed together from `from` on: 16, whose codes share four bytes of each block.
-fn tile_end(from: usize, sid_count: usize) -> usize
-    requires { from < sid_count }
-    ensures { (from < result) × (result ≤ sid_count) }
-{
-    if sid_count - from < 16 {
-        return sid_count;
-    }
-    from + 16
-}
+// How many markers are packed together: 16, whose codes share four bytes of each block.
+const TILE: usize = 16;
 
 // The canonical file: tile by tile, and in it four animals at a time.
-pub(crate) fn turn_blocks(
-    file: &[u8],
-    shape: Shape,
-    out_width: usize,
-    codes: &[u8; 1024],
-    out: &mut [u8],
-)
-    requires { Begun file.now shape out_width out.old × (shape.mode1 ≡ false) × (codes.now ≡ code_table) }
+pub(crate) fn turn_blocks(file: &[u8], shape: Shape, out_width: usize, out: &mut [u8])
+    requires { Begun file.now shape out_width out.old × (shape.mode1 ≡ false) }
     ensures { out.new ≡ canonical_file file.now shape.iids shape.sids }
 {
-    let iid_count = shape.iids;
-    let sid_count = shape.sids;
-    let mut from = 0;
-    while from < sid_count {
-        let until = tile_end(from, sid_count);
-        let mut b = 0;
-        while b < out_width {
+    let codes = CodeTable::new();
+    for from in (0..shape.sids).step_by(TILE) {
+        let until = from + TILE.min(shape.sids - from);
+        for b in 0..out_width {
             let first = 4 * b;
-            let left = iid_count - first;
+            let left = shape.iids - first;
             let starts = four_starts(shape, first);
-            let mut m = from;
-            while m < until {
-                let item = calls::sid_part(shape, SidIndex(m));
-                let at = 3 + m * out_width + b;
-                out[at] = turned_byte(file, &starts, item, left, codes);
-                m += 1;
+            for m in from..until {
+                let item = calls::part_of(shape, SidIndex(m));
+                out[3 + m * out_width + b] = turned_byte(file, &starts, item, left, &codes);
             }
-            b += 1;
         }
-        from = until;
     }
 }

@@ -59,7 +59,7 @@ pub decoding_is_plink : (block : List ℕ) (i : ℕ) → copies (item_code block
 decoding_is_plink block i = sym (first_by_code (item_code block i) (item_below block i)) ∙ ap copies_of_first (sym (genotype_code block i))
 
 -- The values: copies of the first allele with the flag, and of the second without.
-module _ (w : Width) (missing : w.Value) where
+module _ {V : Type 0} (w : Width V) (missing : V) where
   counted_by_code : (c : ℕ) → c < 4 → value_of w true missing c ≡ copies_value w missing (copies_of_first (by_code c))
   unfolding value_of by_code copies_of_first genotype_of copies_value
   counted_by_code zero h = refl

@@ -1,6 +1,6 @@
 -- Codes: where an item's two bits stand, the table of all of them, and a packed block.
 use Rattle.std.specs.Prelude.{List, ℕ, zero, suc, ◌+◌, ◌*◌, ◌/◌, ◌%◌, ◌^◌, length, get_or}
-use Rattle.std.proofs.Math.Option.{Option, some, none}
+use Rattle.std.specs.Prelude.{Option, Some, None}
 use Rattle.answer.specs.Lists.{tabulate}
 use Rattle.blocks.specs.Block.{block_width}
 
@@ -14,10 +14,10 @@ item_code block i = code_at (get_or block (i / 4) 0) (i % 4)
 
 -- "Codes: 0 two copies of the first allele, 1 missing, 2 one, 3 none."
 unfoldable pub copies : ℕ → Option ℕ
-copies zero = some 2
-copies (suc zero) = none
-copies (suc (suc zero)) = some 1
-copies (suc (suc (suc n))) = some 0
+copies zero = Some 2
+copies (suc zero) = None
+copies (suc (suc zero)) = Some 1
+copies (suc (suc (suc n))) = Some 0
 
 -- "A table of 1,024 entries gives the code for every byte and place.": place p of byte b at 4 × b + p
 unfoldable pub code_table : List ℕ

@@ -1,6 +1,6 @@
 -- The .bed block of the PLINK 1.9 format reference, in its own terms.
 use Rattle.std.specs.Prelude.{Bool, true, false, List, ℕ, zero, suc, ◌+◌, ◌*◌, ◌/◌, ◌%◌, ◌^◌, eqb, get_or}
-use Rattle.std.proofs.Math.Option.{Option, some, none}
+use Rattle.std.specs.Prelude.{Option, Some, None}
 use Rattle.codes.specs.Value.{Width}
 
 pub data Genotype : Type 0 where
@@ -28,20 +28,20 @@ plink_width samples = (samples + 3) / 4
 
 -- how many copies of the first allele a genotype has, and of the second, if it is not missing
 unfoldable pub copies_of_first : Genotype → Option ℕ
-copies_of_first homozygous_first = some 2
-copies_of_first missing = none
-copies_of_first heterozygous = some 1
-copies_of_first homozygous_second = some 0
+copies_of_first homozygous_first = Some 2
+copies_of_first missing = None
+copies_of_first heterozygous = Some 1
+copies_of_first homozygous_second = Some 0
 
 unfoldable pub copies_of_second : Genotype → Option ℕ
-copies_of_second homozygous_first = some 0
-copies_of_second missing = none
-copies_of_second heterozygous = some 1
-copies_of_second homozygous_second = some 2
+copies_of_second homozygous_first = Some 0
+copies_of_second missing = None
+copies_of_second heterozygous = Some 1
+copies_of_second homozygous_second = Some 2
 
 -- a number of copies as a value, and `missing` where there is none
-unfoldable pub copies_value : (w : Width) → w.Value → Option ℕ → w.Value
-copies_value w absent none = absent
-copies_value w absent (some zero) = w.zero
-copies_value w absent (some (suc zero)) = w.one
-copies_value w absent (some (suc (suc n))) = w.two
+unfoldable pub copies_value : {V : Type 0} (w : Width V) → V → Option ℕ → V
+copies_value w absent None = absent
+copies_value w absent (Some zero) = w.zero
+copies_value w absent (Some (suc zero)) = w.one
+copies_value w absent (Some (suc (suc n))) = w.two

@@ -6,5 +6,5 @@ mod table;
 mod values;
 
 pub use group::{Group, byte_of};
-pub use table::{code_of_item, codes};
-pub use values::{set_up_two_bits_to_value_f64, set_up_two_bits_to_value_i8};
+pub use table::{CodeTable, code_of_item};
+pub use values::{BedVal, set_up_two_bits_to_value};

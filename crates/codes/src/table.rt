@@ -39,23 +39,28 @@ const CODES: [u8; 1024] = [
 ];
 
 // The table, made once by whoever decodes many items.
-pub fn codes() -> [u8; 1024]
-    ensures { result ≡ code_table }
-{
-    CODES
+#[derive(Drop)]
+pub struct CodeTable {
+    codes: [u8; 1024],
+    ghost is_table: { codes ≡ code_table },
 }
 
-// The code of an item that stands in this byte.
+impl CodeTable {
+    pub fn new() -> CodeTable {
+        CodeTable { codes: CODES }
+    }
+
+    // The code of an item that stands in this byte.
+    pub fn code_of_item(&self, byte: u8, item: usize) -> u8
+        ensures { result ≡ code_at byte (item % 4) }
+    {
+        self.codes[usize::from(byte) * 4 + item % 4]
+    }
+}
+
+// The same, of one item.
 pub fn code_of_item(byte: u8, item: usize) -> u8
     ensures { result ≡ code_at byte (item % 4) }
 {
-    let table = codes();
-    let at = wide(byte) * 4 + item % 4;
-    table[at]
-}
-
-fn wide(byte: u8) -> usize
-    ensures { result ≡ byte }
-{
-    byte as usize
+    CodeTable::new().code_of_item(byte, item)
 }

@@ -33,7 +33,7 @@ module _ (file other : List ℕ) (iids sids : ℕ)
   answer_same n = read_accepted file iids sids iid_list sid_list n (ap is_done acc) ∙ sym (read_accepted other iids sids iid_list sid_list n (ap is_done acc'))
 
   -- the reading of a matrix, at every width
-  pub agree_read : (w : Width) (flag : Bool) (missing : w.Value) (order : Bool) (val : List w.Value)
+  pub agree_read : {V : Type 0} (w : Width V) (flag : Bool) (missing : V) (order : Bool) (val : List V)
       → (read_answer file iids sids iid_list sid_list (length val) ≡ read_answer other iids sids iid_list sid_list (length val))
       × (read_buffer w file iids sids flag iid_list sid_list missing order val ≡ read_buffer w other iids sids flag iid_list sid_list missing order val)
   unfolding read_buffer

@@ -3,7 +3,7 @@
 use mathlib.Core.Path.{◌≡◌, refl, sym, ap, subst, ◌∙◌}
 use mathlib.Core.Bool.{Bool, true, false, cond}
 use mathlib.Core.List.{List, [], ◌∷◌}
-use mathlib.Core.Option.{Option, some, none}
+use Rattle.std.specs.Prelude.{Option, Some, None}
 use Prim.Native.Nat.{ℕ, zero, suc, ◌*◌, ◌<◌, ◌≤◌}
 use native.Mathlib.Omega.{arith}
 use borrow.Author.Tests.{eq-eqb}
@@ -18,7 +18,9 @@ use Rattle.bed_read.specs.Reading.{check_lists, read_answer}
 use Rattle.bed_file.proofs.FileLaws.{file_other}
 use Rattle.bed_read.proofs.ReadLaws.{read_accepted}
 use Rattle.statistics.specs.declared.MarkerStats.{MarkerStats}
-use Rattle.statistics.specs.declared.MarkerStats.TheVariants.{Lent, Found, NoIndividuals, IllegalSnpMean}
+use Rattle.statistics.specs.declared.MarkerError.{MarkerError}
+use Rattle.statistics.specs.declared.MarkerError.TheVariants.{NoIndividuals, IllegalSnpMean}
+use Rattle.std.specs.Prelude.{Result, Ok, Err}
 use Rattle.statistics.specs.Statistics.{stats_per_marker}
 use Rattle.standardise.specs.Standardised.{marker_answer, markers_answer, found, lowest_refused}
 use Rattle.read_standardised.specs.Joined.{joined_checks, read_nan, joined_answer}
@@ -33,15 +35,15 @@ good_from count e es n g h (suc k) l = h k (omega arith)
 
 -- what is in an option that holds something
 held : ℤ → Option ℤ → ℤ
-held d none = d
-held d (some e) = e
+held d None = d
+held d (Some e) = e
 
-first_bad_at : (count : ℕ) (list : List ℤ) (e : ℤ) → first_bad count list ≡ some e → CarriesFirstBad count list (e ∷ [])
+first_bad_at : (count : ℕ) (list : List ℤ) (e : ℤ) → first_bad count list ≡ Some e → CarriesFirstBad count list (e ∷ [])
 unfolding first_bad held
 first_bad_at count [] e q = absurd (let r : ◌≡◌ {A = ℕ} 0 1 = cc in omega arith)
 first_bad_at count (x ∷ xs) e q = go (is_good count x) refl (first_bad_at count xs e) q
   where
-    go : (b : Bool) → is_good count x ≡ b → (first_bad count xs ≡ some e → CarriesFirstBad count xs (e ∷ [])) → cond b (first_bad count xs) (some x) ≡ some e
+    go : (b : Bool) → is_good count x ≡ b → (first_bad count xs ≡ Some e → CarriesFirstBad count xs (e ∷ [])) → cond b (first_bad count xs) (Some x) ≡ Some e
         → CarriesFirstBad count (x ∷ xs) (e ∷ [])
     go true g rest q =
         let r = rest q in
@@ -72,8 +74,8 @@ unfolding check_entry carried
 entry_own count list n later vs o e = go (first_bad count list) refl e
   where
     go : (b : Option ℤ) → first_bad count list ≡ b → check_entry b n later ≡ refused n vs → CarriesFirstBad count list vs
-    go none q e = absurd (o e)
-    go (some z) q e = subst (CarriesFirstBad count list) (ap carried e) (first_bad_at count list z q)
+    go None q e = absurd (o e)
+    go (Some z) q e = subst (CarriesFirstBad count list) (ap carried e) (first_bad_at count list z q)
 
 -- refused by 13 or more, if at all
 abbrev High : Answer → Type 0
@@ -118,14 +120,13 @@ unfolding if_done
 if_high (done vs) b ha hb = hb
 if_high (refused n vs) b ha hb = ha
 
-marker_high : (m : ℕ) (x : MarkerStats) → High (marker_answer m x)
+marker_high : (m : ℕ) (x : Result MarkerStats MarkerError) → High (marker_answer m x)
 unfolding marker_answer number
-marker_high m (Lent s) n vs e = done_high n vs e
-marker_high m (Found s observed) n vs e = done_high n vs e
-marker_high m NoIndividuals n vs e = let q : 13 ≡ n = ap number e in omega arith
-marker_high m IllegalSnpMean n vs e = let q : 14 ≡ n = ap number e in omega arith
+marker_high m (Ok s) n vs e = done_high n vs e
+marker_high m (Err NoIndividuals) n vs e = let q : 13 ≡ n = ap number e in omega arith
+marker_high m (Err IllegalSnpMean) n vs e = let q : 14 ≡ n = ap number e in omega arith
 
-markers_high : (stats : ℕ → MarkerStats) (n : ℕ) → High (markers_answer stats n)
+markers_high : (stats : ℕ → Result MarkerStats MarkerError) (n : ℕ) → High (markers_answer stats n)
 unfolding markers_answer
 markers_high stats zero = done_high
 markers_high stats (suc n) = if_high (markers_answer stats n) (marker_answer n (stats n)) (markers_high stats n) (marker_high n (stats n))
@@ -158,11 +159,11 @@ module _ (file : List ℕ) (iids sids : ℕ) (acc : IsAccepted file iids sids) (
         read_accepted file iids sids iid_list sid_list val_length (ap is_done acc)
         ∙ check_passes (eqb (length iid_list * length sid_list) val_length) 15 _ (eq-eqb (length iid_list * length sid_list) val_length for_15)
 
-    pub bad_animal : first_bad iids iid_list ≡ some e → read_answer file iids sids iid_list sid_list val_length ≡ refused 5 (e ∷ [])
+    pub bad_animal : first_bad iids iid_list ≡ Some e → read_answer file iids sids iid_list sid_list val_length ≡ refused 5 (e ∷ [])
     unfolding check_lists
     bad_animal b = read_left ∙ entry_refuses (first_bad iids iid_list) 5 _ e b
 
-    pub bad_marker : GoodList iids iid_list → first_bad sids sid_list ≡ some e → read_answer file iids sids iid_list sid_list val_length ≡ refused 6 (e ∷ [])
+    pub bad_marker : GoodList iids iid_list → first_bad sids sid_list ≡ Some e → read_answer file iids sids iid_list sid_list val_length ≡ refused 6 (e ∷ [])
     unfolding check_lists
     bad_marker g b = read_left ∙ entry_passes (first_bad iids iid_list) 5 _ g ∙ entry_refuses (first_bad sids sid_list) 6 _ e b
 
@@ -174,10 +175,10 @@ module _ (file : List ℕ) (iids sids : ℕ) (acc : IsAccepted file iids sids) (
         ∙ check_passes (eqb (length iid_list * length sid_list) (length val)) 15 _ (eq-eqb (length iid_list * length sid_list) (length val) len.for_15)
         ∙ check_passes (eqb (stats_per_marker * length sid_list) (length stats)) 17 _ (eq-eqb (stats_per_marker * length sid_list) (length stats) len.for_17)
 
-    pub joined_bad_animal : first_bad iids iid_list ≡ some e → joined_answer f file iids sids flag iid_list sid_list order val stats ≡ refused 5 (e ∷ [])
+    pub joined_bad_animal : first_bad iids iid_list ≡ Some e → joined_answer f file iids sids flag iid_list sid_list order val stats ≡ refused 5 (e ∷ [])
     unfolding joined_answer check_lists
     joined_bad_animal b = joined_left _ ∙ entry_refuses (first_bad iids iid_list) 5 _ e b
 
-    pub joined_bad_marker : GoodList iids iid_list → first_bad sids sid_list ≡ some e → joined_answer f file iids sids flag iid_list sid_list order val stats ≡ refused 6 (e ∷ [])
+    pub joined_bad_marker : GoodList iids iid_list → first_bad sids sid_list ≡ Some e → joined_answer f file iids sids flag iid_list sid_list order val stats ≡ refused 6 (e ∷ [])
     unfolding joined_answer check_lists
     joined_bad_marker g b = joined_left _ ∙ entry_passes (first_bad iids iid_list) 5 _ g ∙ entry_refuses (first_bad sids sid_list) 6 _ e b

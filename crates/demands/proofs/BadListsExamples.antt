@@ -2,7 +2,7 @@
 use mathlib.Core.Path.{◌≡◌, refl}
 use mathlib.Core.Bool.{Bool, true, false}
 use mathlib.Core.List.{List, [], ◌∷◌}
-use mathlib.Core.Option.{some}
+use Rattle.std.specs.Prelude.{Some}
 use Prim.Native.Nat.{ℕ, ◌*◌}
 use lib.IntN.{ℤ, pos}
 use lib.ListN.{length}
@@ -55,7 +55,7 @@ lengths false false = record { for_15 = refl; for_17 = refl }
 four_values : (a m : Bool) → length (animals a) * length (markers m) ≡ 4
 four_values a m = (lengths a m).for_15
 
-animal_5 : first_bad 5 (animals false) ≡ some (pos 5)
+animal_5 : first_bad 5 (animals false) ≡ Some (pos 5)
 unfolding first_bad is_good
 animal_5 = refl
 
@@ -63,7 +63,7 @@ animals_good : GoodList 5 (animals true)
 unfolding first_bad is_good
 animals_good = refl
 
-marker_2 : first_bad 2 (markers false) ≡ some (pos 2)
+marker_2 : first_bad 2 (markers false) ≡ Some (pos 2)
 unfolding first_bad is_good
 marker_2 = refl
 
@@ -106,7 +106,7 @@ module _ (mode1 : Bool) where
 
 -- ---- the two files, which agree: good and bad lists, at every width, in both orders and in every way
 module _ (a m : Bool) where
-  pub read_alike : (w : Width) (flag : Bool) (missing : w.Value) (order : Bool) (val : List w.Value)
+  pub read_alike : {V : Type 0} (w : Width V) (flag : Bool) (missing : V) (order : Bool) (val : List V)
       → (read_answer F 5 2 (animals a) (markers m) (length val) ≡ read_answer in_mode0 5 2 (animals a) (markers m) (length val))
       × (read_buffer w F 5 2 flag (animals a) (markers m) missing order val ≡ read_buffer w in_mode0 5 2 flag (animals a) (markers m) missing order val)
   read_alike = agree_read F in_mode0 5 2 (accepted true) (accepted false) modes_calls (animals a) (markers m)

@@ -2,7 +2,7 @@
 use mathlib.Core.Path.{◌≡◌, refl, sym, ap, ◌∙◌}
 use mathlib.Core.Bool.{Bool, true, false, cond, true≢false}
 use mathlib.Core.List.{List, []}
-use mathlib.Core.Option.{some, none}
+use Rattle.std.specs.Prelude.{Some, None}
 use Prim.Native.Nat.{ℕ, ◌-◌, ◌^◌, ◌<◌, ◌≤◌}
 use borrow.Author.Tests.{eqb-true, eqb-false}
 use lib.Dec.{eqb}
@@ -22,18 +22,18 @@ use Rattle.bed_write.proofs.FirstLaws.{zero_below, code_small}
 use Rattle.demands.proofs.WriteLaws.{codes_written}
 
 -- ---- the code that is written where a code was read: the code of its value
-unfoldable pub code_again : (w : Width) → Bool → w.Value → ℕ → ℕ
+unfoldable pub code_again : {V : Type 0} (w : Width V) → Bool → V → ℕ → ℕ
 unfolding or_zero
 code_again w flag missing code = or_zero (code_of w flag missing (value_of w flag missing code))
 
-missing_value : (w : Width) (flag : Bool) (missing : w.Value) → value_of w flag missing 1 ≡ missing
+missing_value : {V : Type 0} (w : Width V) (flag : Bool) (missing : V) → value_of w flag missing 1 ≡ missing
 unfolding value_of values
 missing_value w true missing = refl
 missing_value w false missing = refl
 
 -- tests of which the last passes find a code
 by_tests_law : (a b c d : Bool) (x y : ℕ) → d ≡ true
-    → cond a (some x) (cond b (some 2) (cond c (some y) (cond d (some 1) none))) ≡ some (or_zero (cond a (some x) (cond b (some 2) (cond c (some y) (cond d (some 1) none)))))
+    → cond a (Some x) (cond b (Some 2) (cond c (Some y) (cond d (Some 1) None))) ≡ Some (or_zero (cond a (Some x) (cond b (Some 2) (cond c (Some y) (cond d (Some 1) None)))))
 unfolding or_zero
 by_tests_law true b c d x y e = refl
 by_tests_law false true c d x y e = refl
@@ -41,7 +41,7 @@ by_tests_law false false true d x y e = refl
 by_tests_law false false false true x y e = refl
 by_tests_law false false false false x y e = absurd (true≢false (sym e))
 
-module _ (w : Width) (n : Numbers w) (flag : Bool) (missing : w.Value) where
+module _ {V : Type 0} (w : Width V) (n : Numbers w) (flag : Bool) (missing : V) where
   abbrev again : ℕ → ℕ
   again = code_again w flag missing
 
@@ -68,24 +68,24 @@ module _ (w : Width) (n : Numbers w) (flag : Bool) (missing : w.Value) where
       (λ t. number_again (again code) (again_below code) (eqb-false (again code) 1 t))
 
   -- every value that is read has a code: missing too, since it is missing if it is no number
-  missing_coded : code_of w flag missing (value_of w flag missing 1) ≡ some (again 1)
+  missing_coded : code_of w flag missing (value_of w flag missing 1) ≡ Some (again 1)
   unfolding code_again code_of or_zero
   missing_coded =
-      ap (λ (v : w.Value). code_of w flag missing v) (missing_value w flag missing)
+      ap (λ (v : V). code_of w flag missing v) (missing_value w flag missing)
       ∙ by_tests_law (w.same missing w.zero) (w.same missing w.one) (w.same missing w.two) (same_or_nan w missing missing) (cond flag 3 0) (cond flag 0 3) (self_same w missing)
-      ∙ ap (λ (v : w.Value). some (or_zero (code_of w flag missing v))) (sym (missing_value w flag missing))
+      ∙ ap (λ (v : V). Some (or_zero (code_of w flag missing v))) (sym (missing_value w flag missing))
 
-  has_code : (code : ℕ) → code < 4 → code_of w flag missing (value_of w flag missing code) ≡ some (again code)
+  has_code : (code : ℕ) → code < 4 → code_of w flag missing (value_of w flag missing code) ≡ Some (again code)
   has_code code h =
       by_test (eqb code 1)
-      (λ t. let one = eqb-true code 1 t in ap (λ (c : ℕ). code_of w flag missing (value_of w flag missing c)) one ∙ missing_coded ∙ ap (λ (c : ℕ). some (again c)) (sym one))
-      (λ t. let o = eqb-false code 1 t in number_back w n flag missing code h o ∙ ap some (sym (number_again code h o)))
+      (λ t. let one = eqb-true code 1 t in ap (λ (c : ℕ). code_of w flag missing (value_of w flag missing c)) one ∙ missing_coded ∙ ap (λ (c : ℕ). Some (again c)) (sym one))
+      (λ t. let o = eqb-false code 1 t in number_back w n flag missing code h o ∙ ap Some (sym (number_again code h o)))
 
-module _ (w : Width) (numbers : Numbers w) (flag : Bool) (missing : w.Value) (order : Bool)
-    (file : List ℕ) (iids sids : ℕ) (il sl : List ℤ) (val : List w.Value) (d : is_done (read_answer file iids sids il sl (length val)) ≡ true)
+module _ {V : Type 0} (w : Width V) (numbers : Numbers w) (flag : Bool) (missing : V) (order : Bool)
+    (file : List ℕ) (iids sids : ℕ) (il sl : List ℤ) (val : List V) (d : is_done (read_answer file iids sids il sl (length val)) ≡ true)
     -- lists of n and s entries
     (n s : ℕ) (li : length il ≡ n) (ls : length sl ≡ s) where
-  abbrev read : List w.Value
+  abbrev read : List V
   read = read_buffer w file iids sids flag il sl missing order val
 
   abbrev written : ℕ → ℕ → ℕ
@@ -94,10 +94,10 @@ module _ (w : Width) (numbers : Numbers w) (flag : Bool) (missing : w.Value) (or
   is_read : read ≡ values_read w flag missing order file iids sids il sl
   is_read = buffer_values w file iids sids flag il sl missing order val d
 
-  coded : (k m : ℕ) → k < n → m < s → value_code w flag missing order n s read k m ≡ some (written k m)
+  coded : (k m : ℕ) → k < n → m < s → value_code w flag missing order n s read k m ≡ Some (written k m)
   unfolding value_code place_code
   coded k m hk hm =
-      ap (λ (l : List w.Value). code_of w flag missing (get_or l (matrix_place order n s k m) missing)) is_read
+      ap (λ (l : List V). code_of w flag missing (get_or l (matrix_place order n s k m) missing)) is_read
       ∙ ap (code_of w flag missing) (read_cell w flag missing order file iids sids il sl n s li ls missing k m hk hm)
       ∙ has_code w numbers flag missing (read_code file iids sids il sl k m) (read_below file iids sids il sl k m)
 

@@ -3,7 +3,7 @@
 use mathlib.Core.Path.{◌≡◌, refl, sym, ap, subst, ◌∙◌}
 use mathlib.Core.Bool.{true}
 use mathlib.Core.List.{List, [], map}
-use mathlib.Core.Option.{Option}
+use Rattle.std.specs.Prelude.{Option}
 use Prim.Native.Nat.{ℕ, ◌-◌, ◌^◌, ◌<◌, ◌≤◌}
 use lib.IntN.{ℤ, pos}
 use lib.ListN.{length, get_or, length-map}
@@ -35,7 +35,7 @@ module _ (file : List ℕ) (iids sids : ℕ) (il sl : List ℤ) (c : Cut) where
   abbrev codes_left : ℕ → ℕ → ℕ
   codes_left k m = code_left c (read_code file iids sids il sl k m)
 
-  abbrev code : List c.width.Value → ℕ → ℕ → Option ℕ
+  abbrev code : List c.Value → ℕ → ℕ → Option ℕ
   code = value_code c.width c.flag c.missing c.order (length il) (length sl)
 
   -- ---- a cut that is not refused
@@ -56,7 +56,7 @@ module _ (file : List ℕ) (iids sids : ℕ) (il sl : List ℤ) (c : Cut) where
     left_codes n =
         let p = cut_passed in
         l.is_written.1
-        ∙ ap (λ (v : List c.width.Value). write_buffer (length il) (length sl) (code v) (length v) c.out) l.is_read.1
+        ∙ ap (λ (v : List c.Value). write_buffer (length il) (length sl) (code v) (length v) c.out) l.is_read.1
         ∙ (read_is_written c.width n c.flag c.missing c.order file iids sids il sl c.val read_done (length il) (length sl) refl refl
         p.iids_fit p.sids_fit p.file_fits c.out p.out_long).1
 

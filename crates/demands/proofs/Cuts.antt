@@ -89,7 +89,7 @@ module _ (flag₁ flag₂ flag₃ order₁ order₂ order₃ : Bool) (out₁ out
 
 -- ---- cuts under one flag and one missing value, whatever it is: 0, 1 and 2 too
 pub cut_of_cut_alike :
-    (w : Width) → Numbers w → (flag : Bool) (missing : w.Value) (order₁ order₂ order₃ : Bool) (val₁ val₂ val₃ : List w.Value) (out₁ out₂ out₃ : List ℕ)
+    {V : Type 0} (w : Width V) → Numbers w → (flag : Bool) (missing : V) (order₁ order₂ order₃ : Bool) (val₁ val₂ val₃ : List V) (out₁ out₂ out₃ : List ℕ)
     → GivesOneCut composed (cut_at w flag missing order₁ val₁ out₁) (cut_at w flag missing order₂ val₂ out₂) (cut_at w flag missing order₃ val₃ out₃)
 cut_of_cut_alike w n flag missing order₁ order₂ order₃ val₁ val₂ val₃ out₁ out₂ out₃ =
     by_composed (cut_at w flag missing order₁ val₁ out₁) (cut_at w flag missing order₂ val₂ out₂) (cut_at w flag missing order₃ val₃ out₃) n n n (again_twice w n flag missing)

@@ -22,10 +22,12 @@ use Rattle.product.specs.Piece.{piece_of, ata_entry, aat_entry, ata_answer, ata_
 use Rattle.root.specs.Root.{count, IsRoot, root}
 use Rattle.root.proofs.Roots.{root_only}
 use Rattle.statistics.specs.declared.MarkerStats.{MarkerStats}
-use Rattle.statistics.specs.declared.MarkerStats.TheVariants.{Found}
+use Rattle.statistics.specs.declared.MarkerError.{MarkerError}
+use Rattle.statistics.specs.Statistics.{found_with}
+use Rattle.std.specs.Prelude.{Result, Ok}
 use Rattle.statistics.specs.Statistics.{plus_zero, one, counted, accumulated, mean, variance, deviation, stats_of, no_value, marker_stats, found_for, is_infinite, standardised}
 use Rattle.statistics.specs.Calls.{two}
-use Rattle.standardise.specs.Standardised.{marker_answer, markers_answer, kept_or_new, applied, value, found, lowest_refused, standardise_answer, new_stats, may_change, new_values, later_stats, later_values}
+use Rattle.standardise.specs.Standardised.{marker_answer, markers_answer, kept_or_new, lent_or_new, applied, value, found, lowest_refused, standardise_answer, new_stats, may_change, new_values, later_stats, later_values}
 
 -- ---- columns, in either order: a matrix of one marker
 abbrev pub old_stats : List Float
@@ -42,14 +44,14 @@ root_one = sym (root_only binary64 one one tt tt is_root)
     is_root = record { positive_finite = tt; above_lower = lit< tt; below_upper_law = lit< tt }
 
 -- a mean with the deviation that a root gives, and an observed count
-abbrev pub by_root : Float → Float → Float → MarkerStats
-by_root m observed s = Found (record { mean = m; deviation = cond (is_nan s || le s plus_zero) (inf false) s }) observed
+abbrev pub by_root : Float → Float → Float → Result MarkerStats MarkerError
+by_root m observed s = Ok (found_with (record { mean = m; deviation = cond (is_nan s || le s plus_zero) (inf false) s }) observed)
 
 -- "Column 0, 2, NaN: mean 1, deviation 1, values −1, 1, +0."
 abbrev pub zero_two_nan : List Float
 zero_two_nan = plus_zero ∷ two ∷ nan ∷ []
 
-zero_two_found : (order : Bool) → found binary64 order 3 1 zero_two_nan false old_stats 0 ≡ Found (record { mean = one; deviation = one }) two
+zero_two_found : (order : Bool) → found binary64 order 3 1 zero_two_nan false old_stats 0 ≡ Ok (found_with (record { mean = one; deviation = one }) two)
 unfolding found found_for marker_stats no_value accumulated counted stats_of mean deviation variance value matrix_place is_nan add sub mul div neg le lt eq
 zero_two_found true = ap (by_root one two) root_one
 zero_two_found false = ap (by_root one two) root_one
@@ -59,7 +61,7 @@ unfolding standardise_answer lowest_refused markers_answer marker_answer
 zero_two_answer order = rw (zero_two_found order)
 
 pub zero_two_stats : (order : Bool) → later_stats binary64 order 3 1 zero_two_nan false old_stats ≡ one ∷ one ∷ two ∷ []
-unfolding later_stats new_stats kept_or_new matrix tabulate
+unfolding later_stats new_stats kept_or_new lent_or_new matrix tabulate
 zero_two_stats order = rw (zero_two_found order)
 
 pub zero_two_values : (order : Bool) → later_values binary64 order 3 1 zero_two_nan false old_stats true ≡ minus_one ∷ one ∷ plus_zero ∷ []
@@ -71,7 +73,7 @@ zero_two_values false = rw (zero_two_found false)
 abbrev pub one_one : List Float
 one_one = one ∷ one ∷ []
 
-one_one_found : (order : Bool) → found binary64 order 2 1 one_one false old_stats 0 ≡ Found (record { mean = one; deviation = inf false }) two
+one_one_found : (order : Bool) → found binary64 order 2 1 one_one false old_stats 0 ≡ Ok (found_with (record { mean = one; deviation = inf false }) two)
 unfolding found found_for marker_stats no_value accumulated counted stats_of mean deviation variance root value matrix_place is_nan add sub mul div neg le lt eq
 one_one_found true = refl
 one_one_found false = refl
@@ -81,7 +83,7 @@ unfolding standardise_answer lowest_refused markers_answer marker_answer
 one_one_answer order = rw (one_one_found order)
 
 pub one_one_stats : (order : Bool) → later_stats binary64 order 2 1 one_one false old_stats ≡ one ∷ inf false ∷ two ∷ []
-unfolding later_stats new_stats kept_or_new matrix tabulate
+unfolding later_stats new_stats kept_or_new lent_or_new matrix tabulate
 one_one_stats order = rw (one_one_found order)
 
 pub one_one_values : (order : Bool) → later_values binary64 order 2 1 one_one false old_stats true ≡ plus_zero ∷ plus_zero ∷ []
@@ -103,7 +105,7 @@ root_least = sym (root_only binary64 (fin false 1 (negsuc 1073)) small tt tt is_
     is_root : IsRoot binary64 (fin false 1 (negsuc 1073)) small
     is_root = record { positive_finite = tt; above_lower = lit< tt; below_upper_law = lit< tt }
 
-least_found : (order : Bool) → found binary64 order 2 1 least_variance false old_stats 0 ≡ Found (record { mean = plus_zero; deviation = small }) two
+least_found : (order : Bool) → found binary64 order 2 1 least_variance false old_stats 0 ≡ Ok (found_with (record { mean = plus_zero; deviation = small }) two)
 unfolding found found_for marker_stats no_value accumulated counted stats_of mean deviation variance value matrix_place is_nan add sub mul div neg le lt eq
 least_found true = ap (by_root plus_zero two) root_least
 least_found false = ap (by_root plus_zero two) root_least
@@ -113,7 +115,7 @@ unfolding standardise_answer lowest_refused markers_answer marker_answer
 least_answer order = rw (least_found order)
 
 pub least_stats : (order : Bool) → later_stats binary64 order 2 1 least_variance false old_stats ≡ plus_zero ∷ small ∷ two ∷ []
-unfolding later_stats new_stats kept_or_new matrix tabulate
+unfolding later_stats new_stats kept_or_new lent_or_new matrix tabulate
 least_stats order = rw (least_found order)
 
 pub least_values : (order : Bool) → later_values binary64 order 2 1 least_variance false old_stats true ≡ one ∷ minus_one ∷ []
@@ -174,13 +176,13 @@ abbrev in_order : List ℤ
 in_order = pos 0 ∷ pos 1 ∷ []
 
 -- "in marker order (a marker's values adjacent) or animal order", from either mode
-pub read_in_animal_order : (mode1 : Bool) (w : Width) (missing : w.Value)
+pub read_in_animal_order : (mode1 : Bool) {V : Type 0} (w : Width V) (missing : V)
     → read_buffer w (two_by_two mode1) 2 2 true second_first in_order missing true (missing ∷ missing ∷ missing ∷ missing ∷ []) ≡ w.one ∷ missing ∷ w.two ∷ w.zero ∷ []
 unfolding read_buffer read_answer is_mode1 items blocks block_width first_bad is_good means values_read codes_read matrix tabulate read_code call_code code_in block item_code code_at value_of values if_done
 read_in_animal_order true w missing = refl
 read_in_animal_order false w missing = refl
 
-pub read_in_marker_order : (mode1 : Bool) (w : Width) (missing : w.Value)
+pub read_in_marker_order : (mode1 : Bool) {V : Type 0} (w : Width V) (missing : V)
     → read_buffer w (two_by_two mode1) 2 2 true second_first in_order missing false (missing ∷ missing ∷ missing ∷ missing ∷ []) ≡ w.one ∷ w.two ∷ missing ∷ w.zero ∷ []
 unfolding read_buffer read_answer is_mode1 items blocks block_width first_bad is_good means values_read codes_read matrix tabulate read_code call_code code_in block item_code code_at value_of values if_done
 read_in_marker_order true w missing = refl

@@ -3,7 +3,7 @@
 use mathlib.Core.Path.{◌≡◌, refl, sym, ap, ◌∙◌}
 use mathlib.Core.Bool.{Bool, true, false, cond}
 use mathlib.Core.List.{List}
-use mathlib.Core.Option.{Option, some}
+use Rattle.std.specs.Prelude.{Option, Some}
 use Prim.Native.Nat.{ℕ, zero, suc, ◌+◌, ◌*◌, ◌^◌, ◌<◌, ◌≤◌}
 use native.Mathlib.Omega.{arith}
 use lib.Dec.{eqb}
@@ -35,7 +35,7 @@ use Rattle.demands.proofs.SideLaws.{is_read, right_17}
 abbrev hit : Option ℕ → ℕ → ℕ
 hit c code = cond (same_copies c (copies code)) 1 0
 
-not_missing : (code : ℕ) → hit (some 0) code + hit (some 1) code + hit (some 2) code ≡ cond (eqb code 1) 0 1
+not_missing : (code : ℕ) → hit (Some 0) code + hit (Some 1) code + hit (Some 2) code ≡ cond (eqb code 1) 0 1
 unfolding same_copies copies
 not_missing zero = refl
 not_missing (suc zero) = refl
@@ -45,13 +45,13 @@ not_missing (suc (suc (suc n))) = ap (λ (b : Bool). cond b 0 1) (sym (ne_eqb (s
 abbrev many : Option ℕ → (ℕ → ℕ) → ℕ → ℕ
 many c code n = how_many n (λ k. same_copies c (copies (code k)))
 
-all_not_missing : (code : ℕ → ℕ) (n : ℕ) → many (some 0) code n + many (some 1) code n + many (some 2) code n ≡ total (λ k. cond (eqb (code k) 1) 0 1) n
+all_not_missing : (code : ℕ → ℕ) (n : ℕ) → many (Some 0) code n + many (Some 1) code n + many (Some 2) code n ≡ total (λ k. cond (eqb (code k) 1) 0 1) n
 unfolding how_many total
 all_not_missing code zero = refl
 all_not_missing code (suc n) = let r = all_not_missing code n in let o = not_missing (code n) in omega arith
 
 pub counts_observed : (file : List ℕ) (iids sids : ℕ) (il sl : List ℤ) (m : ℕ)
-    → calls_with file iids sids il (meant sids sl m) (some 0) + calls_with file iids sids il (meant sids sl m) (some 1) + calls_with file iids sids il (meant sids sl m) (some 2)
+    → calls_with file iids sids il (meant sids sl m) (Some 0) + calls_with file iids sids il (meant sids sl m) (Some 1) + calls_with file iids sids il (meant sids sl m) (Some 2)
     ≡ calls_observed file iids sids il sl m
 unfolding calls_with code_named calls_observed meant
 counts_observed file iids sids il sl m = all_not_missing (λ k. call_code file iids sids (means iids (get_or il k (pos 0))) (means sids (get_or sl m (pos 0)))) (length il)

@@ -3,7 +3,7 @@
 use mathlib.Core.Path.{◌≡◌, refl}
 use mathlib.Core.Bool.{Bool, true, false}
 use mathlib.Core.List.{List, [], ◌∷◌}
-use mathlib.Core.Option.{Option}
+use Rattle.std.specs.Prelude.{Option, Some}
 use Prim.Native.Nat.{ℕ, ◌+◌, ◌*◌, ◌-◌, ◌^◌}
 use lib.IntN.{ℤ, pos, negsuc}
 use lib.Ieee.{Float, nan, Format, is_nan}
@@ -16,9 +16,8 @@ use Rattle.answer.specs.Matrix.{matrix_place, matrix}
 use Rattle.codes.specs.Value.{i8, same_int, same_or_nan, values, value_of, code_of}
 use Rattle.index.specs.declared.Index.{Index}
 use Rattle.index.specs.declared.Index.TheVariants as indexes
-use Rattle.index.specs.declared.slice.SliceEnd.TheVariants as ends
-use Rattle.index.specs.declared.range.Bound.TheVariants as bounds
-use Rattle.index.specs.Numbers.{bound_or, marked, numbers_below, from_count, slice_end, distances, forward, stepped, slice_list, index_list}
+use Rattle.std.specs.Borrow.{Bor}
+use Rattle.index.specs.Numbers.{marked, numbers_below, from_count, slice_end, distances, forward, stepped, slice_list, index_list}
 use Rattle.index.specs.Checks.{check_bound, check_range, check_end, check_slice, check_index, list_answer, index_answer}
 use Rattle.bed_file.specs.File.{is_mode1, items, blocks, check_file, accept_answer}
 use Rattle.calls.specs.Calls.{block, code_in, call_code}
@@ -187,33 +186,37 @@ joined_5_before_13 f false false = (refl, refl)
 
 -- ---- lists: "18; then 8 for marks, 9, 10, 11 for a slice, 12 for a range; 19 last"
 abbrev slice : ℤ → ℤ → ℤ → Index
-slice start end step = indexes.NDSliceInfo (record { start = start; end = ends.At end; step = step })
+slice start end step = indexes.NDSliceInfo (record { start = start; end = Some end; step = step })
 
-pub marks_18_before_8 : (index_answer indexes.VecBool (2 ^ 63) [] [] 0 ≡ refused 18 []) × (index_answer indexes.VecBool 5 [] [] 0 ≡ refused 8 [])
+pub marks_18_before_8 :
+    (marks : Bor (List ℕ)) → marks.now ≡ []
+    → (index_answer (indexes.VecBool marks) (2 ^ 63) 0 ≡ refused 18 []) × (index_answer (indexes.VecBool marks) 5 0 ≡ refused 8 [])
 unfolding index_answer check_index check_count check
-marks_18_before_8 = (refl, refl)
+marks_18_before_8 marks e = (refl, rw e refl)
 
-pub marks_8_before_19 : (index_answer indexes.VecBool 5 [] (1 ∷ []) 0 ≡ refused 8 []) × (index_answer indexes.VecBool 1 [] (1 ∷ []) 0 ≡ refused 19 [])
+pub marks_8_before_19 :
+    (marks : Bor (List ℕ)) → marks.now ≡ 1 ∷ []
+    → (index_answer (indexes.VecBool marks) 5 0 ≡ refused 8 []) × (index_answer (indexes.VecBool marks) 1 0 ≡ refused 19 [])
 unfolding index_answer check_index check_count check list_answer index_list marked numbers_below
-marks_8_before_19 = (refl, refl)
+marks_8_before_19 marks e = (rw e refl, rw e refl)
 
-pub slice_9_before_10 : (index_answer (slice (pos 9) (pos 9) (pos 0)) 6 [] [] 0 ≡ refused 9 []) × (index_answer (slice (pos 9) (pos 9) (pos 1)) 6 [] [] 0 ≡ refused 10 [])
+pub slice_9_before_10 : (index_answer (slice (pos 9) (pos 9) (pos 0)) 6 0 ≡ refused 9 []) × (index_answer (slice (pos 9) (pos 9) (pos 1)) 6 0 ≡ refused 10 [])
 unfolding index_answer check_index check_slice check_end check_count check
 slice_9_before_10 = (refl, refl)
 
-pub slice_10_before_11 : (index_answer (slice (pos 9) (pos 9) (pos 1)) 6 [] [] 0 ≡ refused 10 []) × (index_answer (slice (pos 0) (pos 9) (pos 1)) 6 [] [] 0 ≡ refused 11 [])
+pub slice_10_before_11 : (index_answer (slice (pos 9) (pos 9) (pos 1)) 6 0 ≡ refused 10 []) × (index_answer (slice (pos 0) (pos 9) (pos 1)) 6 0 ≡ refused 11 [])
 unfolding index_answer check_index check_slice check_end check_count check
 slice_10_before_11 = (refl, refl)
 
-pub slice_11_before_19 : (index_answer (slice (pos 0) (pos 9) (pos 1)) 6 [] [] 0 ≡ refused 11 []) × (index_answer (slice (pos 0) (pos 6) (pos 1)) 6 [] [] 0 ≡ refused 19 [])
+pub slice_11_before_19 : (index_answer (slice (pos 0) (pos 9) (pos 1)) 6 0 ≡ refused 11 []) × (index_answer (slice (pos 0) (pos 6) (pos 1)) 6 0 ≡ refused 19 [])
 unfolding index_answer check_index check_slice check_end check_count check list_answer index_list slice_list stepped forward distances numbers_below slice_end from_count
 slice_11_before_19 = (refl, refl)
 
 -- a range's bound
 pub range_18_before_12 :
-    (index_answer (indexes.RangeAny (record { start = bounds.At (2 ^ 63); end = bounds.At 0 })) 6 [] [] 0 ≡ refused 18 [])
-    × (index_answer (indexes.RangeAny (record { start = bounds.At 6; end = bounds.At 0 })) 6 [] [] 0 ≡ refused 12 [])
-unfolding index_answer check_index check_range check_bound bound_or check_count check
+    (index_answer (indexes.RangeAny (record { start = Some (2 ^ 63); end = Some 0 })) 6 0 ≡ refused 18 [])
+    × (index_answer (indexes.RangeAny (record { start = Some 6; end = Some 0 })) 6 0 ≡ refused 12 [])
+unfolding index_answer check_index check_range check_bound check_count check
 range_18_before_12 = (refl, refl)
 
 -- ---- products: "18 comes first", 20, "Then 15, then 1"

@@ -88,8 +88,8 @@ module _ (file : List ℕ) (iids sids : ℕ) (acc : IsAccepted file iids sids) (
 
   -- and with good lists and a buffer of the right length reading leaves, at every width, under either flag and in either order, for place k
   -- of the animal list and place m of the marker list the copies that the genotype of that animal at that marker has
-  module _ (w : Width) (flag : Bool) (missing : w.Value) (order : Bool) (iid_list sid_list : List ℤ) (gi : GoodList iids iid_list) (gs : GoodList sids sid_list)
-      (val : List w.Value) (for_15 : length iid_list * length sid_list ≡ length val) where
+  module _ {V : Type 0} (w : Width V) (flag : Bool) (missing : V) (order : Bool) (iid_list sid_list : List ℤ) (gi : GoodList iids iid_list) (gs : GoodList sids sid_list)
+      (val : List V) (for_15 : length iid_list * length sid_list ≡ length val) where
     pub reading_is_plink :
         (read_answer file iids sids iid_list sid_list (length val) ≡ done [])
         × (read_buffer w file iids sids flag iid_list sid_list missing order val
@@ -160,7 +160,7 @@ module _ (iids sids : ℕ) (code : ℕ → ℕ → ℕ) (small : (a m : ℕ) →
   bed_copies a m ha hm = ap copies (sym (bed_call iids sids code small a m ha hm)) ∙ call_is_plink bed iids sids a m (bed_mode iids sids code small) ha
 
 -- ---- writing: one that is done
-module _ (w : Width) (apart : Apart w) (flag : Bool) (missing : w.Value) (order : Bool) (iids sids : ℕ) (val : List w.Value) (old : List ℕ)
+module _ {V : Type 0} (w : Width V) (apart : Apart w) (flag : Bool) (missing : V) (order : Bool) (iids sids : ℕ) (val : List V) (old : List ℕ)
     (accept : write_answer iids sids (value_code w flag missing order iids sids val) (length val) (length old) ≡ done []) where
   code : ℕ → ℕ → ℕ
   code a m = or_zero (value_code w flag missing order iids sids val a m)

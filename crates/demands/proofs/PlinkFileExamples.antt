@@ -2,7 +2,7 @@
 use mathlib.Core.Path.{◌≡◌, refl}
 use mathlib.Core.Bool.{true, false}
 use mathlib.Core.List.{List, [], ◌∷◌}
-use mathlib.Core.Option.{some}
+use Rattle.std.specs.Prelude.{Some}
 use Prim.Native.Nat.{ℕ}
 use lib.Dec.{lit≤}
 use lib.IntN.{ℤ, pos, negsuc}
@@ -58,11 +58,11 @@ pub published_back : IsAccepted published 6 3 × (is_mode1 published ≡ true)
 published_back = plink_is_accepted published 6 3 published_is_plink (lit≤ tt) (lit≤ tt) (lit≤ tt)
 
 -- sample 2 at variant 1 is heterozygous
-pub published_block : copies (item_code (block published 6 1) 2) ≡ some 1
+pub published_block : copies (item_code (block published 6 1) 2) ≡ Some 1
 unfolding genotype_in variant_bit block_bit plink_width genotype_of copies_of_first
 published_block = block_is_plink published 6 1 2 (lit≤ tt)
 
-pub published_call : copies (call_code published 6 3 2 1) ≡ some 1
+pub published_call : copies (call_code published 6 3 2 1) ≡ Some 1
 unfolding genotype_in variant_bit block_bit plink_width genotype_of copies_of_first
 published_call = call_is_plink published 6 3 2 1 published_mode (lit≤ tt)
 
@@ -72,7 +72,7 @@ order_good = (refl, refl)
 
 -- everything read, marker by marker: its dosages, at every width
 pub published_read :
-    (w : Width) (absent : w.Value) (val : List w.Value) → 18 ≡ length val
+    {V : Type 0} (w : Width V) (absent : V) (val : List V) → 18 ≡ length val
     → read_buffer w published 6 3 true (file_order 6) (file_order 3) absent false val
     ≡ w.two ∷ w.zero ∷ absent ∷ w.zero ∷ w.zero ∷ w.zero
     ∷ w.zero ∷ absent ∷ w.one ∷ w.zero ∷ w.zero ∷ w.zero
@@ -93,7 +93,7 @@ unfolding first_bad is_good
 some_good = (refl, refl)
 
 pub published_picked :
-    (w : Width) (absent : w.Value) (val : List w.Value) → 4 ≡ length val
+    {V : Type 0} (w : Width V) (absent : V) (val : List V) → 4 ≡ length val
     → read_buffer w published 6 3 false some_samples some_variants absent true val ≡ w.zero ∷ w.two ∷ w.one ∷ absent ∷ []
 unfolding tabulate matrix meant means genotype_in variant_bit block_bit plink_width genotype_of copies_by copies_of_second copies_value
 published_picked w absent val l =
@@ -135,7 +135,7 @@ pub written_missing : genotype_in written 6 0 2 ≡ missing
 unfolding matrix_place same_int
 written_missing = (written_stands i8 i8_apart true (negsuc 126) false 6 3 dosages nine dosages_written 2 0 (lit≤ tt) (lit≤ tt)).is_missing_law refl refl refl
 
-pub written_two : copies_by true (genotype_in written 6 2 5) ≡ some 2
+pub written_two : copies_by true (genotype_in written 6 2 5) ≡ Some 2
 unfolding matrix_place same_int
 written_two = (written_stands i8 i8_apart true (negsuc 126) false 6 3 dosages nine dosages_written 5 2 (lit≤ tt) (lit≤ tt)).two_copies refl
 
@@ -147,7 +147,7 @@ zero_written : write_answer 1 1 (value_code float true (fin false 0 (pos 0)) tru
 unfolding write_answer check_buffers check_size check_call first_bad_call first_of if_bad value_code place_code matrix_place code_of eq same_or_nan block_width
 zero_written = refl
 
-pub zero_first : copies_by true (genotype_in (write_buffer 1 1 (value_code float true (fin false 0 (pos 0)) true 1 1 (minus_zero ∷ [])) 1 (9 ∷ 9 ∷ 9 ∷ 9 ∷ [])) 1 0 0) ≡ some 0
+pub zero_first : copies_by true (genotype_in (write_buffer 1 1 (value_code float true (fin false 0 (pos 0)) true 1 1 (minus_zero ∷ [])) 1 (9 ∷ 9 ∷ 9 ∷ 9 ∷ [])) 1 0 0) ≡ Some 0
 unfolding matrix_place eq
 zero_first =
     (written_stands float float_apart true (fin false 0 (pos 0)) true 1 1 (minus_zero ∷ []) (9 ∷ 9 ∷ 9 ∷ 9 ∷ []) zero_written 0 0 (lit≤ tt) (lit≤ tt)).zero_copies refl
@@ -175,7 +175,7 @@ pub mode_0_pads : ExtraBitsZero (canonical_buffer in_mode0 5 2 seven) 5 2
 mode_0_pads = canonical_extra_zero in_mode0 5 2 seven mode_0_done
 
 -- "F counted: .. 0, 0, 1, 2, 1": animal 3 at marker 1
-pub mode_0_copies : copies_of_first (genotype_in (canonical_buffer in_mode0 5 2 seven) 5 1 3) ≡ some 2
+pub mode_0_copies : copies_of_first (genotype_in (canonical_buffer in_mode0 5 2 seven) 5 1 3) ≡ Some 2
 unfolding call_code code_in is_mode1 block block_width item_code code_at copies
 mode_0_copies = canonical_keeps_copies in_mode0 5 2 seven mode_0_done 3 1 (lit≤ tt) (lit≤ tt)
 
@@ -184,7 +184,7 @@ unfolding is_mode1
 mode_0 = refl
 
 -- 0C is 00, 11, of the animal 0: at marker 1 it has no copy
-pub mode_0_call : copies (call_code in_mode0 5 2 0 1) ≡ some 0
+pub mode_0_call : copies (call_code in_mode0 5 2 0 1) ≡ Some 0
 unfolding genotype_in variant_bit block_bit plink_width genotype_of copies_of_first
 mode_0_call = call_in_mode_0 in_mode0 5 2 0 1 mode_0 (lit≤ tt)
 

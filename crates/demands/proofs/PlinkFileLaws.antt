@@ -2,7 +2,7 @@
 use mathlib.Core.Path.{◌≡◌, refl, sym, ap, subst, ◌∙◌}
 use mathlib.Core.Bool.{Bool, true, false, cond}
 use mathlib.Core.List.{List, [], ◌∷◌}
-use mathlib.Core.Option.{Option, some, none}
+use Rattle.std.specs.Prelude.{Option, Some, None}
 use Prim.Native.Nat.{ℕ, zero, suc, ◌+◌, ◌*◌, ◌/◌, ◌%◌, ◌^◌, ◌<◌, ◌≤◌}
 use native.Mathlib.Nat.{mul-div_cancel}
 use native.Mathlib.Omega.{arith}
@@ -65,10 +65,10 @@ tabulated_codes n code small k =
 
 -- the genotype that has so many copies of the first allele
 by_copies : Option ℕ → Genotype
-by_copies none = missing
-by_copies (some zero) = homozygous_second
-by_copies (some (suc zero)) = heterozygous
-by_copies (some (suc (suc k))) = homozygous_first
+by_copies None = missing
+by_copies (Some zero) = homozygous_second
+by_copies (Some (suc zero)) = heterozygous
+by_copies (Some (suc (suc k))) = homozygous_first
 
 by_copies_law : (g : Genotype) → by_copies (copies_of_first g) ≡ g
 unfolding by_copies copies_of_first
@@ -84,7 +84,7 @@ same_genotype g h e = sym (by_copies_law g) ∙ ap by_copies e ∙ by_copies_law
 named : (c : ℕ) (g : Genotype) → copies c ≡ copies_of_first g → by_copies (copies c) ≡ g
 named c g e = ap by_copies e ∙ by_copies_law g
 
-module _ (w : Width) (absent : w.Value) (flag : Bool) where
+module _ {V : Type 0} (w : Width V) (absent : V) (flag : Bool) where
   value_named : (b : Bool) (c : ℕ) → c < 4 → value_of w b absent c ≡ copies_value w absent (copies_by b (by_copies (copies c)))
   unfolding value_of copies_value copies_by copies_of_first copies_of_second by_copies copies
   value_named true zero h = refl
@@ -102,10 +102,10 @@ module _ (w : Width) (absent : w.Value) (flag : Bool) where
   value_copies c g h e = value_named flag c h ∙ ap (λ (x : Genotype). copies_value w absent (copies_by flag x)) (named c g e)
 
   -- and a value that has a code stands in a genotype with the code's copies
-  module _ (apart : Apart w) (v : w.Value) (c : ℕ) (g : Genotype) (coded : code_of w flag absent v ≡ some c) (same : copies c ≡ copies_of_first g) where
-    by_code_law : (k : ℕ) → some k ≡ code_of w flag absent v → g ≡ by_copies (copies k)
+  module _ (apart : Apart w) (v : V) (c : ℕ) (g : Genotype) (coded : code_of w flag absent v ≡ Some c) (same : copies c ≡ copies_of_first g) where
+    by_code_law : (k : ℕ) → Some k ≡ code_of w flag absent v → g ≡ by_copies (copies k)
     by_code_law k e =
-        let q : ◌≡◌ {A = Option ℕ} (some k) (some c) = e ∙ coded in
+        let q : ◌≡◌ {A = Option ℕ} (Some k) (Some c) = e ∙ coded in
         let n : c ≡ k = cc in
         sym (named c g same) ∙ ap (λ (x : ℕ). by_copies (copies x)) n
 
@@ -119,19 +119,19 @@ module _ (w : Width) (absent : w.Value) (flag : Bool) where
           is_missing_law = λ e0 e1 e2. by_code_law 1 (only (same_or_nan w v absent) (simp (e0, e1, e2) at coded) ∙ sym coded);
         }
       where
-        zero_said : (b : Bool) → copies_by b (by_copies (copies (cond b 3 0))) ≡ some 0
+        zero_said : (b : Bool) → copies_by b (by_copies (copies (cond b 3 0))) ≡ Some 0
         zero_said true = refl
         zero_said false = refl
 
-        one_said : (b : Bool) → copies_by b (by_copies (copies 2)) ≡ some 1
+        one_said : (b : Bool) → copies_by b (by_copies (copies 2)) ≡ Some 1
         one_said true = refl
         one_said false = refl
 
-        two_said : (b : Bool) → copies_by b (by_copies (copies (cond b 0 3))) ≡ some 2
+        two_said : (b : Bool) → copies_by b (by_copies (copies (cond b 0 3))) ≡ Some 2
         two_said true = refl
         two_said false = refl
 
-        only : (b : Bool) → cond b (some 1) none ≡ some c → some 1 ≡ some c
+        only : (b : Bool) → cond b (Some 1) None ≡ Some c → Some 1 ≡ Some c
         only true e = e
         only false e = absurd (let q : ◌≡◌ {A = ℕ} 0 1 = cc in omega arith)
 

@@ -31,9 +31,9 @@ use Rattle.demands.proofs.ReadWriteLaws.{read_is_written}
 -- 1. "Under one flag and one missing value, an accepted writing read back gives every value, equal by number or NaN for NaN.": from either
 -- matrix order, into either
 pub written_read_back :
-    (w : Width) (flag : Bool) (missing : w.Value) (iids sids : ℕ) (order : Bool) (val : List w.Value) (old : List ℕ)
+    {V : Type 0} (w : Width V) (flag : Bool) (missing : V) (iids sids : ℕ) (order : Bool) (val : List V) (old : List ℕ)
     → is_done (write_answer iids sids (value_code w flag missing order iids sids val) (length val) (length old)) ≡ true
-    → (later : Bool) (buffer : List w.Value) → length buffer ≡ iids * sids
+    → (later : Bool) (buffer : List V) → length buffer ≡ iids * sids
     → (read_answer (write_buffer iids sids (value_code w flag missing order iids sids val) (length val) old) iids sids (file_order iids) (file_order sids) (length buffer) ≡ done [])
     × ((a m : ℕ) → a < iids → m < sids
     → same_or_nan w (get_or val (matrix_place order iids sids a m) missing)
@@ -103,9 +103,9 @@ written_read_back_f64 flag missing iids sids order val old d later buffer l a m 
 -- 2. "Reading all and then writing gives every code back if missing is none of 0, 1, 2 by number.": from either mode, by either matrix order,
 -- the file that is left is the canonical file
 pub read_written :
-    (w : Width) → Numbers w → (flag : Bool) (missing : w.Value) → NoNumber w missing → (file : List ℕ) (iids sids : ℕ)
+    {V : Type 0} (w : Width V) → Numbers w → (flag : Bool) (missing : V) → NoNumber w missing → (file : List ℕ) (iids sids : ℕ)
     → is_done (accept_answer file iids sids) ≡ true → file_length iids sids ≤ 2 ^ 64 - 1
-    → (order : Bool) (buffer : List w.Value) → length buffer ≡ iids * sids → (old : List ℕ) → length old ≡ file_length iids sids
+    → (order : Bool) (buffer : List V) → length buffer ≡ iids * sids → (old : List ℕ) → length old ≡ file_length iids sids
     → (read_answer file iids sids (file_order iids) (file_order sids) (length buffer) ≡ done [])
     × (write_answer iids sids
     (value_code w flag missing order iids sids (read_buffer w file iids sids flag (file_order iids) (file_order sids) missing order buffer))
@@ -123,9 +123,9 @@ read_written w n flag missing other file iids sids d fits order buffer l old k =
 
 -- every code is back, in a file that is accepted
 pub every_code_back :
-    (w : Width) → Numbers w → (flag : Bool) (missing : w.Value) → NoNumber w missing → (file : List ℕ) (iids sids : ℕ)
+    {V : Type 0} (w : Width V) → Numbers w → (flag : Bool) (missing : V) → NoNumber w missing → (file : List ℕ) (iids sids : ℕ)
     → is_done (accept_answer file iids sids) ≡ true → file_length iids sids ≤ 2 ^ 64 - 1
-    → (order : Bool) (buffer : List w.Value) → length buffer ≡ iids * sids → (old : List ℕ) → length old ≡ file_length iids sids
+    → (order : Bool) (buffer : List V) → length buffer ≡ iids * sids → (old : List ℕ) → length old ≡ file_length iids sids
     → (a m : ℕ) → a < iids → m < sids
     → call_code
     (write_buffer iids sids

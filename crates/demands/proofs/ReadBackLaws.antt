@@ -2,7 +2,7 @@
 use mathlib.Core.Path.{◌≡◌, sym, ap, ◌∙◌}
 use mathlib.Core.Bool.{Bool, true}
 use mathlib.Core.List.{List, []}
-use mathlib.Core.Option.{none}
+use Rattle.std.specs.Prelude.{None}
 use Prim.Native.Nat.{ℕ, ◌*◌, ◌<◌}
 use native.Mathlib.Omega.{arith}
 use borrow.Author.Tests.{lt-ltb}
@@ -28,7 +28,7 @@ order_at : (n k : ℕ) → k < n → get_or (file_order n) k (pos 0) ≡ pos k
 unfolding file_order
 order_at n k h = get_d_tabulate n pos k (pos 0) h
 
-pub order_good : (n : ℕ) → first_bad n (file_order n) ≡ none
+pub order_good : (n : ℕ) → first_bad n (file_order n) ≡ None
 unfolding is_good
 order_good n =
     none_bad n (file_order n)
@@ -53,12 +53,12 @@ module _ (file : List ℕ) (iids sids : ℕ) (d : is_done (accept_answer file ii
       (order_good iids) (order_good sids)
 
   -- each value read is that of the call's code
-  pub read_at : (w : Width) (flag : Bool) (missing : w.Value) (order : Bool) (buffer : List w.Value) → length buffer ≡ iids * sids
+  pub read_at : {V : Type 0} (w : Width V) (flag : Bool) (missing : V) (order : Bool) (buffer : List V) → length buffer ≡ iids * sids
       → (a m : ℕ) → a < iids → m < sids
       → get_or (read_buffer w file iids sids flag (file_order iids) (file_order sids) missing order buffer) (matrix_place order iids sids a m) missing
       ≡ value_of w flag missing (call_code file iids sids a m)
-  read_at w flag missing order buffer l a m ha hm =
-      ap (λ (x : List w.Value). get_or x (matrix_place order iids sids a m) missing)
+  read_at {V} w flag missing order buffer l a m ha hm =
+      ap (λ (x : List V). get_or x (matrix_place order iids sids a m) missing)
       (buffer_values w file iids sids flag (file_order iids) (file_order sids) missing order buffer (ap is_done (all_answer (length buffer) l)))
       ∙ read_cell w flag missing order file iids sids (file_order iids) (file_order sids) iids sids (order_length iids) (order_length sids) missing a m ha hm
       ∙ ap (value_of w flag missing) (order_code file iids sids a m ha hm)

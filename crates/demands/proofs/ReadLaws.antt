@@ -32,7 +32,7 @@ module _ (file other : List ℕ) (iids sids : ℕ) (il sl : List ℤ) (gi : Good
       (λ k m hk hm. agree (means iids (get_or il k (pos 0))) (means sids (get_or sl m (pos 0)))
       (means_below iids (get_or il k (pos 0)) (all_good iids il k gi hk)) (means_below sids (get_or sl m (pos 0)) (all_good sids sl m gs hm)))
 
-  pub values_same : (w : Width) (flag : Bool) (missing : w.Value) (order : Bool)
+  pub values_same : {V : Type 0} (w : Width V) (flag : Bool) (missing : V) (order : Bool)
       → values_read w flag missing order file iids sids il sl ≡ values_read w flag missing order other iids sids il sl
   unfolding values_read
   values_same w flag missing order = ap (map (value_of w flag missing)) (codes_same order)

@@ -2,7 +2,7 @@
 use mathlib.Core.Path.{◌≡◌, sym, ap, ◌∙◌}
 use mathlib.Core.Bool.{Bool, true}
 use mathlib.Core.List.{List, []}
-use mathlib.Core.Option.{some}
+use Rattle.std.specs.Prelude.{Some}
 use Prim.Native.Nat.{ℕ, ◌-◌, ◌^◌, ◌<◌, ◌≤◌}
 use lib.IntN.{ℤ}
 use lib.ListN.{length, get_or}
@@ -17,20 +17,20 @@ use Rattle.bed_write.specs.Packing.{place_code}
 use Rattle.bed_write.specs.Writing.{value_code, write_answer, bed_file, write_buffer}
 use Rattle.demands.proofs.WriteLaws.{codes_written}
 
-module _ (w : Width) (numbers : Numbers w) (flag : Bool) (missing : w.Value) (other : NoNumber w missing) (order : Bool)
-    (file : List ℕ) (iids sids : ℕ) (il sl : List ℤ) (val : List w.Value) (d : is_done (read_answer file iids sids il sl (length val)) ≡ true)
+module _ {V : Type 0} (w : Width V) (numbers : Numbers w) (flag : Bool) (missing : V) (other : NoNumber w missing) (order : Bool)
+    (file : List ℕ) (iids sids : ℕ) (il sl : List ℤ) (val : List V) (d : is_done (read_answer file iids sids il sl (length val)) ≡ true)
     -- lists of n and s entries
     (n s : ℕ) (li : length il ≡ n) (ls : length sl ≡ s) where
-  abbrev read : List w.Value
+  abbrev read : List V
   read = read_buffer w file iids sids flag il sl missing order val
 
   is_read : read ≡ values_read w flag missing order file iids sids il sl
   is_read = buffer_values w file iids sids flag il sl missing order val d
 
-  code_back : (k m : ℕ) → k < n → m < s → value_code w flag missing order n s read k m ≡ some (read_code file iids sids il sl k m)
+  code_back : (k m : ℕ) → k < n → m < s → value_code w flag missing order n s read k m ≡ Some (read_code file iids sids il sl k m)
   unfolding value_code place_code
   code_back k m hk hm =
-      ap (λ (l : List w.Value). code_of w flag missing (get_or l (matrix_place order n s k m) missing)) is_read
+      ap (λ (l : List V). code_of w flag missing (get_or l (matrix_place order n s k m) missing)) is_read
       ∙ ap (code_of w flag missing) (read_cell w flag missing order file iids sids il sl n s li ls missing k m hk hm)
       ∙ encode_decode w numbers flag missing other (read_code file iids sids il sl k m) (read_below file iids sids il sl k m)
 

@@ -16,10 +16,12 @@ use Rattle.bed_file.specs.File.{is_mode1, items, blocks}
 use Rattle.calls.specs.Calls.{block, code_in, call_code}
 use Rattle.bed_read.specs.Reading.{file_order, read_answer, read_code, codes_read, values_read, read_buffer}
 use Rattle.root.specs.Root.{root}
-use Rattle.statistics.specs.declared.MarkerStats.TheVariants.{Found, NoIndividuals}
+use Rattle.statistics.specs.declared.MarkerError.TheVariants.{NoIndividuals}
+use Rattle.statistics.specs.Statistics.{found_with}
+use Rattle.std.specs.Prelude.{Ok, Err}
 use Rattle.statistics.specs.Statistics.{plus_zero, one, counted, accumulated, mean, variance, deviation, stats_of, no_value, marker_stats, found_for, is_infinite, standardised}
 use Rattle.statistics.specs.Calls.{two}
-use Rattle.standardise.specs.Standardised.{marker_answer, markers_answer, kept_or_new, applied, value, found, lowest_refused, standardise_answer, new_stats, may_change, new_values, later_stats, later_values}
+use Rattle.standardise.specs.Standardised.{marker_answer, markers_answer, kept_or_new, lent_or_new, applied, value, found, lowest_refused, standardise_answer, new_stats, may_change, new_values, later_stats, later_values}
 use Rattle.read_standardised.specs.Joined.{read_nan, joined_answer, joined_stats, joined_values}
 use Rattle.read_standardised.specs.Ways.{Way, in_turn, joined_call, as_read, answers_of, values_left, stats_left}
 use Rattle.demands.proofs.Examples.{minus_one, root_one, by_root}
@@ -80,14 +82,14 @@ three = fin false 3 (pos 0)
 abbrev pub after_stats : List Float
 after_stats = one ∷ one ∷ two ∷ one ∷ inf false ∷ three ∷ []
 
-marker_0 : (moved order : Bool) → found binary64 order 3 2 (read moved order) false stats 0 ≡ Found (record { mean = one; deviation = one }) two
+marker_0 : (moved order : Bool) → found binary64 order 3 2 (read moved order) false stats 0 ≡ Ok (found_with (record { mean = one; deviation = one }) two)
 unfolding found found_for marker_stats no_value accumulated counted stats_of mean deviation variance value matrix_place is_nan add sub mul div neg le lt eq
 marker_0 true true = ap (by_root one two) root_one
 marker_0 true false = ap (by_root one two) root_one
 marker_0 false true = ap (by_root one two) root_one
 marker_0 false false = ap (by_root one two) root_one
 
-marker_1 : (moved order : Bool) → found binary64 order 3 2 (read moved order) false stats 1 ≡ Found (record { mean = one; deviation = inf false }) three
+marker_1 : (moved order : Bool) → found binary64 order 3 2 (read moved order) false stats 1 ≡ Ok (found_with (record { mean = one; deviation = inf false }) three)
 unfolding root found found_for marker_stats no_value accumulated counted stats_of mean deviation variance value matrix_place is_nan add sub mul div neg le lt eq
 marker_1 true true = refl
 marker_1 true false = refl
@@ -106,7 +108,7 @@ new_values_law false true = rw (marker_0 false true, marker_1 false true)
 new_values_law false false = rw (marker_0 false false, marker_1 false false)
 
 new_stats_law : (moved order : Bool) → new_stats binary64 order 3 2 (read moved order) false stats ≡ after_stats
-unfolding new_stats kept_or_new matrix tabulate
+unfolding new_stats kept_or_new lent_or_new matrix tabulate
 new_stats_law moved order = rw (marker_0 moved order, marker_1 moved order)
 
 pub joined_leaves : (mode1 moved order : Bool) → Leaves (T mode1) (animals moved) order joined_call (done [] ∷ []) (after moved order) after_stats
@@ -149,14 +151,14 @@ after13 false false = minus_one ∷ one ∷ plus_zero ∷ nan ∷ nan ∷ nan �
 abbrev pub after_stats13 : List Float
 after_stats13 = one ∷ one ∷ two ∷ two ∷ two ∷ two ∷ []
 
-marker_0_13 : (moved order : Bool) → found binary64 order 3 2 (read13 moved order) false stats 0 ≡ Found (record { mean = one; deviation = one }) two
+marker_0_13 : (moved order : Bool) → found binary64 order 3 2 (read13 moved order) false stats 0 ≡ Ok (found_with (record { mean = one; deviation = one }) two)
 unfolding found found_for marker_stats no_value accumulated counted stats_of mean deviation variance value matrix_place is_nan add sub mul div neg le lt eq
 marker_0_13 true true = ap (by_root one two) root_one
 marker_0_13 true false = ap (by_root one two) root_one
 marker_0_13 false true = ap (by_root one two) root_one
 marker_0_13 false false = ap (by_root one two) root_one
 
-marker_1_13 : (moved order : Bool) → found binary64 order 3 2 (read13 moved order) false stats 1 ≡ NoIndividuals
+marker_1_13 : (moved order : Bool) → found binary64 order 3 2 (read13 moved order) false stats 1 ≡ Err NoIndividuals
 unfolding found found_for marker_stats no_value value matrix_place is_nan
 marker_1_13 true true = refl
 marker_1_13 true false = refl
@@ -175,7 +177,7 @@ new_values_13 false true = rw (marker_0_13 false true)
 new_values_13 false false = rw (marker_0_13 false false)
 
 new_stats_13 : (moved order : Bool) → new_stats binary64 order 3 2 (read13 moved order) false stats ≡ after_stats13
-unfolding new_stats kept_or_new matrix tabulate
+unfolding new_stats kept_or_new lent_or_new matrix tabulate
 new_stats_13 moved order = rw (marker_0_13 moved order, marker_1_13 moved order)
 
 pub joined_leaves_13 : (mode1 moved order : Bool) → Leaves (T13 mode1) (animals moved) order joined_call (refused 13 (pos 1 ∷ []) ∷ []) (after13 moved order) after_stats13

@@ -2,7 +2,7 @@
 use mathlib.Core.Path.{◌≡◌, refl, sym, ap, subst, ◌∙◌}
 use mathlib.Core.Bool.{Bool, true}
 use mathlib.Core.List.{List, []}
-use mathlib.Core.Option.{Option, some, none}
+use Rattle.std.specs.Prelude.{Option, Some, None}
 use Prim.Native.Nat.{ℕ, ◌-◌, ◌*◌, ◌^◌, ◌<◌, ◌≤◌}
 use native.Mathlib.Omega.{arith}
 use borrow.Author.Tests.{eq-eqb, le-leb}
@@ -26,10 +26,10 @@ use Rattle.canonical.proofs.WrittenLaws.{bed_call, bed_accepted, bed_canonical}
 abbrev pair : ℕ → ℕ → ℕ × ℕ
 pair a m = (a, m)
 
-call_none : (o : Option (ℕ × ℕ)) → is_done (check_call o (done [])) ≡ true → o ≡ none
+call_none : (o : Option (ℕ × ℕ)) → is_done (check_call o (done [])) ≡ true → o ≡ None
 unfolding check_call
-call_none none e = refl
-call_none (some p) e = absurd (let q : ◌≡◌ {A = ℕ} 0 1 = cc in omega arith)
+call_none None e = refl
+call_none (Some p) e = absurd (let q : ◌≡◌ {A = ℕ} 0 1 = cc in omega arith)
 
 module _ (iids sids : ℕ) (code : ℕ → ℕ → Option ℕ) (val_length : ℕ) (old : List ℕ) (d : is_done (write_answer iids sids code val_length (length old)) ≡ true) where
   buffers_done : is_done (check_buffers iids sids val_length (length old) (done [])) ≡ true
@@ -40,12 +40,12 @@ module _ (iids sids : ℕ) (code : ℕ → ℕ → Option ℕ) (val_length : ℕ
   pub writing_passed : Passed iids sids val_length (length old) (check_buffers iids sids val_length (length old) (done []))
   writing_passed = passed iids sids val_length (length old) (check_buffers iids sids val_length (length old) (done [])) refl buffers_done
 
-  no_bad : first_bad_call iids sids code ≡ none
+  no_bad : first_bad_call iids sids code ≡ None
   unfolding write_answer
   no_bad = call_none (first_bad_call iids sids code) (subst (λ (x : Answer). is_done x ≡ true) (heard (buffers_stage iids sids val_length (length old)) [] buffers_done (check_call (first_bad_call iids sids code) (done []))) d)
 
   -- every value has a code
-  pub has_code : (a m : ℕ) → a < iids → m < sids → code a m ≡ some (or_zero (code a m))
+  pub has_code : (a m : ℕ) → a < iids → m < sids → code a m ≡ Some (or_zero (code a m))
   unfolding first_bad_call
   has_code a m ha hm =
       not_bad (code a m) (pair a m)
@@ -57,8 +57,8 @@ module _ (iids sids : ℕ) (code : ℕ → ℕ → Option ℕ) (val_length : ℕ
   wrote = new_if_done _ _ old d
 
 -- ---- where every value has a code, the counts and the length fit and the buffers are of the right lengths, it is done and leaves the file of the codes
-module _ (iids sids : ℕ) (code : ℕ → ℕ → Option ℕ) (val_length : ℕ) (old : List ℕ) (c : ℕ → ℕ → ℕ) (coded : (a m : ℕ) → a < iids → m < sids → code a m ≡ some (c a m)) where
-  codes_found : first_bad_call iids sids code ≡ none
+module _ (iids sids : ℕ) (code : ℕ → ℕ → Option ℕ) (val_length : ℕ) (old : List ℕ) (c : ℕ → ℕ → ℕ) (coded : (a m : ℕ) → a < iids → m < sids → code a m ≡ Some (c a m)) where
+  codes_found : first_bad_call iids sids code ≡ None
   unfolding first_bad_call if_bad
   codes_found =
       first_none sids (λ m. first_of iids (λ a. if_bad (code a m) (pair a m)))
@@ -81,7 +81,7 @@ module _ (iids sids : ℕ) (code : ℕ → ℕ → Option ℕ) (val_length : ℕ
         (sym r.0, sym r.1 ∙ bed_ext iids sids (λ a m. or_zero (code a m)) c (λ a m ha hm. ap or_zero (coded a m ha hm)))
 
 -- ---- a matrix of values whose writing is done
-module _ (w : Width) (flag : Bool) (missing : w.Value) (order : Bool) (iids sids : ℕ) (val : List w.Value) (old : List ℕ)
+module _ {V : Type 0} (w : Width V) (flag : Bool) (missing : V) (order : Bool) (iids sids : ℕ) (val : List V) (old : List ℕ)
     (d : is_done (write_answer iids sids (value_code w flag missing order iids sids val) (length val) (length old)) ≡ true) where
   abbrev code : ℕ → ℕ → Option ℕ
   code = value_code w flag missing order iids sids val

@@ -9,16 +9,17 @@ use Rattle.bed_write.specs.Writing.{Writes}
 
 -- how a cut is made: what its two calls are given and lent beside the file and the lists
 pub record Cut : Type 1 where
-  pub width : Width
+  pub Value : Type 0
+  pub width : Width Value
   pub flag : Bool
-  pub missing : width.Value
+  pub missing : Value
   pub order : Bool
   -- a value buffer and a packed buffer
-  pub val : List width.Value
+  pub val : List Value
   pub out : List ℕ
 
-abbrev pub cut_at : (w : Width) → Bool → w.Value → Bool → List w.Value → List ℕ → Cut
-cut_at w flag missing order val out = record { width = w; flag = flag; missing = missing; order = order; val = val; out = out }
+abbrev pub cut_at : {V : Type 0} (w : Width V) → Bool → V → Bool → List V → List ℕ → Cut
+cut_at {V} w flag missing order val out = record { Value = V; width = w; flag = flag; missing = missing; order = order; val = val; out = out }
 
 -- at f64 with missing NaN, and at i8 with missing −127: −(k + 1) is `negsuc k`
 abbrev pub f64_cut : Bool → Bool → List Float → List ℕ → Cut
@@ -31,7 +32,7 @@ i8_cut flag order val out = cut_at i8 flag (negsuc 126) order val out
 -- the bytes. They are written under the same flag and missing value, in the order they were read in and with the lengths of the lists as the two
 -- counts. `Reads` and `Writes` are what the contracts of the two calls promise
 pub record Leaves (file : List ℕ) (iids sids : ℕ) (iid_list sid_list : List ℤ) (c : Cut) (bytes : List ℕ) : Type 0 where
-  pub values : List c.width.Value
+  pub values : List c.Value
   pub is_read : Reads c.width file iids sids c.flag iid_list sid_list c.missing c.order (done []) c.val values
   pub is_written : Writes c.width c.flag c.missing c.order (length iid_list) (length sid_list) values (done []) c.out bytes
 

@@ -1,6 +1,6 @@
 -- The words of demand 3: accepted files, calls that agree, lists that name each animal once. The two ways to go are read_standardised's Ways. Definitions only.
 use Rattle.std.specs.Prelude.{◌≡◌, true, false, List, [], ◌∷◌, ℕ, ◌*◌, ◌<◌, ℤ, pos, length, get_or, Float}
-use Rattle.std.proofs.Math.Option.{none}
+use Rattle.std.specs.Prelude.{None}
 use Rattle.answer.specs.Answer.{done}
 use Rattle.entries.specs.Entry.{is_good, means, first_bad}
 use Rattle.bed_file.specs.File.{accept_answer}
@@ -17,7 +17,7 @@ CallsAgree file other iids sids = (a m : ℕ) → a < iids → m < sids → call
 
 -- "A list is good if no entry is bad."
 abbrev pub GoodList : ℕ → List ℤ → Type 0
-GoodList count list = first_bad count list ≡ none
+GoodList count list = first_bad count list ≡ None
 
 -- "first bad entry of the .. list; carries it": the values that a refusal by a list carries are the entry at `place`, as given; it is bad, and
 -- those before it are good

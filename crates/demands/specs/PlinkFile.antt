@@ -1,7 +1,7 @@
 -- The .bed file of the PLINK 1.9 format reference, in its own terms: whole, by the place of every bit. The reference's words stand in
 -- quotation marks; its genotypes and the bits of a list of bytes are those of genotype's Plink. Samples and variants count from 0.
 use Rattle.std.specs.Prelude.{◌≡◌, Bool, true, false, List, [], ◌∷◌, ℕ, ◌+◌, ◌*◌, ◌<◌, ◌≤◌, length, take}
-use Rattle.std.proofs.Math.Option.{Option, some}
+use Rattle.std.specs.Prelude.{Option, Some}
 use Rattle.codes.specs.Plink.{Genotype, missing, genotype_of, block_bit, plink_width, copies_of_first, copies_of_second}
 use Rattle.codes.specs.Value.{Width}
 
@@ -32,14 +32,14 @@ copies_by true g = copies_of_first g
 copies_by false g = copies_of_second g
 
 -- no value of a width is two of its numbers 0, 1, 2
-pub record Apart (w : Width) : Type 0 where
-  pub one_zero : (v : w.Value) → w.same v w.one ≡ true → w.same v w.zero ≡ false
-  pub two_zero : (v : w.Value) → w.same v w.two ≡ true → w.same v w.zero ≡ false
-  pub two_one : (v : w.Value) → w.same v w.two ≡ true → w.same v w.one ≡ false
+pub record Apart {V : Type 0} (w : Width V) : Type 0 where
+  pub one_zero : (v : V) → w.same v w.one ≡ true → w.same v w.zero ≡ false
+  pub two_zero : (v : V) → w.same v w.two ≡ true → w.same v w.zero ≡ false
+  pub two_one : (v : V) → w.same v w.two ≡ true → w.same v w.one ≡ false
 
 -- a value stands in a genotype: as many copies as it is by number ("−0.0 is 0"), and missing if it is none of 0, 1, 2
-pub record StandsIn (w : Width) (flag : Bool) (value : w.Value) (g : Genotype) : Type 0 where
-  pub zero_copies : w.same value w.zero ≡ true → copies_by flag g ≡ some 0
-  pub one_copy : w.same value w.one ≡ true → copies_by flag g ≡ some 1
-  pub two_copies : w.same value w.two ≡ true → copies_by flag g ≡ some 2
+pub record StandsIn {V : Type 0} (w : Width V) (flag : Bool) (value : V) (g : Genotype) : Type 0 where
+  pub zero_copies : w.same value w.zero ≡ true → copies_by flag g ≡ Some 0
+  pub one_copy : w.same value w.one ≡ true → copies_by flag g ≡ Some 1
+  pub two_copies : w.same value w.two ≡ true → copies_by flag g ≡ Some 2
   pub is_missing_law : w.same value w.zero ≡ false → w.same value w.one ≡ false → w.same value w.two ≡ false → g ≡ missing

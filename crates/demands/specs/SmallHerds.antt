@@ -1,11 +1,10 @@
 -- The worked examples that document 01 marks P, about the definitions that the contracts cite.
-use Rattle.std.specs.Prelude.{◌≡◌, true, false, List, [], ◌∷◌, ℕ, ◌-◌, ◌^◌, pos, negsuc}
+use Rattle.std.specs.Prelude.{◌≡◌, true, false, List, [], ◌∷◌, ℕ, ◌-◌, ◌^◌, pos, negsuc, Some}
 use Rattle.answer.specs.Answer.{done, refused}
 use Rattle.blocks.specs.Block.{div_answer}
 use Rattle.entries.specs.Entry.{entry_answer}
 use Rattle.codes.specs.Value.{Width, i8}
 use Rattle.index.specs.declared.Index.TheVariants as Index
-use Rattle.index.specs.declared.slice.SliceEnd.TheVariants as SliceEnd
 use Rattle.index.specs.Checks.{index_buffer}
 use Rattle.bed_file.specs.File.{accept_answer}
 use Rattle.bed_read.specs.Reading.{file_order, read_buffer}
@@ -30,16 +29,16 @@ abbrev pub ten : {A : Type 0} → A → List A
 ten v = v ∷ v ∷ v ∷ v ∷ v ∷ v ∷ v ∷ v ∷ v ∷ v ∷ []
 
 -- "2, missing, 1, 0, 2 and 0, 0, 1, 2, 1", marker by marker
-abbrev pub values_of_f : (w : Width) → w.Value → List w.Value
+abbrev pub values_of_f : {V : Type 0} (w : Width V) → V → List V
 values_of_f w missing =
     w.two ∷ missing ∷ w.one ∷ w.zero ∷ w.two
     ∷ w.zero ∷ w.zero ∷ w.one ∷ w.two ∷ w.one ∷ []
 
 pub record SmallHerds : Type 1 where
   -- "F counted: 2, missing, 1, 0, 2 and 0, 0, 1, 2, 1.", at every width and whatever stands for missing; "Last byte F2: same."
-  pub read_F : (w : Width) (missing : w.Value)
+  pub read_F : {V : Type 0} (w : Width V) (missing : V)
       → read_buffer w F 5 2 true (file_order 5) (file_order 2) missing false (ten w.zero) ≡ values_of_f w missing
-  pub read_F2 : (w : Width) (missing : w.Value)
+  pub read_F2 : {V : Type 0} (w : Width V) (missing : V)
       → read_buffer w last_byte_f2 5 2 true (file_order 5) (file_order 2) missing false (ten w.zero) ≡ values_of_f w missing
   -- "6C 1B 00 0C 0D 0A 03 08 has canonical file F."
   pub mode_0_canonical : canonical_buffer in_mode0 5 2 (0 ∷ 0 ∷ 0 ∷ 0 ∷ 0 ∷ 0 ∷ 0 ∷ []) ≡ F
@@ -59,7 +58,7 @@ pub record SmallHerds : Type 1 where
   pub seven_markers : div_answer (2 ^ 63 - 1) 7 ≡ done (pos (2 ^ 61) ∷ [])
   -- "Count 6, slice 1 to 6 step −2: 5, 3, 1."
   pub slice_down :
-      index_buffer (Index.NDSliceInfo (record { start = pos 1; end = SliceEnd.At (pos 6); step = negsuc 1 })) 6 [] [] (pos 0 ∷ pos 0 ∷ pos 0 ∷ [])
+      index_buffer (Index.NDSliceInfo (record { start = pos 1; end = Some (pos 6); step = negsuc 1 })) 6 (pos 0 ∷ pos 0 ∷ pos 0 ∷ [])
       ≡ pos 5 ∷ pos 3 ∷ pos 1 ∷ []
   -- "i8 column 0, −127, 1, 2, 2, counted, missing −127: 27 00."
   pub column_packed :

@@ -1,6 +1,6 @@
 -- Laws of entries, over plain numbers and lists.
 use Rattle.std.proofs.Common.{◌≡◌, ℕ, zero, suc, ◌+◌, ◌-◌, ◌%◌, ◌^◌, ◌<◌, ◌≤◌, Bool, true, false, cond, ltb, List, [], ◌∷◌, length, get_or, drop, ℤ, pos, negsuc, sym, refl, ap, ◌∙◌, subst, add-one, arith, drop_of_length-le, drop-cons, w64, SFits, to_z, of_z, ltb-false, ltb-true, le-ltb, lt-ltb}
-use mathlib.Core.Option.{Option, some, none}
+use Rattle.std.specs.Prelude.{Option, Some, None}
 use lib.Signed.{mag, lt_z}
 use mir.ValLaws.{to_z-of_z}
 use Rattle.answer.specs.Answer.{done, refused, check_entry}
@@ -101,10 +101,10 @@ module _ (count : ℕ) (list : List ℤ) (i : ℕ) (h : i < length list) (f : ma
   tested : b ≡ is_good count (get_or list i (pos 0))
   tested = still_good count (get_or list i (pos 0)) (record { sfits = f }) b e
 
-  pub bad_here : b ≡ false → some (to_z w64 (of_z w64 (get_or list i (pos 0)))) ≡ first_bad count list
+  pub bad_here : b ≡ false → Some (to_z w64 (of_z w64 (get_or list i (pos 0)))) ≡ first_bad count list
   unfolding first_bad
   bad_here t =
-      ap some (back count (get_or list i (pos 0)) (record { sfits = f }))
+      ap Some (back count (get_or list i (pos 0)) (record { sfits = f }))
       ∙ sym (rw (drop-cons list i (pos 0) h) (simp (sym tested ∙ t)))
       ∙ sofar
 
@@ -112,25 +112,25 @@ module _ (count : ℕ) (list : List ℤ) (i : ℕ) (h : i < length list) (f : ma
   unfolding first_bad
   bad_later t = sym (rw (drop-cons list i (pos 0) h, add-one) (simp (sym tested ∙ t))) ∙ sofar
 
-pub bad_none : (count : ℕ) (list : List ℤ) (i : ℕ) → length list ≤ i → first_bad count (drop i list) ≡ first_bad count list → none ≡ first_bad count list
+pub bad_none : (count : ℕ) (list : List ℤ) (i : ℕ) → length list ≤ i → first_bad count (drop i list) ≡ first_bad count list → None ≡ first_bad count list
 unfolding first_bad
 bad_none count list i h sofar = sym (ap (first_bad count) (drop_of_length-le list h)) ∙ sofar
 
 -- ---- a list with no bad entry
 -- its first is good, and the others have no bad one
-pub pair_good : (b : Bool) (later : Option ℤ) (e : ℤ) → cond b later (some e) ≡ none → (b ≡ true) × (later ≡ none)
+pub pair_good : (b : Bool) (later : Option ℤ) (e : ℤ) → cond b later (Some e) ≡ None → (b ≡ true) × (later ≡ None)
 pair_good true later e n = (refl, n)
 pair_good false later e n = absurd (let q : ◌≡◌ {A = ℕ} 0 1 = cc in omega arith)
 
 -- so every entry is good
-pub all_good : (count : ℕ) (list : List ℤ) (i : ℕ) → first_bad count list ≡ none → i < length list → is_good count (get_or list i (pos 0)) ≡ true
+pub all_good : (count : ℕ) (list : List ℤ) (i : ℕ) → first_bad count list ≡ None → i < length list → is_good count (get_or list i (pos 0)) ≡ true
 unfolding first_bad
 all_good count [] i n h = absurd (omega arith)
 all_good count (e ∷ es) zero n h = (pair_good (is_good count e) (first_bad count es) e n).0
 all_good count (e ∷ es) (suc i) n h = all_good count es i (pair_good (is_good count e) (first_bad count es) e n).1 (omega arith)
 
 -- and a list all of whose entries are good has no bad one
-pub none_bad : (count : ℕ) (list : List ℤ) → ((i : ℕ) → i < length list → is_good count (get_or list i (pos 0)) ≡ true) → first_bad count list ≡ none
+pub none_bad : (count : ℕ) (list : List ℤ) → ((i : ℕ) → i < length list → is_good count (get_or list i (pos 0)) ≡ true) → first_bad count list ≡ None
 unfolding first_bad
 none_bad count [] g = refl
 none_bad count (e ∷ es) g = rw (g 0 (omega arith)) (none_bad count es (λ i h. g (suc i) (omega arith)))

@@ -1,14 +1,13 @@
 -- Laws of the byte span, over plain numbers and lists.
 use Rattle.std.proofs.Common.{◌≡◌, ℕ, ◌+◌, ◌-◌, ◌/◌, ◌^◌, ◌<◌, ◌≤◌, min, max, true, List, [], ◌∷◌, ◌++◌, map, length, get_or, take, ℤ, pos, sym, refl, ap, ◌∙◌, add-one, arith, take_all, take-suc, w64, to_z, of_z, le-leb}
-use mathlib.Core.Option.{some, none}
+use Rattle.std.specs.Prelude.{Some, None}
+use Rattle.std.specs.Prelude.{Option, Some, None}
 use borrow.Author.Tests.{lt-leb}
 use lib.Signed.{mag}
 use mir.ValLaws.{to_z-of_z}
 use Rattle.answer.specs.Answer.{done, refused, count_limit}
 use Rattle.entries.specs.Entry.{is_good, means, first_bad, least, greatest, byte_of, span, span_answer}
 use Rattle.entries.specs.Private.{IsSpan}
-use Rattle.entries.specs.declared.Span.{Span}
-use Rattle.entries.specs.declared.Span.TheVariants as spans
 use Rattle.entries.proofs.EntryLaws.{means_below, pair_good}
 
 -- ---- the span of a list with one entry more
@@ -34,18 +33,18 @@ module _ (count : ℕ) where
 
   -- one entry more, of which the code knows the number n
   module _ (e : ℤ) (n : ℕ) (q : n ≡ means count e) where
-    pub span_first : (es : List ℤ) → IsSpan count es spans.Nothing → IsSpan count (es ++ (e ∷ [])) (spans.Bytes (n / 4) (n / 4))
+    pub span_first : (es : List ℤ) → IsSpan count es None → IsSpan count (es ++ (e ∷ [])) (Some (n / 4, n / 4))
     unfolding span least greatest byte_of
     span_first [] s =
         ap (λ (k : ℕ). pos (k / 4) ∷ pos (k / 4 + 1 - k / 4) ∷ []) q
         ∙ ap (λ (k : ℕ). pos (means count e / 4) ∷ pos k ∷ []) (let b = means count e / 4 in let one : b + 1 - b ≡ b - b + 1 = omega arith in one)
-    span_first (x ∷ xs) s = absurd (let some : 0 ≡ greatest (byte_of count x) (map (byte_of count) xs) - least (byte_of count x) (map (byte_of count) xs) + 1 = cc in omega arith)
+    span_first (x ∷ xs) s = absurd (let long : 0 ≡ greatest (byte_of count x) (map (byte_of count) xs) - least (byte_of count x) (map (byte_of count) xs) + 1 = cc in omega arith)
 
     pub span_next :
         (es : List ℤ) (lowest highest lowest' highest' : ℕ) → lowest' ≡ min lowest (n / 4) → highest' ≡ max highest (n / 4)
-        → IsSpan count es (spans.Bytes lowest highest) → IsSpan count (es ++ (e ∷ [])) (spans.Bytes lowest' highest')
+        → IsSpan count es (Some (lowest, highest)) → IsSpan count (es ++ (e ∷ [])) (Some (lowest', highest'))
     unfolding span byte_of
-    span_next [] lowest highest lowest' highest' a b s = absurd (let none : highest + 1 - lowest ≡ 0 = cc in let z : lowest ≡ 0 = cc in omega arith)
+    span_next [] lowest highest lowest' highest' a b s = absurd (let long : highest + 1 - lowest ≡ 0 = cc in let z : lowest ≡ 0 = cc in omega arith)
     span_next (x ∷ xs) lowest highest lowest' highest' a b s =
         let first = means count x / 4 in
         let bytes = map (byte_of count) xs in
@@ -64,7 +63,7 @@ module _ (count : ℕ) where
   unfolding byte_of
   byte_below e g = let b = means_below count e g in omega arith
 
-  pub greatest_below : (n : ℕ) (es : List ℤ) → n < count → first_bad count es ≡ none → greatest n (map (byte_of count) es) < count
+  pub greatest_below : (n : ℕ) (es : List ℤ) → n < count → first_bad count es ≡ None → greatest n (map (byte_of count) es) < count
   unfolding greatest first_bad
   greatest_below n [] h f = h
   greatest_below n (e ∷ es) h f =
@@ -72,9 +71,9 @@ module _ (count : ℕ) where
       let r = greatest_below (byte_of count e) es (byte_below e p.0) p.1 in
       omega arith
 
-  pub bytes_ordered : (es : List ℤ) (lowest highest : ℕ) → first_bad count es ≡ none → IsSpan count es (spans.Bytes lowest highest) → (lowest ≤ highest) × (highest < count)
+  pub bytes_ordered : (es : List ℤ) (lowest highest : ℕ) → first_bad count es ≡ None → IsSpan count es (Some (lowest, highest)) → (lowest ≤ highest) × (highest < count)
   unfolding span first_bad
-  bytes_ordered [] lowest highest f s = absurd (let none : highest + 1 - lowest ≡ 0 = cc in let z : lowest ≡ 0 = cc in omega arith)
+  bytes_ordered [] lowest highest f s = absurd (let long : highest + 1 - lowest ≡ 0 = cc in let z : lowest ≡ 0 = cc in omega arith)
   bytes_ordered (x ∷ xs) lowest highest f s =
       let bytes = map (byte_of count) xs in
       let first = byte_of count x in
@@ -87,17 +86,17 @@ module _ (count : ℕ) where
 
 -- ---- the walk: after i entries `sofar` is the span of the list that far
 module _ (count : ℕ) (list : List ℤ) where
-  pub record Walked (i : ℕ) (sofar : Span) : Type 0 where
+  pub record Walked (i : ℕ) (sofar : Option (ℕ × ℕ)) : Type 0 where
     pub bound : i ≤ length list
     pub far : IsSpan count (take i list) sofar
 
-  pub walked_none : Walked 0 spans.Nothing
+  pub walked_none : Walked 0 None
   unfolding span
   walked_none = record { bound = omega arith; far = refl }
 
   -- one step, known by its promise alone
   pub walked_more :
-      (i : ℕ) (sofar sofar' : Span) → Walked i sofar → i < length list → mag (get_or list i (pos 0)) < 2 ^ 63
+      (i : ℕ) (sofar sofar' : Option (ℕ × ℕ)) → Walked i sofar → i < length list → mag (get_or list i (pos 0)) < 2 ^ 63
       → ((before : List ℤ) → IsSpan count before sofar → IsSpan count (before ++ (to_z w64 (of_z w64 (get_or list i (pos 0))) ∷ [])) sofar')
       → Walked (i + 1) sofar'
   walked_more i sofar sofar' w h f step =
@@ -109,7 +108,7 @@ module _ (count : ℕ) (list : List ℤ) where
             ∙ ap (span count) (sym (rw add-one (take-suc list i (pos 0) h)));
       }
 
-  pub walked_all : (i : ℕ) (sofar : Span) → Walked i sofar → length list ≤ i → IsSpan count list sofar
+  pub walked_all : (i : ℕ) (sofar : Option (ℕ × ℕ)) → Walked i sofar → length list ≤ i → IsSpan count list sofar
   walked_all i sofar w h = w.far ∙ ap (span count) (take_all i list h)
 
 -- ---- the answer of `byte_span`, by its tests
@@ -119,10 +118,10 @@ module _ (count : ℕ) (list : List ℤ) where
   span_too_large h = simp (lt-leb count count_limit h)
 
   module _ (hc : count ≤ count_limit) where
-    pub span_bad : (e : ℤ) → first_bad count list ≡ some e → refused 5 (e ∷ []) ≡ span_answer count list
+    pub span_bad : (e : ℤ) → first_bad count list ≡ Some e → refused 5 (e ∷ []) ≡ span_answer count list
     unfolding span_answer
     span_bad e b = simp (le-leb count count_limit hc, b)
 
-    pub span_good : first_bad count list ≡ none → (vs : List ℤ) → vs ≡ span count list → done vs ≡ span_answer count list
+    pub span_good : first_bad count list ≡ None → (vs : List ℤ) → vs ≡ span count list → done vs ≡ span_answer count list
     unfolding span_answer
     span_good g vs e = simp (le-leb count count_limit hc, g, e)

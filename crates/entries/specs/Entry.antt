@@ -1,6 +1,6 @@
 -- Numbers in lists.
 use Rattle.std.specs.Prelude.{ℕ, suc, ◌+◌, ◌-◌, ◌/◌, min, max, Bool, cond, List, [], ◌∷◌, map, ℤ, pos, negsuc, nat_lt}
-use Rattle.std.proofs.Math.Option.{Option, some, none}
+use Rattle.std.specs.Prelude.{Option, Some, None}
 use Rattle.answer.specs.Answer.{Answer, done, check_entry, check_count}
 
 -- "Entry i from 0 to count − 1 means i; from −count to −1 it means count + i; all else is bad, for count 0 every entry."
@@ -16,8 +16,8 @@ means count (negsuc k) = count - suc k
 
 -- the first entry of a list that is bad for a count
 unfoldable pub first_bad : ℕ → List ℤ → Option ℤ
-first_bad count [] = none
-first_bad count (e ∷ es) = cond (is_good count e) (first_bad count es) (some e)
+first_bad count [] = None
+first_bad count (e ∷ es) = cond (is_good count e) (first_bad count es) (Some e)
 
 -- an entry by itself: the number that it means, after 5 or 6, whichever is its list's number n
 unfoldable pub entry_answer : ℕ → ℕ → ℤ → Answer

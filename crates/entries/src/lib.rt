@@ -1,50 +1,89 @@
 // Entries of a list: what they mean for a count.
 #![tactic(auto)]
 
-ghost use Rattle.std.specs.Prelude.{◌≡◌, ℕ, min, max, true, List, [], ◌∷◌, ◌++◌, ℤ, nat_lt};
-ghost use Rattle.answer.specs.Answer.{done, check_entry};
+ghost use Rattle.std.specs.Prelude.{◌≡◌, ℕ, Bool, true, false, List, [], ◌∷◌, ◌++◌, ℤ, nat_lt};
 ghost use Rattle.entries.specs.Entry.{is_good, means, first_bad, entry_answer, span_answer};
-ghost use Rattle.entries.specs.Says.{iid_says, sid_says, first_bad_says, span_says};
+ghost use Rattle.entries.specs.Says.{item_says, span_says};
 ghost use Rattle.entries.specs.Private.{IsSpan};
 
 // An animal's number and a marker's number, never one for the other.
-#[derive(Clone, Copy)]
+#[derive(Clone, Copy, Debug, PartialEq, Eq)]
 pub struct IidIndex(pub usize);
 
-#[derive(Clone, Copy)]
+#[derive(Clone, Copy, Debug, PartialEq, Eq)]
 pub struct SidIndex(pub usize);
 
-#[derive(Clone, Copy)]
-pub enum IidEntry {
-    Iid(IidIndex),
-    IidIndexTooBig(i64),
+// What the entries of a list name: animals, or markers.
+pub trait Item: Copy {
+    ghost is_animal: { Bool };
+
+    ghost number: { Self → ℕ };
+
+    // The number by which a bad entry of such a list is refused.
+    ghost refusal: { ℕ };
+
+    fn is_animal() -> bool
+        ensures { result ≡ is_animal };
+
+    fn from_number(n: usize) -> Self
+        ensures { number result ≡ n };
+
+    fn number(self) -> usize
+        ensures { result ≡ number self };
 }
 
-#[derive(Clone, Copy)]
-pub enum SidEntry {
-    Sid(SidIndex),
-    SidIndexTooBig(i64),
-}
+impl Item for IidIndex {
+    ghost is_animal = { true };
 
-// The animal that an entry means.
-pub fn iid_index(iid_count: usize, entry: i64) -> IidEntry
-    ensures { iid_says result ≡ entry_answer 5 iid_count entry }
-{
-    if is_good(iid_count, entry) {
-        IidEntry::Iid(IidIndex(number(iid_count, entry)))
-    } else {
-        IidEntry::IidIndexTooBig(entry)
+    ghost number = { λ iid. iid.0 };
+
+    ghost refusal = { 5 };
+
+    fn is_animal() -> bool {
+        true
+    }
+
+    fn from_number(n: usize) -> IidIndex {
+        IidIndex(n)
+    }
+
+    fn number(self) -> usize {
+        self.0
     }
 }
 
-// The marker that an entry means.
-pub fn sid_index(sid_count: usize, entry: i64) -> SidEntry
-    ensures { sid_says result ≡ entry_answer 6 sid_count entry }
+impl Item for SidIndex {
+    ghost is_animal = { false };
+
+    ghost number = { λ sid. sid.0 };
+
+    ghost refusal = { 6 };
+
+    fn is_animal() -> bool {
+        false
+    }
+
+    fn from_number(n: usize) -> SidIndex {
+        SidIndex(n)
+    }
+
+    fn number(self) -> usize {
+        self.0
+    }
+}
+
+// A bad entry of a list.
+#[derive(Clone, Copy, Debug, PartialEq, Eq)]
+pub struct BadEntry(pub i64);
+
+// The item that an entry means.
+pub fn item_index<I: Item>(count: usize, entry: i64) -> Result<I, BadEntry>
+    ensures { item_says I.number I.refusal result ≡ entry_answer I.refusal count entry }
 {
-    if is_good(sid_count, entry) {
-        SidEntry::Sid(SidIndex(number(sid_count, entry)))
+    if is_good(count, entry) {
+        Ok(I::from_number(number(count, entry)))
     } else {
-        SidEntry::SidIndexTooBig(entry)
+        Err(BadEntry(entry))
     }
 }
 
@@ -80,97 +119,59 @@ fn number(count: usize, entry: i64) -> usize
     entry as usize
 }
 
-// The animal that a good entry means, and the marker.
-pub fn iid_of(iid_count: usize, entry: i64) -> IidIndex
-    ensures { result.0 ≡ means iid_count entry }
+// The item that a good entry means.
+pub fn item_of<I: Item>(count: usize, entry: i64) -> I
+    ensures { I.number result ≡ means count entry }
 {
-    IidIndex(number(iid_count, entry))
-}
-
-pub fn sid_of(sid_count: usize, entry: i64) -> SidIndex
-    ensures { result.0 ≡ means sid_count entry }
-{
-    SidIndex(number(sid_count, entry))
-}
-
-#[derive(Clone, Copy)]
-pub enum FirstBad {
-    Entry(i64),
-    Nothing,
+    I::from_number(number(count, entry))
 }
 
 // The first bad entry of a list.
-pub fn first_bad(count: usize, list: &[i64]) -> FirstBad
-    ensures { (n : ℕ) → first_bad_says n result ≡ check_entry (first_bad count list.now) n (done []) }
+pub fn first_bad(count: usize, list: &[i64]) -> Option<i64>
+    ensures { result ≡ first_bad count list.now }
 {
-    let mut i = 0;
-    while i < list.len() {
-        let entry = list[i];
-        if is_good(count, entry) {
-            i += 1;
-        } else {
-            return FirstBad::Entry(entry);
+    for &entry in list {
+        if !is_good(count, entry) {
+            return Some(entry);
         }
     }
-    FirstBad::Nothing
+    None
 }
 
-#[derive(Clone, Copy)]
-pub enum SpanAnswer {
-    Span(usize, usize),
+// What `byte_span` refuses: 18, or 5.
+#[derive(Clone, Copy, Debug, PartialEq, Eq)]
+pub enum SpanError {
     CountTooLarge,
     IidIndexTooBig(i64),
 }
 
-fn smaller(a: usize, b: usize) -> usize
-    ensures { result ≡ min a b }
-{
-    if a < b { a } else { b }
-}
-
-fn larger(a: usize, b: usize) -> usize
-    ensures { result ≡ max a b }
-{
-    if a < b { b } else { a }
-}
-
-// A span so far: of nothing, or its lowest and its highest byte.
-#[derive(Clone, Copy)]
-enum Span {
-    Nothing,
-    Bytes(usize, usize),
-}
-
-// The step: the span so far and the next entry make the span of the list that far.
-fn widened(count: usize, sofar: Span, entry: i64) -> Span
+// The step: the span so far and the next entry make the span of the list that far. A span is its lowest and its highest byte, and none of nothing.
+fn widened(count: usize, sofar: Option<(usize, usize)>, entry: i64) -> Option<(usize, usize)>
     ensures { (before : List ℤ) → IsSpan count before sofar → IsSpan count (before ++ (entry ∷ [])) result }
 {
     let byte = number(count, entry) / 4;
     match sofar {
-        Span::Nothing => Span::Bytes(byte, byte),
-        Span::Bytes(lowest, highest) => Span::Bytes(smaller(lowest, byte), larger(highest, byte)),
+        None => Some((byte, byte)),
+        Some((lowest, highest)) => Some((lowest.min(byte), highest.max(byte))),
     }
 }
 
 // The byte span of a list, as its lowest byte and its length in bytes: one walk, in which each entry is tested and meets the step.
-pub fn byte_span(count: usize, list: &[i64]) -> SpanAnswer
+pub fn byte_span(count: usize, list: &[i64]) -> Result<(usize, usize), SpanError>
     ensures { span_says result ≡ span_answer count list.now }
 {
     if count > answer::COUNT_LIMIT {
-        return SpanAnswer::CountTooLarge;
+        return Err(SpanError::CountTooLarge);
     }
-    let mut sofar = Span::Nothing;
-    let mut met = 0;
-    while met < list.len() {
-        let entry = list[met];
-        if !is_good(count, entry) {
-            return SpanAnswer::IidIndexTooBig(entry);
+    let mut sofar = None;
+    for &next in list {
+        if !is_good(count, next) {
+            return Err(SpanError::IidIndexTooBig(next));
         }
-        sofar = widened(count, sofar, entry);
-        met += 1;
+        sofar = widened(count, sofar, next);
     }
     match sofar {
-        Span::Nothing => SpanAnswer::Span(0, 0),
-        Span::Bytes(lowest, highest) => SpanAnswer::Span(lowest, highest - lowest + 1),
+        None => Ok((0, 0)),
+        Some((lowest, highest)) => Ok((lowest, highest - lowest + 1)),
     }
 }

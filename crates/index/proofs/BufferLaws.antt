@@ -3,12 +3,10 @@ use mathlib.Core.Path.{◌≡◌, refl, sym, ap, ◌∙◌, subst}
 use mathlib.Core.List.{List, [], ◌∷◌, ◌++◌}
 use Prim.Native.Nat.{ℕ, zero, suc, ◌+◌, ◌≤◌, ◌<◌}
 use native.Mathlib.Nat.{not-suc-le-zero, le_of_suc-le-suc}
-use native.Mathlib.Numerals.{add-one}
 use native.Mathlib.Omega.{arith}
 use borrow.Author.Tests.{le-leb, lt-leb}
 use lib.IntN.{ℤ, pos}
-use lib.ListN.{length, drop, set, take, get_or, length-append, length-set}
-use lib.Seq.{take-suc}
+use lib.ListN.{length, drop, set, length-append, length-set}
 use Rattle.answer.specs.Answer.{Answer, done, refused, check}
 use Rattle.answer.specs.Lists.{tabulate}
 use Rattle.index.specs.Checks.{list_answer, list_buffer}
@@ -27,12 +25,6 @@ pub tabulate_suc : {A : Type 0} (n : ℕ) (f : ℕ → A) → tabulate (suc n) f
 unfolding tabulate
 tabulate_suc zero f = refl
 tabulate_suc (suc n) f = ap (λ l. f 0 ∷ l) (tabulate_suc n (λ k. f (suc k)))
-
-pub tabulate_more : (n : ℕ) (f : ℕ → ℤ) → tabulate (n + 1) f ≡ tabulate n f ++ (f n ∷ [])
-tabulate_more n f = rw add-one (tabulate_suc n f)
-
-pub take_more : (l : List ℤ) (n : ℕ) (d : ℤ) → n < length l → take (n + 1) l ≡ take n l ++ (get_or l n d ∷ [])
-take_more l n d h = rw add-one (take-suc l n d h)
 
 -- a buffer whose first n places hold a list, the others being old
 pub record Filled (front old : List ℤ) (n : ℕ) (new : List ℤ) : Type 0 where
@@ -64,11 +56,13 @@ module _ (list old : List ℤ) where
   unfolding list_answer list_buffer check
   too_short h = record { answer = simp (lt-leb (length list) (length old) h); buffer = simp (lt-leb (length list) (length old) h) }
 
-  pub placed : {front new : List ℤ} {n k : ℕ} → length list ≡ n → n ≤ length old → list ≡ front → Filled front old k new → Listed list old (done (pos n ∷ [])) new
+  pub placed : {new : List ℤ} → length list ≤ length old → new ≡ laid list old → Listed list old (done (pos (length list) ∷ [])) new
   unfolding list_answer list_buffer check
-  placed c h e f =
-      let g : length list ≤ length old = omega arith in
-      record { answer = ap (λ (m : ℕ). done (pos m ∷ [])) (sym c) ∙ simp (le-leb (length list) (length old) g); buffer = simp (le-leb (length list) (length old) g) (f.holds ∙ ap (λ (l : List ℤ). laid l old) (sym e)) }
+  placed h e = record { answer = simp (le-leb (length list) (length old) h); buffer = simp (le-leb (length list) (length old) h) e }
+
+  pub filled_placed : {front new : List ℤ} {n k : ℕ} → length list ≡ n → n ≤ length old → list ≡ front → Filled front old k new → Listed list old (done (pos n ∷ [])) new
+  filled_placed {front} {new} {n} c h e f =
+      subst (λ (m : ℕ). Listed list old (done (pos m ∷ [])) new) c (placed (omega arith) (f.holds ∙ ap (λ (l : List ℤ). laid l old) (sym e)))
 
 -- a list that the checks let through, and a refusal of theirs
 module _ {checks : Answer → Answer} {means old : List ℤ} where

@@ -4,7 +4,6 @@ pub mod BufferLaws
 pub mod MarkLaws
 pub mod SignedLaws
 pub mod SliceLaws
-pub mod VerdictLaws
 pub mod RangeLaws
 pub mod IndexLaws
 pub mod Meaning

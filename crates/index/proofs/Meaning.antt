@@ -11,12 +11,11 @@ use Rattle.answer.specs.Answer.{done, refused, check, check_count, count_limit}
 use Rattle.answer.specs.Lists.{tabulate}
 use Rattle.answer.proofs.Tabulate.{length_tabulate, get_d_tabulate}
 use Rattle.index.specs.declared.Index.{Index}
-use Rattle.index.specs.declared.range.Bound.TheVariants as Bound
-use Rattle.index.specs.declared.slice.SliceEnd.TheVariants as SliceEnd
-use Rattle.index.specs.Numbers.{numbers_below, distances, forward, backward, stepped, slice_list, slice_end, from_count, index_list, bound_or, range_list, marked}
-use Rattle.index.specs.Private.{steps_below}
+use Rattle.std.specs.Prelude.{Some, None}
+use Rattle.std.specs.Borrow.{Bor}
+use Rattle.index.specs.Numbers.{numbers_below, distances, forward, backward, stepped, slice_list, slice_end, from_count, index_list, range_list, marked}
 use Rattle.index.specs.Checks.{check_index, check_slice, check_end, check_range, check_bound, list_answer, list_buffer, index_answer, index_buffer, range_answer}
-use Rattle.index.proofs.StepLaws.{inside, reached, forward_is, backward_is}
+use Rattle.index.proofs.StepLaws.{steps_below, inside, reached, forward_is, backward_is}
 
 module _ (start end step k : ℕ) (p : 0 < step) where
   -- a forward slice has a place k exactly if start + k · step is below end, and that number stands there
@@ -50,10 +49,10 @@ module _ (start end step k : ℕ) (p : 0 < step) where
 
 -- a slice, as an index
 abbrev pub slice : ℤ → ℤ → ℤ → Index
-slice start end step = Index.NDSliceInfo (record { start = start; end = SliceEnd.At end; step = step })
+slice start end step = Index.NDSliceInfo (record { start = start; end = Some end; step = step })
 
 -- "Count 6, slice 1 to 6 step −2: 5, 3, 1."
-pub slice_down : index_list (slice (pos 1) (pos 6) (negsuc 1)) 6 [] [] ≡ pos 5 ∷ pos 3 ∷ pos 1 ∷ []
+pub slice_down : index_list (slice (pos 1) (pos 6) (negsuc 1)) 6 ≡ pos 5 ∷ pos 3 ∷ pos 1 ∷ []
 unfolding index_list slice_list stepped backward distances numbers_below slice_end from_count
 slice_down = refl
 
@@ -65,48 +64,48 @@ pub least_step : stepped 0 count_limit least ≡ pos (2 ^ 63 - 2) ∷ []
 unfolding stepped steps_below tabulate
 least_step = backward_is 0 count_limit (2 ^ 63) (omega arith)
 
-pub least_start : index_answer (slice least least (pos 1)) count_limit [] [] 0 ≡ refused 10 []
+pub least_start : index_answer (slice least least (pos 1)) count_limit 0 ≡ refused 10 []
 unfolding index_answer check_index check_slice check_end check_count check
 least_start = refl
 
-pub least_end : index_answer (slice (negsuc 0) least (pos 1)) count_limit [] [] 0 ≡ refused 11 []
+pub least_end : index_answer (slice (negsuc 0) least (pos 1)) count_limit 0 ≡ refused 11 []
 unfolding index_answer check_index check_slice check_end check_count check
 least_end = refl
 
 -- 9 comes before 10 and 11
-pub zero_first : index_answer (slice least least (pos 0)) 1 [] [] 1 ≡ refused 9 []
+pub zero_first : index_answer (slice least least (pos 0)) 1 1 ≡ refused 9 []
 unfolding index_answer check_index check_slice check_count check
 zero_first = refl
 
 -- 9 and 8 come before 19
-pub zero_before_short : index_answer (slice (pos 0) (pos 1) (pos 0)) 1 [] [] 0 ≡ refused 9 []
+pub zero_before_short : index_answer (slice (pos 0) (pos 1) (pos 0)) 1 0 ≡ refused 9 []
 unfolding index_answer check_index check_slice check_count check
 zero_before_short = refl
 
-pub marks_before_short : index_answer Index.VecBool 2 [] (1 ∷ []) 0 ≡ refused 8 []
+pub marks_before_short : (marks : Bor (List ℕ)) → marks.now ≡ 1 ∷ [] → index_answer (Index.VecBool marks) 2 0 ≡ refused 8 []
 unfolding index_answer check_index check_count check
-marks_before_short = refl
+marks_before_short marks e = rw e refl
 
 -- 18 comes before 12, and an absent bound does not meet it
-pub bound_first : range_answer (record { start = Bound.At (2 ^ 63); end = Bound.At 0 }) 1 ≡ refused 18 []
+pub bound_first : range_answer (record { start = Some (2 ^ 63); end = Some 0 }) 1 ≡ refused 18 []
 unfolding range_answer check_range check_bound check_count check
 bound_first = refl
 
-pub bounds_absent : range_answer (record { start = Bound.Absent; end = Bound.Absent }) count_limit ≡ done (pos 0 ∷ pos count_limit ∷ [])
-unfolding range_answer check_range check_bound check_count check bound_or
+pub bounds_absent : range_answer (record { start = None; end = None }) count_limit ≡ done (pos 0 ∷ pos count_limit ∷ [])
+unfolding range_answer check_range check_bound check_count check
 bounds_absent = refl
 
 -- "end may pass count"; later places are unchanged
-pub range_past : index_buffer (Index.RangeAny (record { start = Bound.At 2; end = Bound.At 5 })) 3 [] [] (pos 9 ∷ pos 9 ∷ pos 9 ∷ pos 8 ∷ []) ≡ pos 2 ∷ pos 3 ∷ pos 4 ∷ pos 8 ∷ []
-unfolding index_buffer index_answer check_index check_range check_bound check_count check list_answer list_buffer index_list range_list bound_or tabulate
+pub range_past : index_buffer (Index.RangeAny (record { start = Some 2; end = Some 5 })) 3 (pos 9 ∷ pos 9 ∷ pos 9 ∷ pos 8 ∷ []) ≡ pos 2 ∷ pos 3 ∷ pos 4 ∷ pos 8 ∷ []
+unfolding index_buffer index_answer check_index check_range check_bound check_count check list_answer list_buffer index_list range_list tabulate
 range_past = refl
 
 -- "nonzero chosen"
-pub marks_chosen : index_list Index.VecBool 4 [] (0 ∷ 255 ∷ 0 ∷ 2 ∷ []) ≡ pos 1 ∷ pos 3 ∷ []
+pub marks_chosen : (marks : Bor (List ℕ)) → marks.now ≡ 0 ∷ 255 ∷ 0 ∷ 2 ∷ [] → index_list (Index.VecBool marks) 4 ≡ pos 1 ∷ pos 3 ∷ []
 unfolding index_list marked numbers_below
-marks_chosen = refl
+marks_chosen marks e = rw e refl
 
 -- 19 for a list that is longer than any buffer
-pub all_too_long : (vec : List ℤ) (marks : List ℕ) (room : ℕ) → room < count_limit → index_answer Index.All count_limit vec marks room ≡ refused 19 []
+pub all_too_long : (room : ℕ) → room < count_limit → index_answer Index.All count_limit room ≡ refused 19 []
 unfolding index_answer check_index check_count check list_answer index_list
-all_too_long vec marks room h = simp (length_tabulate count_limit pos, lt-leb count_limit room h)
+all_too_long room h = simp (length_tabulate count_limit pos, lt-leb count_limit room h)

@@ -1,34 +1,33 @@
 -- The checks of a range: laws over plain values.
-use mathlib.Core.Path.{◌≡◌, refl, sym, ap, ◌∙◌, subst}
-use mathlib.Core.Bool.{false}
+use mathlib.Core.Path.{◌≡◌, refl, sym, ap, ◌∙◌}
+use mathlib.Core.Bool.{true}
 use mathlib.Core.List.{List, [], ◌∷◌}
-use Prim.Native.Nat.{ℕ, ◌≤◌, ◌<◌}
+use Prim.Native.Nat.{ℕ, ◌+◌, ◌-◌, ◌≤◌, ◌<◌}
 use native.Mathlib.Omega.{arith}
-use borrow.Author.Tests.{le-leb, lt-leb, leb-true}
+use borrow.Author.Tests.{le-leb, lt-leb}
 use lib.IntN.{ℤ, pos}
 use lib.Dec.{leb}
-use Rattle.answer.specs.Answer.{Answer, done, refused, check, check_count, count_limit}
-use Rattle.index.specs.declared.range.Bound.{Bound}
+use Rattle.answer.specs.Answer.{Answer, done, refused, is_done, check, check_count, count_limit}
+use Rattle.std.specs.Prelude.{Option, Some, None}
 use Rattle.index.specs.declared.range.RangeAny.{RangeAny}
-use Rattle.index.specs.declared.slice.RangeNdSlice.{RangeNdSlice}
 use Rattle.index.specs.Numbers.{bound_or, range_list}
 use Rattle.index.specs.Checks.{check_bound, check_range, range_answer}
-use Rattle.index.specs.Private.{walk_of, Walk, numbers, Listed, Checked}
+use Rattle.index.specs.Private.{Listed, Checked}
 use Rattle.index.proofs.BufferLaws.{let_through, stopped}
-use Rattle.index.proofs.SliceLaws.{consecutive}
-use Rattle.index.proofs.VerdictLaws.{Verdict, passes, of_check, then, passed, refusing, inner, check_true}
+use Rattle.answer.specs.Lists.{tabulate}
+use Rattle.answer.proofs.AnswerLaws.{Stage, lets, check_stage, count_stage, then_stage, heard, stays, count_done}
 
 -- a bound is checked as what it is, since what it is if absent passes
 module _ (absent : ℕ) (a : absent ≤ count_limit) where
-  bound_fits : (b : Bound) (later : Answer) → bound_or absent b ≤ count_limit → check_bound b later ≡ later
-  unfolding check_bound bound_or check_count check
-  bound_fits Bound.Absent later h = refl
-  bound_fits (Bound.At n) later h = simp (le-leb n count_limit h)
+  bound_fits : (b : Option ℕ) (later : Answer) → bound_or absent b ≤ count_limit → check_bound b later ≡ later
+  unfolding check_bound check_count check
+  bound_fits None later h = refl
+  bound_fits (Some n) later h = simp (le-leb n count_limit h)
 
-  bound_too_large : (b : Bound) (later : Answer) → count_limit < bound_or absent b → check_bound b later ≡ refused 18 []
-  unfolding check_bound bound_or check_count check
-  bound_too_large Bound.Absent later h = absurd (omega arith)
-  bound_too_large (Bound.At n) later h = simp (lt-leb n count_limit h)
+  bound_too_large : (b : Option ℕ) (later : Answer) → count_limit < bound_or absent b → check_bound b later ≡ refused 18 []
+  unfolding check_bound check_count check
+  bound_too_large None later h = absurd (omega arith)
+  bound_too_large (Some n) later h = simp (lt-leb n count_limit h)
 
 -- the answer of `RangeAny::to_range`, by its tests
 module _ (r : RangeAny) (count : ℕ) where
@@ -61,32 +60,32 @@ module _ (r : RangeAny) (count : ℕ) where
         unfolding range_answer check_range check_count check
         range_is h = simp (le-leb count count_limit hc, start_passes, end_passes, ← es, ← ee, le-leb s e h)
 
-of_bound : (b : Bound) → Verdict (check_bound b)
-unfolding check_bound check_count
-of_bound Bound.Absent = passes (λ later. refl)
-of_bound (Bound.At n) = of_check (leb n count_limit) 18
+bound_stage : (b : Option ℕ) → Stage (λ later. check_bound b later)
+unfolding check_bound
+bound_stage None = lets (λ later. refl)
+bound_stage (Some n) = count_stage n
 
-bound_passed : (b : Bound) (absent : ℕ) → absent ≤ count_limit → (later : Answer) {ws : List ℤ} → check_bound b later ≡ done ws → bound_or absent b ≤ count_limit
-unfolding check_bound check_count bound_or
-bound_passed Bound.Absent absent h later e = h
-bound_passed (Bound.At n) absent h later e = leb-true n count_limit (check_true (leb n count_limit) 18 later e)
+bound_done : (b : Option ℕ) (absent : ℕ) → absent ≤ count_limit → (later : Answer) → is_done (check_bound b later) ≡ true → (bound_or absent b ≤ count_limit) × (is_done later ≡ true)
+unfolding check_bound
+bound_done None absent h later e = (h, e)
+bound_done (Some n) absent h later e = count_done n later e
 
 -- what `RangeAny::to_range` answered tells what the checks of a range say
 module _ (r : RangeAny) (count : ℕ) (hc : count ≤ count_limit) where
-  of_range : Verdict (check_range r count)
+  range_stage : Stage (λ later. check_range r count later)
   unfolding check_range
-  of_range = then (of_bound r.start) (then (of_bound r.end) (of_check (leb (bound_or 0 r.start) (bound_or count r.end)) 12))
+  range_stage = then_stage (bound_stage r.start) (then_stage (bound_stage r.end) (check_stage (leb (bound_or 0 r.start) (bound_or count r.end)) 12))
 
   said : {a : Answer} → a ≡ range_answer r count → check_range r count (done (pos (bound_or 0 r.start) ∷ pos (bound_or count r.end) ∷ [])) ≡ a
   unfolding range_answer check_count check
   said e = sym (e ∙ simp (le-leb count count_limit hc))
 
   pub range_stopped : {n : ℕ} {old : List ℤ} → refused n [] ≡ range_answer r count → Checked (check_range r count) (range_list r count) old (refused n []) old
-  range_stopped e = stopped (refusing of_range (said e))
+  range_stopped e = stopped (stays range_stage _ _ [] (said e))
 
   module _ (s e : ℕ) (q : done (pos s ∷ pos e ∷ []) ≡ range_answer r count) where
     range_passes : (later : Answer) → check_range r count later ≡ later
-    range_passes = passed of_range (said q)
+    range_passes = heard range_stage _ (ap is_done (said q))
 
     bounds : ◌≡◌ {A = Answer} (done (pos (bound_or 0 r.start) ∷ pos (bound_or count r.end) ∷ [])) (done (pos s ∷ pos e ∷ []))
     bounds = sym (range_passes (done (pos (bound_or 0 r.start) ∷ pos (bound_or count r.end) ∷ []))) ∙ said q
@@ -97,13 +96,13 @@ module _ (r : RangeAny) (count : ℕ) (hc : count ≤ count_limit) where
     end_is : bound_or count r.end ≡ e
     end_is = let b = bounds in cc
 
-    end_fits_law : bound_or count r.end ≤ count_limit
+    pub range_end_fits : e ≤ count_limit
     unfolding check_range
-    end_fits_law = bound_passed r.end count hc _ (inner (of_bound r.start) _ (said q))
+    range_end_fits =
+        let started = bound_done r.start 0 (omega arith) _ (ap is_done (said q)) in
+        let ended = bound_done r.end count hc _ started.1 in
+        omega (arith, end_is, ended.0)
 
-    pub range_walk : {walk : RangeNdSlice} → walk ≡ walk_of s e 1 false → Walk walk
-    range_walk w = subst Walk (sym w) (record { step = omega arith; step_fits = omega arith; end_fits = omega (arith, end_is, end_fits_law) })
-
-    pub range_listed : {old new : List ℤ} {says : Answer} {walk : RangeNdSlice} → walk ≡ walk_of s e 1 false → Listed (numbers walk) old says new → Checked (check_range r count) (range_list r count) old says new
+    pub range_listed : {old new : List ℤ} {says : Answer} (list : List ℤ) → list ≡ tabulate (e - s) (λ k. pos (s + k)) → Listed list old says new → Checked (check_range r count) (range_list r count) old says new
     unfolding range_list
-    range_listed w = let_through range_passes (ap numbers w ∙ consecutive s e _ _ (rw (start_is, end_is) refl) (λ k. rw start_is refl))
+    range_listed list l = let_through range_passes (l ∙ rw (start_is, end_is) refl)

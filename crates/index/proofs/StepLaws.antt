@@ -3,22 +3,26 @@ use mathlib.Core.Path.{◌≡◌, refl, sym, ap, ◌∙◌}
 use mathlib.Core.Bool.{Bool, true, false}
 use mathlib.Core.List.{List, [], ◌∷◌, ◌++◌, map}
 use Prim.Native.Nat.{ℕ, zero, suc, ◌+◌, ◌-◌, ◌*◌, ◌/◌, ◌%◌, ◌≤◌, ◌<◌}
-use native.Mathlib.Nat.{le-div_iff_mul-le, div-eq_of_lt, div-eq_of_lt-le, div-add-mod', mod-lt, pos_of_ne-zero}
+use native.Mathlib.Nat.{mul-one, le-div_iff_mul-le, div-eq_of_lt, div-eq_of_lt-le, div-add-mod', mod-lt, pos_of_ne-zero}
 use native.Mathlib.Omega.{arith}
-use borrow.Author.Tests.{eqb-true, eqb-false}
+use borrow.Author.Tests.{eqb-true, eqb-false, le-ltb}
+use lib.Signed.{lt_z}
 use lib.Dec.{eqb}
-use lib.IntN.{pos}
-use lib.ListN.{length}
+use lib.IntN.{ℤ, pos, negsuc, nat_abs}
+use lib.ListN.{length, get_or}
 use mir.Syntax.{w64}
 use mir.Val.{to_z}
+use Rattle.answer.specs.Answer.{count_limit}
 use mir.Facts.{to_z_pos}
 use Rattle.answer.specs.Lists.{tabulate}
-use Rattle.answer.proofs.Tabulate.{length_tabulate, map_tabulate}
-use Rattle.index.specs.declared.slice.RangeNdSlice.{RangeNdSlice}
-use Rattle.index.specs.Numbers.{numbers_below, distances, forward, backward}
-use Rattle.index.specs.Private.{Walk, steps_below, slice_number, numbers}
+use Rattle.answer.proofs.Tabulate.{length_tabulate, map_tabulate, get_d_tabulate, tabulate_ext}
+use Rattle.index.specs.Numbers.{numbers_below, distances, forward, backward, walk, stepped}
 use Rattle.index.proofs.BelowLaws.{below_more, below_same}
 use Rattle.index.proofs.BufferLaws.{tabulate_suc}
+
+-- how many of 0, step, 2 · step and so on are below n
+unfoldable pub steps_below : ℕ → ℕ → ℕ
+steps_below n step = (n + step - 1) / step
 
 module _ (n step k : ℕ) (p : 0 < step) where
   -- k is one of the steps exactly if k · step is below n
@@ -96,19 +100,41 @@ module _ (start end step : ℕ) (p : 0 < step) where
   unfolding backward distances
   backward_is = ap (map (λ (d : ℕ). pos (end - 1 - d))) (multiples step p (end - start)) ∙ map_tabulate (λ (d : ℕ). pos (end - 1 - d)) (steps_below (end - start) step) (λ k. k * step)
 
--- the numbers of a slice, once as many are there as it has
-pub numbers_all : (s : RangeNdSlice) (n k : ℕ) → n ≡ steps_below (s.end - s.start) s.step → k ≤ n → n ≤ k → numbers s ≡ tabulate k (slice_number s)
-numbers_all s n k e a b = ap (λ (m : ℕ). tabulate m (slice_number s)) (omega arith)
+  pub length_walk : (is_reversed : Bool) → length (walk start end step is_reversed) ≡ steps_below (end - start) step
+  length_walk true = ap length backward_is ∙ length_tabulate (steps_below (end - start) step) (λ k. pos (end - 1 - k * step))
+  length_walk false = ap length forward_is ∙ length_tabulate (steps_below (end - start) step) (λ k. pos (start + k * step))
 
--- the number at a place, from the machine's bits
-module _ (s : RangeNdSlice) (k : ℕ) (w : Walk s) (h : s.start + k * s.step < s.end) where
-  pub from_end : s.is_reversed ≡ true → to_z w64 (s.end - 1 - k * s.step) ≡ slice_number s k
-  unfolding slice_number
-  from_end r = simp r (to_z_pos w64 (omega (arith, w.end_fits)))
+-- a slice of the code, of whose list the fields are known
+module _ (start end step : ℕ) (is_reversed : Bool) (list : List ℤ) (is : walk start end step is_reversed ≡ list) (p : 0 < step) where
+  pub len_is : length list ≡ steps_below (end - start) step
+  len_is = sym (ap length is) ∙ length_walk start end step p is_reversed
 
-  pub from_start : s.is_reversed ≡ false → to_z w64 (s.start + k * s.step) ≡ slice_number s k
-  unfolding slice_number
-  from_start r = simp r (to_z_pos w64 (omega (arith, w.end_fits)))
+  module _ (k : ℕ) (h : k < length list) where
+    pub on_the_way : k * step < end - start
+    on_the_way = inside (end - start) step k p (omega (arith, len_is))
 
-pub len_is : (s : RangeNdSlice) (n : ℕ) → n ≡ steps_below (s.end - s.start) s.step → length (numbers s) ≡ n
-len_is s n e = length_tabulate (steps_below (s.end - s.start) s.step) (slice_number s) ∙ sym e
+    pub from_end : is_reversed ≡ true → end ≤ count_limit → to_z w64 (end - 1 - k * step) ≡ get_or list k (pos 0)
+    from_end r f =
+        to_z_pos w64 (omega arith)
+        ∙ sym (get_d_tabulate (steps_below (end - start) step) (λ j. pos (end - 1 - j * step)) k (pos 0) (omega (arith, len_is)))
+        ∙ ap (λ (l : List ℤ). get_or l k (pos 0)) (sym (backward_is start end step p) ∙ sym (ap (walk start end step) r) ∙ is)
+
+    pub from_start : is_reversed ≡ false → end ≤ count_limit → to_z w64 (start + k * step) ≡ get_or list k (pos 0)
+    from_start r f =
+        let way = on_the_way in
+        to_z_pos w64 (omega arith)
+        ∙ sym (get_d_tabulate (steps_below (end - start) step) (λ j. pos (start + j * step)) k (pos 0) (omega (arith, len_is)))
+        ∙ ap (λ (l : List ℤ). get_or l k (pos 0)) (sym (forward_is start end step p) ∙ sym (ap (walk start end step) r) ∙ is)
+
+-- the walk of a step's magnitude, backward if the step is below 0, is that of the step
+pub walk_is : (start end : ℕ) (step : ℤ) → 0 < nat_abs step → walk start end (nat_abs step) (lt_z step (pos 0)) ≡ stepped start end step
+unfolding stepped
+walk_is start end (pos n) p = simp (le-ltb n 0 (omega arith))
+walk_is start end (negsuc k) p = refl
+
+-- a step of 1
+pub consecutive : (start end : ℕ) → forward start end 1 ≡ tabulate (end - start) (λ k. pos (start + k))
+consecutive start end =
+    forward_is start end 1 (omega arith)
+    ∙ tabulate_ext (steps_below (end - start) 1) (λ k. pos (start + k * 1)) (λ k. pos (start + k)) (λ k h. ap (λ (j : ℕ). pos (start + j)) (mul-one k))
+    ∙ ap (λ (n : ℕ). tabulate n (λ k. pos (start + k))) (by_one (end - start))

@@ -1,8 +1,6 @@
 -- The list that each kind of index means, for a count.
-use Rattle.std.specs.Prelude.{Bool, cond, not, List, [], ◌∷◌, ◌++◌, map, ℕ, zero, suc, ◌+◌, ◌-◌, ◌%◌, ℤ, pos, negsuc, nat_abs, eqb, length, get_or}
+use Rattle.std.specs.Prelude.{Bool, cond, not, List, [], ◌∷◌, ◌++◌, map, ℕ, zero, suc, ◌+◌, ◌-◌, ◌%◌, ℤ, pos, negsuc, nat_abs, eqb, length, get_or, Option, Some, None, unwrap_or}
 use Rattle.answer.specs.Lists.{tabulate}
-use Rattle.index.specs.declared.range.Bound.{Bound}
-use Rattle.index.specs.declared.slice.SliceEnd.{SliceEnd}
 use Rattle.index.specs.declared.range.RangeAny.{RangeAny}
 use Rattle.index.specs.declared.slice.SliceInfo1.{SliceInfo1}
 use Rattle.index.specs.declared.Index.{Index}
@@ -17,9 +15,8 @@ unfoldable pub marked : List ℕ → List ℤ
 marked marks = map pos (numbers_below (length marks) (λ i. not (eqb (get_or marks i 0) 0)))
 
 -- "start absent 0, end absent count": a bound, or what it is if absent
-unfoldable pub bound_or : ℕ → Bound → ℕ
-bound_or absent Bound.Absent = absent
-bound_or absent (Bound.At n) = n
+abbrev pub bound_or : ℕ → Option ℕ → ℕ
+bound_or absent bound = unwrap_or bound absent
 
 -- "range (start absent 0, end absent count, end may pass count)": start, start + 1 and so on below end
 unfoldable pub range_list : RangeAny → ℕ → List ℤ
@@ -35,9 +32,9 @@ from_count count (pos n) = n
 from_count count (negsuc k) = count - suc k
 
 -- "and its absent end is count"
-unfoldable pub slice_end : ℕ → SliceEnd → ℕ
-slice_end count SliceEnd.Absent = count
-slice_end count (SliceEnd.At e) = from_count count e
+unfoldable pub slice_end : ℕ → Option ℤ → ℕ
+slice_end count None = count
+slice_end count (Some e) = from_count count e
 
 -- how far from its first number a slice goes: 0, step, 2 · step and so on below end − start, which are the numbers
 -- there that step divides. "Start ≥ end: empty."
@@ -52,6 +49,10 @@ forward start end step = map (λ d. pos (start + d)) (distances start end step)
 unfoldable pub backward : ℕ → ℕ → ℕ → List ℤ
 backward start end step = map (λ d. pos (end - 1 - d)) (distances start end step)
 
+-- backward if that is so, else forward
+abbrev pub walk : ℕ → ℕ → ℕ → Bool → List ℤ
+walk start end step is_reversed = cond is_reversed (backward start end step) (forward start end step)
+
 -- forward for a step above 0, backward for one below
 unfoldable pub stepped : ℕ → ℕ → ℤ → List ℤ
 stepped start end (pos step) = forward start end step
@@ -62,10 +63,10 @@ unfoldable pub slice_list : SliceInfo1 → ℕ → List ℤ
 slice_list s count = stepped (from_count count s.start) (slice_end count s.end) s.step
 
 -- "All; one; a list; marks (nonzero chosen); range ..; slice."
-unfoldable pub index_list : Index → ℕ → List ℤ → List ℕ → List ℤ
-index_list Index.All count vec marks = tabulate count pos
-index_list (Index.One one) count vec marks = one ∷ []
-index_list Index.Vec count vec marks = vec
-index_list Index.VecBool count vec marks = marked marks
-index_list (Index.RangeAny r) count vec marks = range_list r count
-index_list (Index.NDSliceInfo s) count vec marks = slice_list s count
+unfoldable pub index_list : Index → ℕ → List ℤ
+index_list Index.All count = tabulate count pos
+index_list (Index.One one) count = one ∷ []
+index_list (Index.Vec vec) count = vec.now
+index_list (Index.VecBool marks) count = marked marks.now
+index_list (Index.RangeAny r) count = range_list r count
+index_list (Index.NDSliceInfo s) count = slice_list s count

@@ -1,20 +1,31 @@
--- What each answer enum of the code says: document 01's number and the values for each of its cases.
-use Rattle.std.specs.Prelude.{[], ◌∷◌, pos}
+-- What each result of the code says: document 01's number and the values for each of its cases.
+use Rattle.std.specs.Prelude.{ℕ, [], ◌∷◌, pos, Result, Ok, Err}
+use Rattle.std.specs.declared.ops.Range.{Range}
 use Rattle.answer.specs.Answer.{Answer, done, refused}
-use Rattle.index.specs.declared.ListAnswer.{ListAnswer}
-use Rattle.index.specs.declared.range.RangeAnswer.{RangeAnswer}
+use Rattle.index.specs.declared.ListError.{ListError}
+use Rattle.index.specs.declared.range.RangeError.{RangeError}
 
-abbrev pub list_says : ListAnswer → Answer
-list_says (ListAnswer.Length n) = done (pos n ∷ [])
-list_says ListAnswer.CountTooLarge = refused 18 []
-list_says ListAnswer.BoolArrayVectorWrongLength = refused 8 []
-list_says ListAnswer.StepZero = refused 9 []
-list_says ListAnswer.StartGreaterThanCount = refused 10 []
-list_says ListAnswer.EndGreaterThanCount = refused 11 []
-list_says ListAnswer.StartGreaterThanEnd = refused 12 []
-list_says ListAnswer.ListTooShort = refused 19 []
+-- the number of each refusal of a list
+abbrev pub list_refusal : ListError → ℕ
+list_refusal ListError.CountTooLarge = 18
+list_refusal ListError.BoolArrayVectorWrongLength = 8
+list_refusal ListError.StepZero = 9
+list_refusal ListError.StartGreaterThanCount = 10
+list_refusal ListError.EndGreaterThanCount = 11
+list_refusal ListError.StartGreaterThanEnd = 12
+list_refusal ListError.ListTooShort = 19
 
-abbrev pub range_says : RangeAnswer → Answer
-range_says (RangeAnswer.Range start end) = done (pos start ∷ pos end ∷ [])
-range_says RangeAnswer.CountTooLarge = refused 18 []
-range_says RangeAnswer.StartGreaterThanEnd = refused 12 []
+-- and of a range
+abbrev pub range_refusal : RangeError → ℕ
+range_refusal RangeError.CountTooLarge = 18
+range_refusal RangeError.StartGreaterThanEnd = 12
+
+-- the length of the list, or a refusal
+abbrev pub list_says : Result ℕ ListError → Answer
+list_says (Ok length) = done (pos length ∷ [])
+list_says (Err error) = refused (list_refusal error) []
+
+-- the start and the end of a range, or a refusal
+abbrev pub range_says : Result (Range ℕ) RangeError → Answer
+range_says (Ok range) = done (pos range.start ∷ pos range.end ∷ [])
+range_says (Err error) = refused (range_refusal error) []

@@ -1,24 +1,20 @@
 // Slices: a start and an end that may count from the end, and a step.
-ghost use Rattle.std.specs.Prelude.{◌≡◌, false, ◌+◌, ◌-◌, ◌*◌, ◌≤◌, ◌<◌};
+ghost use Rattle.std.specs.Prelude.{◌≡◌, ◌+◌, ◌-◌, ◌^◌, ◌≤◌, ◌<◌, ℤ, pos, List, length, slice_index_or};
 ghost use Rattle.answer.specs.Answer.{count_limit};
-ghost use Rattle.index.specs.Numbers.{magnitude, from_count, slice_list};
-ghost use Rattle.index.specs.Checks.{check_slice};
+ghost use Rattle.answer.specs.Lists.{tabulate};
+ghost use Rattle.index.specs.Numbers.{magnitude, from_count, walk};
 ghost use Rattle.index.specs.Says.{list_says};
-ghost use Rattle.index.specs.Private.{walk_of, slice_number, steps_below, numbers, Walk, MakesSlice, Listed, Checked};
+ghost use Rattle.index.specs.Private.{MakesSlice, Listed};
 
-use crate::ListAnswer;
+use crate::ListError;
+use std::marker::Model;
+use std::ops::Range;
 
-// The end of a slice.
-#[derive(Clone, Copy)]
-pub enum SliceEnd {
-    Absent,
-    At(i64),
-}
-
-#[derive(Clone, Copy)]
+// A slice, whose end may be absent.
+#[derive(Clone, Copy, Debug, PartialEq, Eq)]
 pub struct SliceInfo1 {
     pub start: i64,
-    pub end: SliceEnd,
+    pub end: Option<i64>,
     pub step: i64,
 }
 
@@ -26,11 +22,7 @@ pub struct SliceInfo1 {
 fn magnitude(e: i64) -> usize
     ensures { result ≡ magnitude e }
 {
-    if e < 0 {
-        (-1 - e) as usize + 1
-    } else {
-        e as usize
-    }
+    e.unsigned_abs() as usize
 }
 
 // The place that a slice's start or end means.
@@ -42,8 +34,8 @@ fn from_count(e: i64, count: usize) -> usize
     if e < 0 { count - size } else { size }
 }
 
-// A slice whose start and end are counted from 0, and the direction of its step.
-#[derive(Clone, Copy)]
+// A slice whose start and end are counted from 0, and the direction of its step: the list of its numbers.
+#[derive(Drop)]
 pub(crate) struct RangeNdSlice {
     start: usize,
     end: usize,
@@ -51,10 +43,18 @@ pub(crate) struct RangeNdSlice {
     is_reversed: bool,
 }
 
-// What `RangeNdSlice::new` makes: a slice, or 9, 10, 11.
-#[derive(Clone, Copy)]
-enum NewSlice {
-    Made(RangeNdSlice),
+impl Model for RangeNdSlice {
+    ghost Value = { List ℤ };
+
+    ghost view = { λ s. walk s.start s.end s.step s.is_reversed };
+
+    // The step is not 0, and the numbers fit.
+    ghost invariant = { λ s. (0 < s.step) × (s.step ≤ 2 ^ 63) × (s.end ≤ count_limit) };
+}
+
+// What `RangeNdSlice::new` refuses: 9, 10, 11.
+#[derive(Clone, Copy, Debug, PartialEq, Eq)]
+pub(crate) enum SliceError {
     StepZero,
     StartGreaterThanCount,
     EndGreaterThanCount,
@@ -62,46 +62,39 @@ enum NewSlice {
 
 impl RangeNdSlice {
     // The slice's checks, and what its start, end and step mean.
-    fn new(nd_slice_info: SliceInfo1, count: usize) -> NewSlice
+    pub(crate) fn new(nd_slice_info: SliceInfo1, count: usize) -> Result<RangeNdSlice, SliceError>
         requires { count ≤ count_limit }
         ensures { MakesSlice nd_slice_info count result }
     {
         let step = magnitude(nd_slice_info.step);
         if step == 0 {
-            return NewSlice::StepZero;
+            return Err(SliceError::StepZero);
         }
         let is_reversed = nd_slice_info.step < 0;
         if magnitude(nd_slice_info.start) > count {
-            return NewSlice::StartGreaterThanCount;
+            return Err(SliceError::StartGreaterThanCount);
         }
         let start = from_count(nd_slice_info.start, count);
-        let slice_end = nd_slice_info.end;
-        match slice_end {
-            SliceEnd::Absent => NewSlice::Made(RangeNdSlice {
-                start,
-                end: count,
-                step,
-                is_reversed,
-            }),
-            SliceEnd::At(e) => {
+        let end = match nd_slice_info.end {
+            None => count,
+            Some(e) => {
                 if magnitude(e) > count {
-                    return NewSlice::EndGreaterThanCount;
+                    return Err(SliceError::EndGreaterThanCount);
                 }
-                let end = from_count(e, count);
-                NewSlice::Made(RangeNdSlice {
-                    start,
-                    end,
-                    step,
-                    is_reversed,
-                })
+                from_count(e, count)
             }
-        }
+        };
+        Ok(RangeNdSlice {
+            start,
+            end,
+            step,
+            is_reversed,
+        })
     }
 
     // How many numbers it has.
-    fn len(self) -> usize
-        requires { Walk self }
-        ensures { result ≡ steps_below (self.end - self.start) self.step }
+    fn len(&self) -> usize
+        ensures { result ≡ length self.now }
     {
         if self.start >= self.end {
             return 0;
@@ -110,58 +103,43 @@ impl RangeNdSlice {
     }
 
     // The number at place k.
-    fn number_at(self, k: usize) -> i64
-        requires { Walk self × (self.start + k * self.step < self.end) }
-        ensures { result ≡ slice_number self k }
+    fn number_at(&self, k: usize) -> i64
+        requires { k < length self.now }
+        ensures { result ≡ slice_index_or self.now k (pos 0) }
     {
+        let distance = k * self.step;
         if self.is_reversed {
-            (self.end - 1 - k * self.step) as i64
+            (self.end - 1 - distance) as i64
         } else {
-            (self.start + k * self.step) as i64
+            (self.start + distance) as i64
         }
     }
 
     // Its numbers into the buffer.
-    pub(crate) fn to_vec(self, list: &mut [i64]) -> ListAnswer
-        requires { Walk self }
-        ensures { Listed (numbers self) list.old (list_says result) list.new }
+    pub(crate) fn to_vec(&self, list: &mut [i64]) -> Result<usize, ListError>
+        ensures { Listed self.now list.old (list_says result) list.new }
     {
         let n = self.len();
         let room = list.len();
         if n > room {
-            return ListAnswer::ListTooShort;
+            return Err(ListError::ListTooShort);
         }
-        let mut k: usize = 0;
-        while k < n {
+        for k in 0..n {
             list[k] = self.number_at(k);
-            k += 1;
         }
-        ListAnswer::Length(n)
+        Ok(n)
     }
 }
 
 // start, start + 1 and so on below end.
-pub(crate) fn consecutive(start: usize, end: usize) -> RangeNdSlice
-    ensures { result ≡ walk_of start end 1 false }
+pub(crate) fn consecutive(range: Range<usize>) -> RangeNdSlice
+    requires { range.end ≤ count_limit }
+    ensures { result ≡ tabulate (range.end - range.start) (λ k. pos (range.start + k)) }
 {
     RangeNdSlice {
-        start,
-        end,
+        start: range.start,
+        end: range.end,
         step: 1,
         is_reversed: false,
-    }
-}
-
-// A slice into the buffer.
-pub(crate) fn slice_to_vec(nd_slice_info: SliceInfo1, count: usize, list: &mut [i64]) -> ListAnswer
-    requires { count ≤ count_limit }
-    ensures { Checked (check_slice nd_slice_info count) (slice_list nd_slice_info count) list.old (list_says result) list.new }
-{
-    let new = RangeNdSlice::new(nd_slice_info, count);
-    match new {
-        NewSlice::Made(walk) => walk.to_vec(list),
-        NewSlice::StepZero => ListAnswer::StepZero,
-        NewSlice::StartGreaterThanCount => ListAnswer::StartGreaterThanCount,
-        NewSlice::EndGreaterThanCount => ListAnswer::EndGreaterThanCount,
     }
 }

@@ -1,4 +1,3 @@
 -- What the proofs of several functions use.
-pub mod ListLaws
 pub mod MissingLaws
 pub mod Never14

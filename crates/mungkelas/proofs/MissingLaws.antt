@@ -10,35 +10,19 @@ use mir.Val.{SFits, to_z, of_z}
 use mir.ValLaws.{to_z-of_z}
 use Rattle.answer.specs.Answer.{Answer}
 use Rattle.codes.specs.Value.{i8}
-use Rattle.bed_read.specs.Reading.{read_answer, read_buffer}
 use Rattle.bed_write.specs.Packing.{place_code, Encodes}
-use Rattle.bed_write.specs.Writing.{value_code, Writes}
 use Rattle.bed_answer.specs.declared.BedAnswer.{BedAnswer}
 use Rattle.bed_answer.specs.Interface.{bed_answer, clip_answer}
-use Rattle.bed_answer.proofs.AnswerLaws.{as_said, as_fits}
-use Rattle.bed_answer.proofs.FitLaws.{encode_fits, write_fits}
-use Rattle.mungkelas.specs.Header.{BedRead, BedEncode1, BedWrite}
+use Rattle.bed_answer.proofs.AnswerLaws.{as_fits}
+use Rattle.bed_answer.proofs.FitLaws.{encode_fits}
+use Rattle.mungkelas.specs.Header.{BedEncode1}
 
 module _ (missing : ℤ) (f : SFits w8 missing) where
   abbrev held : ℤ
   held = to_z w8 (of_z w8 missing)
-
-  pub read_missing :
-      (file : List ℕ) (iids sids : ℕ) (flag : Bool) (iid_list sid_list : List ℤ) (order : Bool) (old : List ℤ) {r : BedAnswer} {says : Answer} {new : List ℤ} →
-      r ≡ bed_answer says →
-      (says ≡ read_answer file iids sids iid_list sid_list (length old)) × (new ≡ read_buffer i8 file iids sids flag iid_list sid_list held order old) →
-      BedRead i8 file iids sids flag iid_list sid_list missing order r old new
-  read_missing file iids sids flag iid_list sid_list order old {r} {says} {new} e p =
-      subst (λ m. BedRead i8 file iids sids flag iid_list sid_list m order r old new) (to_z-of_z w8 missing f) (as_said e p.0, p.1)
 
   pub encode_missing :
       (flag : Bool) (vals : List ℤ) (old : List ℕ) {r : BedAnswer} {says : Answer} {new : List ℕ} → length vals < 2 ^ 63 → r ≡ bed_answer (clip_answer says) →
       Encodes i8 flag held vals says old new → BedEncode1 i8 vals flag missing r old new
   encode_missing flag vals old {r} {says} {new} h e p =
       subst (λ m. BedEncode1 i8 vals flag m r old new) (to_z-of_z w8 missing f) (as_fits _ e p.0 (encode_fits (length vals) (place_code i8 flag held vals) (length old) h), p.1)
-
-  pub write_missing :
-      (flag order : Bool) (iids sids : ℕ) (vals : List ℤ) (old : List ℕ) {r : BedAnswer} {says : Answer} {new : List ℕ} → r ≡ bed_answer (clip_answer says) →
-      Writes i8 flag held order iids sids vals says old new → BedWrite i8 vals iids sids order flag missing r old new
-  write_missing flag order iids sids vals old {r} {says} {new} e p =
-      subst (λ m. BedWrite i8 vals iids sids order flag m r old new) (to_z-of_z w8 missing f) (as_fits _ e p.0 (write_fits iids sids (value_code i8 flag held order iids sids vals) (length vals) (length old)), p.1)

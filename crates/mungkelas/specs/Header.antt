@@ -18,7 +18,7 @@ use Rattle.bed_answer.specs.Interface.{bed_answer}
 
 -- `bed_read_i8`, `bed_read_f64`
 abbrev pub BedRead :
-    (w : Width) → List ℕ → ℕ → ℕ → Bool → List ℤ → List ℤ → w.Value → Bool → BedAnswer → List w.Value → List w.Value → Type 0
+    {V : Type 0} (w : Width V) → List ℕ → ℕ → ℕ → Bool → List ℤ → List ℤ → V → Bool → BedAnswer → List V → List V → Type 0
 BedRead w file iids sids flag iid_list sid_list missing order r old new =
     (r ≡ bed_answer (read_answer file iids sids iid_list sid_list (length old)))
     × (new ≡ read_buffer w file iids sids flag iid_list sid_list missing order old)
@@ -34,13 +34,13 @@ BedCanonical file iids sids r old new =
     (r ≡ bed_answer (canonical_answer file iids sids (length old))) × (new ≡ canonical_buffer file iids sids old)
 
 -- `bed_encode1_i8`, `bed_encode1_f64`
-abbrev pub BedEncode1 : (w : Width) → List w.Value → Bool → w.Value → BedAnswer → List ℕ → List ℕ → Type 0
+abbrev pub BedEncode1 : {V : Type 0} (w : Width V) → List V → Bool → V → BedAnswer → List ℕ → List ℕ → Type 0
 BedEncode1 w column flag missing r old new =
     (r ≡ bed_answer (encode_answer (length column) (place_code w flag missing column) (length old)))
     × (new ≡ encode_buffer (length column) (place_code w flag missing column) old)
 
 -- `bed_write_i8`, `bed_write_f64`
-abbrev pub BedWrite : (w : Width) → List w.Value → ℕ → ℕ → Bool → Bool → w.Value → BedAnswer → List ℕ → List ℕ → Type 0
+abbrev pub BedWrite : {V : Type 0} (w : Width V) → List V → ℕ → ℕ → Bool → Bool → V → BedAnswer → List ℕ → List ℕ → Type 0
 BedWrite w val iids sids order flag missing r old new =
     (r ≡ bed_answer (write_answer iids sids (value_code w flag missing order iids sids val) (length val) (length old)))
     × (new ≡ write_buffer iids sids (value_code w flag missing order iids sids val) (length val) old)
@@ -60,10 +60,10 @@ BedReadStandardised file iids sids flag iid_list sid_list order r val val_after 
     × (val_after ≡ joined_values binary64 file iids sids flag iid_list sid_list order val stats)
     × (stats_after ≡ joined_stats binary64 file iids sids flag iid_list sid_list order val stats)
 
--- `bed_index_all` and the five that follow it, each by its index; a list and marks that it does not take are empty
-abbrev pub BedIndex : Index → ℕ → List ℤ → List ℕ → BedAnswer → List ℤ → List ℤ → Type 0
-BedIndex index count vec marks r old new =
-    (r ≡ bed_answer (index_answer index count vec marks (length old))) × (new ≡ index_buffer index count vec marks old)
+-- `bed_index_all` and the five that follow it, each by its index
+abbrev pub BedIndex : Index → ℕ → BedAnswer → List ℤ → List ℤ → Type 0
+BedIndex index count r old new =
+    (r ≡ bed_answer (index_answer index count (length old))) × (new ≡ index_buffer index count old)
 
 -- `bed_file_ata_piece`
 abbrev pub BedAtaPiece : List ℕ → ℕ → ℕ → ℕ → ℕ → ℕ → ℕ → BedAnswer → List Float → List Float → Type 0

@@ -1,4 +1,4 @@
-// The calls of the C interface, which mungkelas_c exports. Each is a thin function over the core's; bed_answer tells what it answers.
+// The calls of the C interface, which mungkelas_c exports. Each is a thin function over the core's, whose result is told as a BedAnswer.
 #![tactic(auto)]
 
 mod lists;
@@ -13,10 +13,7 @@ pub use lists::{
 };
 pub use numbers::{bed_impute_and_zero_mean_snps_f64, bed_root_f64};
 pub use products::{bed_file_aat_piece, bed_file_ata_piece};
-pub use reading::read_f64::bed_read_f64;
-pub use reading::read_i8::bed_read_i8;
-pub use reading::{bed_canonical, bed_count_calls, bed_open_and_check, bed_read_standardised_f64};
-pub use writing::encode_f64::bed_encode1_f64;
-pub use writing::encode_i8::bed_encode1_i8;
-pub use writing::write_f64::bed_write_f64;
-pub use writing::write_i8::bed_write_i8;
+pub use reading::{
+    bed_canonical, bed_count_calls, bed_open_and_check, bed_read, bed_read_standardised_f64,
+};
+pub use writing::{bed_encode1_f64, bed_encode1_i8, bed_write};

@@ -18,7 +18,7 @@ pub fn bed_impute_and_zero_mean_snps_f64(
     ensures { BedStandardise iid_count sid_count animal_order apply_in_place use_stats
         result val.old val.new stats.old stats.new }
 {
-    let answer = standardise::impute_and_zero_mean_snps_f64(
+    BedAnswer::from(standardise::impute_and_zero_mean_snps_f64(
         val,
         iid_count,
         sid_count,
@@ -26,8 +26,7 @@ pub fn bed_impute_and_zero_mean_snps_f64(
         apply_in_place,
         use_stats,
         stats,
-    );
-    bed_answer::of_standardise(answer)
+    ))
 }
 
 pub fn bed_root_f64(variance: f64) -> f64

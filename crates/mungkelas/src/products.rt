@@ -15,10 +15,9 @@ pub fn bed_file_ata_piece(
 ) -> BedAnswer
     ensures { BedAtaPiece bytes.now offset row_count col_count col_start height width result piece.old piece.new }
 {
-    let answer = product::file_ata_piece_f64(
+    BedAnswer::from(product::file_ata_piece_f64(
         bytes, offset, row_count, col_count, col_start, height, width, piece,
-    );
-    bed_answer::of_piece(answer)
+    ))
 }
 
 pub fn bed_file_aat_piece(
@@ -33,8 +32,7 @@ pub fn bed_file_aat_piece(
 ) -> BedAnswer
     ensures { BedAatPiece bytes.now offset row_count col_count row_start height width result piece.old piece.new }
 {
-    let answer = product::file_aat_piece_f64(
+    BedAnswer::from(product::file_aat_piece_f64(
         bytes, offset, row_count, col_count, row_start, height, width, piece,
-    );
-    bed_answer::of_piece(answer)
+    ))
 }

@@ -2,18 +2,42 @@
 ghost use Rattle.std.specs.Prelude.{◌≡◌};
 ghost use Rattle.bed_file.specs.File.{open_answer};
 ghost use Rattle.bed_answer.specs.Interface.{bed_answer};
-ghost use Rattle.mungkelas.specs.Header.{BedCountCalls, BedCanonical, BedReadStandardised};
-
-pub mod read_f64;
-pub mod read_i8;
+ghost use Rattle.mungkelas.specs.Header.{BedRead, BedCountCalls, BedCanonical, BedReadStandardised};
 
 use bed_answer::BedAnswer;
+use bed_read::ReadVal;
 
 pub fn bed_open_and_check(file: &[u8]) -> BedAnswer
     ensures { result ≡ bed_answer (open_answer file.now) }
 {
-    let answer = bed_file::open_and_check(file);
-    bed_answer::of_open(answer)
+    BedAnswer::from(bed_file::open_and_check(file))
+}
+
+pub fn bed_read<T: ReadVal>(
+    file: &[u8],
+    iid_count: usize,
+    sid_count: usize,
+    is_a1_counted: bool,
+    iid_index: &[i64],
+    sid_index: &[i64],
+    missing_value: T,
+    animal_order: bool,
+    val: &mut [T],
+) -> BedAnswer
+    ensures { BedRead T.width file.now iid_count sid_count is_a1_counted iid_index.now sid_index.now
+        missing_value animal_order result val.old val.new }
+{
+    BedAnswer::from(bed_read::read_no_alloc(
+        file,
+        iid_count,
+        sid_count,
+        is_a1_counted,
+        iid_index,
+        sid_index,
+        missing_value,
+        animal_order,
+        val,
+    ))
 }
 
 pub fn bed_count_calls(
@@ -27,15 +51,15 @@ pub fn bed_count_calls(
     ensures { BedCountCalls file.now iid_count sid_count iid_index.now sid_index.now
         result counts.old counts.new }
 {
-    let answer = call_counts::count_calls(file, iid_count, sid_count, iid_index, sid_index, counts);
-    bed_answer::of_read(answer)
+    BedAnswer::from(call_counts::count_calls(
+        file, iid_count, sid_count, iid_index, sid_index, counts,
+    ))
 }
 
 pub fn bed_canonical(file: &[u8], iid_count: usize, sid_count: usize, out: &mut [u8]) -> BedAnswer
     ensures { BedCanonical file.now iid_count sid_count result out.old out.new }
 {
-    let answer = canonical::canonical(file, iid_count, sid_count, out);
-    bed_answer::of_canonical(answer)
+    BedAnswer::from(canonical::canonical(file, iid_count, sid_count, out))
 }
 
 pub fn bed_read_standardised_f64(
@@ -52,7 +76,7 @@ pub fn bed_read_standardised_f64(
     ensures { BedReadStandardised file.now iid_count sid_count is_a1_counted iid_index.now sid_index.now
         animal_order result val.old val.new stats.old stats.new }
 {
-    let answer = read_standardised::read_standardised_f64(
+    BedAnswer::from(read_standardised::read_standardised_f64(
         file,
         iid_count,
         sid_count,
@@ -62,6 +86,5 @@ pub fn bed_read_standardised_f64(
         animal_order,
         val,
         stats,
-    );
-    bed_answer::of_joined(answer)
+    ))
 }

@@ -1,5 +1,52 @@
 // Packing one marker's values, and writing a whole file.
-pub mod encode_f64;
-pub mod encode_i8;
-pub mod write_f64;
-pub mod write_i8;
+ghost use Rattle.codes.specs.Value.{i8, float};
+ghost use Rattle.mungkelas.specs.Header.{BedEncode1, BedWrite};
+
+use bed_answer::BedAnswer;
+use bed_write::WriteVal;
+
+// One for each type: of a type parameter a slice may have 2^63 values and more, and the place of a bad one would not fit.
+pub fn bed_encode1_i8(
+    in_vector: &[i8],
+    out_vector: &mut [u8],
+    is_a1_counted: bool,
+    missing: i8,
+) -> BedAnswer
+    ensures { BedEncode1 i8 in_vector.now is_a1_counted missing result out_vector.old out_vector.new }
+{
+    BedAnswer::from(bed_write::encode1::<i8>(in_vector, out_vector, is_a1_counted, missing))
+}
+
+pub fn bed_encode1_f64(
+    in_vector: &[f64],
+    out_vector: &mut [u8],
+    is_a1_counted: bool,
+    missing: f64,
+) -> BedAnswer
+    ensures { BedEncode1 float in_vector.now is_a1_counted missing result out_vector.old out_vector.new }
+{
+    BedAnswer::from(bed_write::encode1::<f64>(in_vector, out_vector, is_a1_counted, missing))
+}
+
+pub fn bed_write<T: WriteVal>(
+    val: &[T],
+    iid_count: usize,
+    sid_count: usize,
+    animal_order: bool,
+    is_a1_counted: bool,
+    missing: T,
+    out: &mut [u8],
+) -> BedAnswer
+    ensures { BedWrite T.width val.now iid_count sid_count animal_order is_a1_counted missing
+        result out.old out.new }
+{
+    BedAnswer::from(bed_write::write_val(
+        val,
+        iid_count,
+        sid_count,
+        animal_order,
+        is_a1_counted,
+        missing,
+        out,
+    ))
+}

@@ -1,7 +1,7 @@
 // The C interface: what include/mungkelas.h declares. Each call is the one of its name in mungkelas, under the name that C has.
 #![tactic(auto)]
 
-ghost use Rattle.std.specs.Prelude.{[], ◌≡◌};
+ghost use Rattle.std.specs.Prelude.{◌≡◌};
 ghost use Rattle.bed_file.specs.File.{open_answer};
 ghost use Rattle.bed_answer.specs.Interface.{bed_answer};
 ghost use Rattle.mungkelas.specs.Header.{BedAatPiece, BedAtaPiece, BedCanonical, BedCountCalls, BedEncode1, BedIndex, BedRead, BedReadStandardised, BedStandardise, BedWrite};
@@ -10,7 +10,7 @@ ghost use Rattle.blocks.specs.Block.{div_answer};
 ghost use Rattle.entries.specs.Entry.{span_answer};
 ghost use Rattle.index.specs.declared.Index.TheVariants as Index;
 ghost use Rattle.index.specs.Checks.{range_answer};
-ghost use Rattle.mungkelas.specs.Interface.{bound_of, end_of, range_of, slice_of};
+ghost use Rattle.mungkelas.specs.Interface.{range_of, slice_of};
 ghost use Rattle.std.specs.Float.{binary64};
 ghost use Rattle.root.specs.Root.{root};
 
@@ -93,7 +93,7 @@ pub extern "C" fn bed_read_i8(
     ensures { BedRead i8 file.now iid_count sid_count is_a1_counted iid_index.now sid_index.now
         missing_value animal_order result val.old val.new }
 {
-    mungkelas::bed_read_i8(
+    mungkelas::bed_read::<i8>(
         file,
         iid_count,
         sid_count,
@@ -121,7 +121,7 @@ pub extern "C" fn bed_read_f64(
     ensures { BedRead float file.now iid_count sid_count is_a1_counted iid_index.now sid_index.now
         missing_value animal_order result val.old val.new }
 {
-    mungkelas::bed_read_f64(
+    mungkelas::bed_read::<f64>(
         file,
         iid_count,
         sid_count,
@@ -163,28 +163,28 @@ pub extern "C" fn bed_to_range(
 
 #[unsafe(no_mangle)]
 pub extern "C" fn bed_index_all(count: usize, list: &mut [i64]) -> BedAnswer
-    ensures { BedIndex Index.All count [] [] result list.old list.new }
+    ensures { BedIndex Index.All count result list.old list.new }
 {
     mungkelas::bed_index_all(count, list)
 }
 
 #[unsafe(no_mangle)]
 pub extern "C" fn bed_index_one(count: usize, one: i64, list: &mut [i64]) -> BedAnswer
-    ensures { BedIndex (Index.One one) count [] [] result list.old list.new }
+    ensures { BedIndex (Index.One one) count result list.old list.new }
 {
     mungkelas::bed_index_one(count, one, list)
 }
 
 #[unsafe(no_mangle)]
 pub extern "C" fn bed_index_vec(count: usize, vec: &[i64], list: &mut [i64]) -> BedAnswer
-    ensures { BedIndex Index.Vec count vec.now [] result list.old list.new }
+    ensures { BedIndex (Index.Vec vec.entry) count result list.old list.new }
 {
     mungkelas::bed_index_vec(count, vec, list)
 }
 
 #[unsafe(no_mangle)]
 pub extern "C" fn bed_index_bool(count: usize, marks: &[u8], list: &mut [i64]) -> BedAnswer
-    ensures { BedIndex Index.VecBool count [] marks.now result list.old list.new }
+    ensures { BedIndex (Index.VecBool marks.entry) count result list.old list.new }
 {
     mungkelas::bed_index_bool(count, marks, list)
 }
@@ -198,7 +198,7 @@ pub extern "C" fn bed_index_range(
     end: usize,
     list: &mut [i64],
 ) -> BedAnswer
-    ensures { BedIndex (Index.RangeAny (range_of has_start start has_end end)) count [] [] result list.old list.new }
+    ensures { BedIndex (Index.RangeAny (range_of has_start start has_end end)) count result list.old list.new }
 {
     mungkelas::bed_index_range(count, has_start, start, has_end, end, list)
 }
@@ -212,7 +212,7 @@ pub extern "C" fn bed_index_slice(
     step: i64,
     list: &mut [i64],
 ) -> BedAnswer
-    ensures { BedIndex (Index.NDSliceInfo (slice_of start has_end end step)) count [] [] result list.old list.new }
+    ensures { BedIndex (Index.NDSliceInfo (slice_of start has_end end step)) count result list.old list.new }
 {
     mungkelas::bed_index_slice(count, start, has_end, end, step, list)
 }
@@ -321,7 +321,7 @@ pub extern "C" fn bed_write_i8(
     ensures { BedWrite i8 val.now iid_count sid_count animal_order is_a1_counted missing
         result out.old out.new }
 {
-    mungkelas::bed_write_i8(
+    mungkelas::bed_write::<i8>(
         val,
         iid_count,
         sid_count,
@@ -345,7 +345,7 @@ pub extern "C" fn bed_write_f64(
     ensures { BedWrite float val.now iid_count sid_count animal_order is_a1_counted missing
         result out.old out.new }
 {
-    mungkelas::bed_write_f64(
+    mungkelas::bed_write::<f64>(
         val,
         iid_count,
         sid_count,

@@ -15,8 +15,9 @@ use Rattle.answer.proofs.Tests.{both_true}
 use Rattle.product.specs.Piece.{good_piece, enough_bytes, piece_answer, ata_answer, aat_answer}
 use Rattle.product.specs.Says.{piece_says}
 use Rattle.product.specs.Private.{LinesIn}
-use Rattle.product.specs.declared.checks.PieceAnswer.{PieceAnswer}
-use Rattle.product.specs.declared.checks.PieceAnswer.TheVariants.{Done, CountTooLarge, CannotConvertBetaToFromF64, IndexMismatch, ReadError}
+use Rattle.std.specs.Prelude.{Result, Ok, Err}
+use Rattle.product.specs.declared.checks.PieceError.{PieceError}
+use Rattle.product.specs.declared.checks.PieceError.TheVariants.{CountTooLarge, CannotConvertBetaToFromF64, IndexMismatch, ReadError}
 use Rattle.product.proofs.CheckLaws.{counts, four_checks}
 use Rattle.product.proofs.PartLaws.{below_or}
 use Rattle.product.proofs.GridLaws.{row_in}
@@ -36,7 +37,7 @@ pub record Accepted (least total bytes offset rows columns start height width pi
   pub size : piece ≡ height * width
   pub held : 0 < rows → 0 < columns → offset + 8 * rows * columns ≤ bytes
 
-pub accepted : (least total bytes offset rows columns start height width piece : ℕ) (a : PieceAnswer) → piece_says a ≡ piece_answer (good_piece total start height width && leb least width) bytes offset rows columns start height width piece → a ≡ Done → Accepted least total bytes offset rows columns start height width piece
+pub accepted : (least total bytes offset rows columns start height width piece : ℕ) (a : Result (Unit {0}) PieceError) → piece_says a ≡ piece_answer (good_piece total start height width && leb least width) bytes offset rows columns start height width piece → a ≡ Ok tt → Accepted least total bytes offset rows columns start height width piece
 unfolding good_piece enough_bytes
 accepted least total bytes offset rows columns start height width piece x says told =
     let e5 = (check_done (counts rows columns start height width) 18 _ (sym (four_checks (good_piece total start height width && leb least width) bytes offset rows columns start height width piece) ∙ sym says ∙ ap piece_says told)).1 in
@@ -57,14 +58,6 @@ accepted least total bytes offset rows columns start height width piece x says t
       size = sym (eqb-true (height * width) piece e7.0);
       held = λ p q. leb-true (offset + 8 * rows * columns) bytes (simp (ne_eqb rows 0 (λ z. omega arith), ne_eqb columns 0 (λ z. omega arith)) at e8.0);
     }
-
--- where 1 is not met, the eight bytes of row i of column j stand in the bytes
-pub value_in_law : (bytes offset rows columns : ℕ) → enough_bytes bytes offset rows columns ≡ true → (i j : ℕ) → i < rows → j < columns → offset + 8 * (j * rows + i) + 8 ≤ bytes
-unfolding enough_bytes
-value_in_law bytes offset rows columns e i j b b' =
-    let z : j * rows + rows ≤ columns * rows = row_in columns rows j b' in
-    let h : offset + 8 * rows * columns ≤ bytes = leb-true (offset + 8 * rows * columns) bytes (simp (ne_eqb rows 0 (λ q. omega arith), ne_eqb columns 0 (λ q. omega arith)) at e) in
-    omega arith
 
 -- the lines of an accepted call stand in the bytes
 module _ (bytes offset rows columns start height width piece : ℕ) where
@@ -99,15 +92,14 @@ least_none true w = le-leb 0 w (omega arith)
 least_none false w = refl
 
 -- a call that refuses leaves the old list, one that is done the new one
-pub leaves_old : (a : PieceAnswer) (s : Answer) (new old : List Float) → (a ≡ Done → ⊥) → piece_says a ≡ s → (piece_says a ≡ s) × (old ≡ if_done s new old)
+pub leaves_old : (e : PieceError) (s : Answer) (new old : List Float) → piece_says (Err e) ≡ s → (piece_says (Err e) ≡ s) × (old ≡ if_done s new old)
 unfolding if_done
-leaves_old Done s new old k e = absurd (k refl)
-leaves_old CountTooLarge s new old k e = (e, ap (λ (t : Answer). if_done t new old) e)
-leaves_old CannotConvertBetaToFromF64 s new old k e = (e, ap (λ (t : Answer). if_done t new old) e)
-leaves_old IndexMismatch s new old k e = (e, ap (λ (t : Answer). if_done t new old) e)
-leaves_old ReadError s new old k e = (e, ap (λ (t : Answer). if_done t new old) e)
+leaves_old CountTooLarge s new old e = (e, ap (λ (t : Answer). if_done t new old) e)
+leaves_old CannotConvertBetaToFromF64 s new old e = (e, ap (λ (t : Answer). if_done t new old) e)
+leaves_old IndexMismatch s new old e = (e, ap (λ (t : Answer). if_done t new old) e)
+leaves_old ReadError s new old e = (e, ap (λ (t : Answer). if_done t new old) e)
 
-pub leaves_new : (a : PieceAnswer) (s : Answer) (l new old : List Float) → a ≡ Done → piece_says a ≡ s → l ≡ new → (done [] ≡ s) × (l ≡ if_done s new old)
+pub leaves_new : (a : Result (Unit {0}) PieceError) (s : Answer) (l new old : List Float) → a ≡ Ok tt → piece_says a ≡ s → l ≡ new → (done [] ≡ s) × (l ≡ if_done s new old)
 unfolding if_done
 leaves_new a s l new old told e q =
     let d : done [] ≡ s = sym (ap piece_says told) ∙ e in

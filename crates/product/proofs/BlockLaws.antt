@@ -40,9 +40,9 @@ module _ (top bottom left right : ℕ) where
       (below_or r c)
 
 -- how many rows from row r on are above the diagonal in column c
-module _ (r c above : ℕ) (e : above ≡ c - min c r) where
+module _ (r c above : ℕ) (e : above ≡ c - r) where
   pub from_diagonal : (c ≤ r + above) × ((x : ℕ) → c ≤ x → r ≤ x → r + above ≤ x)
-  from_diagonal = ⊎_elim (λ a. let z : min c r ≡ c = min-eq_left (let u : c ≤ r = omega arith in u) in (omega arith, λ x h h'. omega arith)) (λ a. let z : min c r ≡ r = min-eq_right a in (omega arith, λ x h h'. omega arith)) (below_or c r)
+  from_diagonal = (omega arith, λ x h h'. omega arith)
 
   pub some_below : (m : ℕ) → 0 < m → c < r + m → above < m
   some_below m h h' = omega (arith, from_diagonal.1 (r + m - 1) (omega arith) (omega arith))
@@ -157,7 +157,7 @@ module _ (f : Format) (w : ℕ) (v : ℕ → ℕ → Float) (n : ℕ) where
       pos
 
   -- a column's sums in m rows, taken out, grown, and put back from the diagonal on
-  pub column_block : (r m c above : ℕ) (old room part new : List Float) → c < w → c < r + m → above ≡ c - min c r → (r + m) * w ≤ length old → length new ≡ length old
+  pub column_block : (r m c above : ℕ) (old room part new : List Float) → c < w → c < r + m → above ≡ c - r → (r + m) * w ≤ length old → length new ≡ length old
       → ((j : ℕ) → j < m → get_or room j nan ≡ sum_more f (get_or old (r * w + c + j * w) nan) (v (r + j)) (v c) n)
       → length part ≡ m - above
       → ((j : ℕ) → j < m - above → get_or part j nan ≡ get_or room (above + j) nan)
@@ -190,29 +190,26 @@ module _ (f : Format) (w : ℕ) (v : ℕ → ℕ → Float) (n : ℕ) where
       i (omega (arith, (from_diagonal r c above ha).0), omega arith, omega arith, omega arith, omega arith)))
 
   -- one column's turn
-  pub column_turn : (r m c l : ℕ) (old piece room taken grown new : List Float) → 0 < m → c < w → c < r + m → l ≡ min c r → (r + m) * w ≤ length piece → length room ≡ m
+  pub column_turn : (r m c above : ℕ) (old piece room taken grown new : List Float) → 0 < m → c < w → c < r + m → above ≡ c - r → (r + m) * w ≤ length piece → length room ≡ m
       → taken ≡ tabulate (length room) (λ i. get_or piece (r * w + c + i * w) nan)
       → grown ≡ row_more f (λ j t. v (r + j) t) (λ t. v c t) n taken
       → length new ≡ length piece
-      → Put (take (length grown - (c - l)) (drop (c - l) grown)) (r * w + c + (c - l) * w) w piece new
+      → Put (take (length grown - above) (drop above grown)) (r * w + c + above * w) w piece new
       → piece ≡ block_more f w v n r (r + m) 0 c old
       → new ≡ block_more f w v n r (r + m) 0 (c + 1) old
-  column_turn r m c l old piece room taken grown new pos hc hd hl hs hm e g s put inv =
+  column_turn r m c above old piece room taken grown new pos hc hd hl hs hm e g s put inv =
       column_more r (r + m) c old piece new (omega arith) inv
-      (column_block r m c (c - l) piece grown (take (length grown - (c - l)) (drop (c - l) grown)) new hc hd above hs s
+      (column_block r m c above piece grown (take (length grown - above) (drop above grown)) new hc hd hl hs s
       (λ j h. taken_grown f (λ j t. v (r + j) t) (λ t. v c t) n piece room taken grown (r * w + c) w j e g (omega arith))
       (omega (arith, part_size))
-      (λ j h. get_or-take (length grown - (c - l)) (drop (c - l) grown) j nan (omega (arith, size)) ∙ get_or-drop (c - l) grown j nan)
+      (λ j h. get_or-take (length grown - above) (drop above grown) j nan (omega (arith, size)) ∙ get_or-drop above grown j nan)
       put)
     where
-      above : c - l ≡ c - min c r
-      above = ap (λ (z : ℕ). c - z) hl
-
       size : length grown ≡ m
       size = length_row f (λ j t. v (r + j) t) (λ t. v c t) n taken grown g ∙ ap length e ∙ length_tabulate (length room) (λ i. get_or piece (r * w + c + i * w) nan) ∙ hm
 
-      part_size : length (take (length grown - (c - l)) (drop (c - l) grown)) ≡ m - (c - l)
-      part_size = length_part (c - l) (length grown - (c - l)) grown (omega (arith, size, some_below r c (c - l) above m pos hd)) ∙ ap (λ (z : ℕ). z - (c - l)) size
+      part_size : length (take (length grown - above) (drop above grown)) ≡ m - above
+      part_size = length_part above (length grown - above) grown (omega (arith, size, some_below r c above hl m pos hd)) ∙ ap (λ (z : ℕ). z - above) size
 
 -- k products more, and then n more by the values from k on
 pub block_terms : (f : Format) (w : ℕ) (v v' : ℕ → ℕ → Float) (k n t b l r : ℕ) (old mid new : List Float) → ((x i : ℕ) → v' x i ≡ v x (k + i))

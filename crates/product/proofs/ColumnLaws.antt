@@ -1,9 +1,9 @@
 -- Lists that get values at places a width apart.
-use mathlib.Core.Path.{◌≡◌, refl, subst, ◌∙◌}
+use mathlib.Core.Path.{◌≡◌, subst, ◌∙◌}
 use mathlib.Core.List.{List}
 use mathlib.Core.Logic.{⊎_elim}
 use Prim.Native.Nat.{ℕ, suc, ◌+◌, ◌*◌, ◌≤◌, ◌<◌}
-use native.Mathlib.Nat.{not-suc-le-zero, mul-le-mul_right}
+use native.Mathlib.Nat.{mul-le-mul_right}
 use native.Mathlib.Omega.{arith}
 use lib.ListN.{length, get_or, set}
 use lib.Seq.{get_or-set_same, get_or-set_other}
@@ -14,9 +14,6 @@ use Rattle.product.proofs.PartLaws.{below_or}
 module _ (src : List Float) (from width : ℕ) (old : List Float) where
   abbrev pub PutTo : List Float → ℕ → Type 0
   PutTo l n = ((i : ℕ) → i < n → get_or l (from + i * width) nan ≡ get_or src i nan) × ((p : ℕ) → ((i : ℕ) → i < n → p ≡ from + i * width → ⊥) → get_or l p nan ≡ get_or old p nan)
-
-  pub put_none : PutTo old 0
-  put_none = (λ i h. absurd (not-suc-le-zero h), λ p h. refl)
 
   pub put_more : (l : List Float) (n : ℕ) → 0 < width → from + n * width < length l → PutTo l n → PutTo (set l (from + n * width) (get_or src n nan)) (n + 1)
   put_more l n h b o = (

@@ -1,10 +1,10 @@
 -- A list that is written from its front on: place i gets g i.
 use mathlib.Core.Path.{◌≡◌, refl, sym, ap, ◌∙◌}
 use mathlib.Core.List.{List, [], ◌∷◌, ◌++◌, append-nil}
-use Prim.Native.Nat.{ℕ, suc, ◌+◌, ◌≤◌, ◌<◌}
+use Prim.Native.Nat.{ℕ, zero, suc, ◌+◌, ◌≤◌, ◌<◌}
 use native.Mathlib.Numerals.{add-one}
 use native.Mathlib.Omega.{arith}
-use lib.ListN.{length, take, drop, get_or, set, drop_of_length-le}
+use lib.ListN.{length, take, drop, get_or, set, replicate, drop_of_length-le}
 use lib.Seq.{take-suc, drop-cons, length-take-le, set_at, get_or_at, append_snoc, take_all}
 use Rattle.answer.specs.Lists.{tabulate}
 use Rattle.answer.proofs.Tabulate.{length_tabulate, get_d_tabulate}
@@ -75,3 +75,9 @@ module _ {A : Type 0} where
       let e7 : set (set (set (set (set (set (set d 0 a0) 1 a1) 2 a2) 3 a3) 4 a4) 5 a5) 6 a6 ≡ filled g 7 d = filled_step g d (set (set (set (set (set (set d 0 a0) 1 a1) 2 a2) 3 a3) 4 a4) 5 a5) 6 a6 (e6) (omega arith) q6 in
       let e8 : set (set (set (set (set (set (set (set d 0 a0) 1 a1) 2 a2) 3 a3) 4 a4) 5 a5) 6 a6) 7 a7 ≡ filled g 8 d = filled_step g d (set (set (set (set (set (set (set d 0 a0) 1 a1) 2 a2) 3 a3) 4 a4) 5 a5) 6 a6) 7 a7 (e7) (omega arith) q7 in
       e8 ∙ filled_all g d 8 (omega arith)
+
+  -- one value at every place
+  pub replicate_tabulate : (n : ℕ) (z : A) → replicate n z ≡ tabulate n (λ p. z)
+  unfolding tabulate
+  replicate_tabulate zero z = refl
+  replicate_tabulate (suc n) z = ap (λ (t : List A). z ∷ t) (replicate_tabulate n z)

@@ -20,9 +20,14 @@ use Rattle.product.proofs.GridLaws.{row_below}
 use Rattle.product.proofs.BlockLaws.{inside_or, block_in, block_out, length_block}
 
 -- the values of a line from term k on
-pub line_from : (bytes : List ℕ) (base line step k at : ℕ) → at ≡ base + 8 * (0 * line + k * step) → (r t : ℕ) → value_of_line bytes at line step r t ≡ value_of_line bytes base line step r (k + t)
+pub line_from : (bytes bytes' : List ℕ) (base line line' step step' k at : ℕ) → bytes' ≡ bytes → line' ≡ line → step' ≡ step → at ≡ base + 8 * (0 * line + k * step) → (r t : ℕ) → value_of_line bytes' at line' step' r t ≡ value_of_line bytes base line step r (k + t)
 unfolding value_of_line
-line_from bytes base line step k at e r t = ap (float_at bytes) (let u : at + 8 * (r * line + t * step) ≡ base + 8 * (r * line + (k + t) * step) = omega arith in u)
+line_from bytes bytes' base line line' step step' k at b l s e r t =
+    ap (λ (z : List ℕ). float_at z (at + 8 * (r * line' + t * step'))) b
+    ∙ ap (float_at bytes)
+    (let z : r * line' ≡ r * line = ap (λ (x : ℕ). r * x) l in
+    let z' : t * step' ≡ t * step = ap (λ (x : ℕ). t * x) s in
+    let u : at + 8 * (r * line' + t * step') ≡ base + 8 * (r * line + (k + t) * step) = omega arith in u)
 
 module _ (f : Format) (h w : ℕ) (v : ℕ → ℕ → Float) where
   entry : ℕ → ℕ → Float

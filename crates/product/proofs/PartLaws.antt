@@ -3,8 +3,7 @@ use mathlib.Core.Path.{◌≡◌, refl, sym, ap, ◌∙◌}
 use mathlib.Core.Bool.{Bool, true, false}
 use mathlib.Core.List.{List, ◌++◌}
 use mathlib.Core.Logic.{◌⊎◌, inl, inr, ⊎_elim}
-use Prim.Native.Nat.{ℕ, ◌+◌, ◌-◌, ◌≤◌, ◌<◌, min}
-use native.Mathlib.Nat.{min-eq_left, min-eq_right}
+use Prim.Native.Nat.{ℕ, ◌+◌, ◌-◌, ◌≤◌, ◌<◌}
 use native.Mathlib.Omega.{arith}
 use lib.Dec.{ltb}
 use lib.ListN.{length, take, drop, get_or, length-drop, get_or-append}
@@ -19,13 +18,6 @@ below_or a b = go (ltb a b) refl
     go : (t : Bool) → ltb a b ≡ t → (a < b) ⊎ (b ≤ a)
     go true e = inl (ltb-true a b e)
     go false e = inr (ltb-false a b e)
-
--- the least of two numbers above 0
-pub least_above : (a b s : ℕ) → 0 < a → 0 < b → s ≡ min a b → (0 < s) × (s ≤ a) × (s ≤ b)
-least_above a b s p q e =
-    ⊎_elim (λ g. let m : min a b ≡ a = min-eq_left (let u : a ≤ b = omega arith in u) in omega arith)
-    (λ g. let m : min a b ≡ b = min-eq_right g in omega arith)
-    (below_or a b)
 
 module _ {A : Type 0} (a k : ℕ) (xs : List A) where
   pub length_part : a + k ≤ length xs → length (take k (drop a xs)) ≡ k

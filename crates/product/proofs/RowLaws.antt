@@ -1,8 +1,7 @@
 -- Laws of a row of sums that grows by some terms at a time: sum j by the products of x j and y.
-use mathlib.Core.Path.{◌≡◌, refl, sym, ap, ◌∙◌}
+use mathlib.Core.Path.{◌≡◌, refl, ap, ◌∙◌}
 use mathlib.Core.List.{List, ◌++◌}
 use Prim.Native.Nat.{ℕ, ◌+◌, ◌-◌, ◌*◌, ◌<◌, ◌≤◌}
-use native.Mathlib.Nat.{add-zero, add_assoc, zero-add, sub-zero}
 use native.Mathlib.Omega.{arith}
 use lib.ListN.{length, get_or, set, take, drop, get_or-append}
 use lib.Seq.{length-take-le, get_or-take}
@@ -96,32 +95,6 @@ module _ (f : Format) (x : ℕ → ℕ → Float) (y : ℕ → Float) where
     where
       count : length (take (m - 0) s₀) ≡ m
       count = let z : length (take (m - 0) s₀) ≡ m - 0 = length-take-le (m - 0) s₀ (omega arith) in omega arith
-
--- the row with the terms from i to n - 1, of those that it still waits for
-module _ (f : Format) (x : ℕ → ℕ → Float) (y : ℕ → Float) (n : ℕ) where
-  abbrev pub rest : List Float → ℕ → List Float
-  rest l i = row_more f (λ j t. x j (i + t)) (λ t. y (i + t)) (n - i) l
-
-  pub rest_step : (i m : ℕ) (l l' : List Float) → i + m ≤ n → l' ≡ row_more f (λ j t. x j (i + t)) (λ t. y (i + t)) m l → rest l' (i + m) ≡ rest l i
-  rest_step i m l l' h e =
-      row_add f (λ j t. x j (i + t)) (λ t. y (i + t)) m (n - (i + m)) l l' (rest l' (i + m)) e
-      (row_ext f (λ j t. x j (i + m + t)) (λ t. y (i + m + t)) (λ j t. x j (i + (m + t))) (λ t. y (i + (m + t))) (n - (i + m)) l' (rest l' (i + m)) (λ t j b b'. ap (x j) (add_assoc i m t)) (λ t b. ap y (add_assoc i m t)) refl)
-      ∙ ap (λ (k : ℕ). row_more f (λ j t. x j (i + t)) (λ t. y (i + t)) k l) (let q : m + (n - (i + m)) ≡ n - i = omega arith in q)
-
-  pub one_more : (i : ℕ) (l l' : List Float) (value : ℕ → Float) (v : Float) → ((j : ℕ) → j < length l → value j ≡ x j i) → v ≡ y i → l' ≡ term_more f value v l → l' ≡ row_more f (λ j t. x j (i + t)) (λ t. y (i + t)) 1 l
-  one_more i l l' value v p q e = row_step f (λ j t. x j (i + t)) (λ t. y (i + t)) 0 l l l' value v (row_none f (λ j t. x j (i + t)) (λ t. y (i + t)) l) (λ j b. p j b ∙ ap (x j) (sym (add-zero i))) (q ∙ ap y (sym (add-zero i))) e
-
-  pub rest_one : (i : ℕ) (l l' : List Float) (value : ℕ → Float) (v : Float) → i < n → ((j : ℕ) → j < length l → value j ≡ x j i) → v ≡ y i → l' ≡ term_more f value v l → rest l' (i + 1) ≡ rest l i
-  rest_one i l l' value v h p q e =
-      rest_step i 1 l l' (omega arith) (one_more i l l' value v p q e)
-
-  pub rest_none : (i : ℕ) (l : List Float) → n ≤ i → rest l i ≡ l
-  rest_none i l h = ap (λ (k : ℕ). row_more f (λ j t. x j (i + t)) (λ t. y (i + t)) k l) (let q : n - i ≡ 0 = omega arith in q) ∙ sym (row_none f (λ j t. x j (i + t)) (λ t. y (i + t)) l)
-
-  pub rest_all : (l : List Float) → rest l 0 ≡ row_more f x y n l
-  rest_all l =
-      ap (λ (k : ℕ). row_more f (λ j t. x j (0 + t)) (λ t. y (0 + t)) k l) (sub-zero n)
-      ∙ row_ext f (λ j t. x j (0 + t)) (λ t. y (0 + t)) x y n l (row_more f (λ j t. x j (0 + t)) (λ t. y (0 + t)) n l) (λ t j b b'. ap (x j) (zero-add t)) (λ t b. ap y (zero-add t)) refl
 
 -- four terms more, written out
 module _ (f : Format) (x : ℕ → ℕ → Float) (y : ℕ → Float) where

@@ -12,10 +12,6 @@ use Rattle.product.proofs.TileLaws.{across_place}
 no_nan_part : (bytes : List ℕ) (at n k m at' : ℕ) → k + m ≤ n → at' ≡ at + 8 * k → NoNan bytes at n → NoNan bytes at' m
 no_nan_part bytes at n k m at' h e f i b = subst (λ (z : ℕ). le_number (take 8 (drop z bytes)) % 9223372036854775808 ≤ 9218868437227405312) (let p : at + 8 * (k + i) ≡ at' + 8 * i = omega arith in p) (f (k + i) (omega arith))
 
--- some of the lines
-pub straight_part : (bytes : List ℕ) (base line step n top bottom r end : ℕ) → top ≤ r → end ≤ bottom → r ≤ end → Straight bytes base line step n top bottom → Straight bytes base line step n r end
-straight_part bytes base line step n top bottom r end h h' b s = (s.0, s.1, λ t l. no_nan_part bytes (base + 8 * top + 8 * (t * step)) (bottom - top) (r - top) (end - r) (base + 8 * r + 8 * (t * step)) (omega arith) (omega arith) (s.2 t l))
-
 module _ (bytes : List ℕ) (base line step r at : ℕ) (h : line ≡ 1) (a : at ≡ base + 8 * (r * line + 0 * step)) where
   -- the place of value u of line r + j
   straight_place : (u j : ℕ) → at + 8 * (u * step) + 8 * j ≡ base + 8 * ((r + j) * line + u * step)
@@ -35,6 +31,3 @@ module _ (bytes : List ℕ) (base line step r at : ℕ) (h : line ≡ 1) (a : at
   -- the four runs, from their first place
   pub straight_runs : (n end m : ℕ) → r + m ≡ end → Straight bytes base line step n r end → RunsNoNan bytes at step m
   straight_runs n end m e s t l = no_nan_part bytes (base + 8 * r + 8 * (t * step)) (end - r) 0 m (at + 8 * (t * step)) (omega arith) (omega (arith, start)) (s.2 t l)
-
-  pub runs_straight : (n end : ℕ) → n ≡ 4 → RunsNoNan bytes at step (end - r) → Straight bytes base line step n r end
-  runs_straight n end e f = (h, e, λ t l. no_nan_part bytes (at + 8 * (t * step)) (end - r) 0 (end - r) (base + 8 * r + 8 * (t * step)) (omega arith) (omega (arith, start)) (f t l))

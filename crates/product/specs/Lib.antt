@@ -4,3 +4,4 @@ pub mod Dot
 pub mod Piece
 pub mod Says
 pub mod Private
+pub mod Lent

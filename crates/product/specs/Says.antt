@@ -1,12 +1,12 @@
--- What `PieceAnswer` says: document 01's number for each of its cases.
-use Rattle.std.specs.Prelude.{[]}
+-- What a product call's result says: document 01's number for each of its cases.
+use Rattle.std.specs.Prelude.{[], Result, Ok, Err}
 use Rattle.answer.specs.Answer.{Answer, done, refused}
-use Rattle.product.specs.declared.checks.PieceAnswer.{PieceAnswer}
-use Rattle.product.specs.declared.checks.PieceAnswer.TheVariants.{Done, CountTooLarge, CannotConvertBetaToFromF64, IndexMismatch, ReadError}
+use Rattle.product.specs.declared.checks.PieceError.{PieceError}
+use Rattle.product.specs.declared.checks.PieceError.TheVariants.{CountTooLarge, CannotConvertBetaToFromF64, IndexMismatch, ReadError}
 
-abbrev pub piece_says : PieceAnswer → Answer
-piece_says Done = done []
-piece_says CountTooLarge = refused 18 []
-piece_says CannotConvertBetaToFromF64 = refused 20 []
-piece_says IndexMismatch = refused 15 []
-piece_says ReadError = refused 1 []
+abbrev pub piece_says : Result (Unit {0}) PieceError → Answer
+piece_says (Ok t) = done []
+piece_says (Err CountTooLarge) = refused 18 []
+piece_says (Err CannotConvertBetaToFromF64) = refused 20 []
+piece_says (Err IndexMismatch) = refused 15 []
+piece_says (Err ReadError) = refused 1 []

@@ -9,10 +9,8 @@ pub(crate) fn take_out(piece: &[f64], from: usize, width: usize, dst: &mut [f64]
     requires { (i : ℕ) → i < length dst.old → from + i * width < length piece.now }
     ensures { dst.new ≡ tabulate (length dst.old) (λ i. get_or piece.now (from + i * width) nan) }
 {
-    let mut i = 0;
-    while i < dst.len() {
+    for i in 0..dst.len() {
         dst[i] = piece[from + i * width];
-        i += 1;
     }
 }
 
@@ -21,9 +19,7 @@ pub(crate) fn put_back(src: &[f64], from: usize, width: usize, piece: &mut [f64]
     requires { (0 < width) × ((i : ℕ) → i < length src.now → from + i * width < length piece.old) }
     ensures { Put src.now from width piece.old piece.new }
 {
-    let mut i = 0;
-    while i < src.len() {
+    for i in 0..src.len() {
         piece[from + i * width] = src[i];
-        i += 1;
     }
 }

@@ -8,15 +8,20 @@ ghost use Rattle.product.specs.Says.{piece_says};
 mod checks;
 mod column;
 mod floats;
+mod lent;
+mod lines;
 mod sums;
 mod walk;
 
-pub use checks::PieceAnswer;
+pub use checks::PieceError;
 
 // The least width of a piece that does not meet 20.
 const ATA_LEAST_WIDTH: usize = 1;
 
 const AAT_LEAST_WIDTH: usize = 0;
+
+// The two calls differ in the total, the least width, where their lines stand, and the mirror. One function of both would
+// take these besides all arguments here, and would be as long as the two.
 
 // A piece of A'A, for the matrix A of row_count rows and col_count columns in the bytes after an offset.
 pub fn file_ata_piece_f64(
@@ -28,11 +33,11 @@ pub fn file_ata_piece_f64(
     height: usize,
     width: usize,
     piece: &mut [f64],
-) -> PieceAnswer
+) -> Result<(), PieceError>
     ensures result_value { piece_says result ≡ ata_answer bytes.now offset row_count col_count col_start height width piece.old }
     ensures piece_after { piece.new ≡ ata_leaves bytes.now offset row_count col_count col_start height width piece.old }
 {
-    let answer = checks::check_piece(
+    checks::check_piece(
         bytes.len(),
         offset,
         row_count,
@@ -43,10 +48,7 @@ pub fn file_ata_piece_f64(
         width,
         ATA_LEAST_WIDTH,
         piece.len(),
-    );
-    let PieceAnswer::Done = answer else {
-        return answer;
-    };
+    )?;
     walk::lower_piece(
         bytes,
         offset,
@@ -59,7 +61,7 @@ pub fn file_ata_piece_f64(
         piece,
     );
     walk::mirror(width, piece);
-    PieceAnswer::Done
+    Ok(())
 }
 
 // A piece of AA', for the same matrix.
@@ -72,11 +74,11 @@ pub fn file_aat_piece_f64(
     height: usize,
     width: usize,
     piece: &mut [f64],
-) -> PieceAnswer
+) -> Result<(), PieceError>
     ensures result_value { piece_says result ≡ aat_answer bytes.now offset row_count col_count row_start height width piece.old }
     ensures piece_after { piece.new ≡ aat_leaves bytes.now offset row_count col_count row_start height width piece.old }
 {
-    let answer = checks::check_piece(
+    checks::check_piece(
         bytes.len(),
         offset,
         row_count,
@@ -87,12 +89,9 @@ pub fn file_aat_piece_f64(
         width,
         AAT_LEAST_WIDTH,
         piece.len(),
-    );
-    let PieceAnswer::Done = answer else {
-        return answer;
-    };
+    )?;
     walk::lower_piece(
         bytes, offset, row_start, 1, row_count, col_count, height, width, piece,
     );
-    PieceAnswer::Done
+    Ok(())
 }

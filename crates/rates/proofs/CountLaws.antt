@@ -2,7 +2,7 @@
 use mathlib.Core.Path.{◌≡◌, refl, sym, ap, subst, ◌∙◌}
 use mathlib.Core.Bool.{Bool, cond}
 use mathlib.Core.List.{List, [], ◌∷◌, ◌++◌, flat_map}
-use mathlib.Core.Option.{Option, some, none}
+use Rattle.std.specs.Prelude.{Option, Some, None}
 use Prim.Native.Nat.{ℕ, zero, suc, ◌+◌, ◌*◌, ◌<◌}
 use native.Mathlib.Nat.{add_assoc, zero-add, add-zero, zero-mul}
 use native.Mathlib.Omega.{arith}
@@ -108,7 +108,7 @@ module _ (f g : List ℕ) (iids sids m : ℕ) (agree : (a : ℕ) → a < iids �
 
   pub agree_counts : marker_counts f iids sids m ≡ marker_counts g iids sids m
   unfolding marker_counts
-  agree_counts = λ i. record { zero = same (some 0) i; one = same (some 1) i; two = same (some 2) i; missing = same none i }
+  agree_counts = λ i. record { zero = same (Some 0) i; one = same (Some 1) i; two = same (Some 2) i; missing = same None i }
 
 -- and so has every record of two accepted files whose calls agree
 printed_below : (iids sids m : ℕ) → m < printed_markers iids sids → m < sids

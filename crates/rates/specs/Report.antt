@@ -1,7 +1,7 @@
 -- What is printed: counts, lines and the whole report.
 use Rattle.std.specs.Prelude.{cond, ℕ, suc, ◌+◌, eqb}
 use mathlib.Core.List.{List, [], ◌∷◌, ◌++◌, map, flat_map}
-use Rattle.std.proofs.Math.Option.{some, none}
+use Rattle.std.specs.Prelude.{Some, None}
 use Rattle.answer.specs.Answer.{Answer, done, refused, if_done}
 use Rattle.answer.specs.Lists.{tabulate}
 use Rattle.bed_read.specs.Reading.{file_order}
@@ -21,10 +21,10 @@ pub record Counts : Type 0 where
 unfoldable pub marker_counts : List ℕ → ℕ → ℕ → ℕ → Counts
 marker_counts file iids sids m =
     record {
-      zero = calls_with file iids sids (file_order iids) m (some 0);
-      one = calls_with file iids sids (file_order iids) m (some 1);
-      two = calls_with file iids sids (file_order iids) m (some 2);
-      missing = calls_with file iids sids (file_order iids) m none;
+      zero = calls_with file iids sids (file_order iids) m (Some 0);
+      one = calls_with file iids sids (file_order iids) m (Some 1);
+      two = calls_with file iids sids (file_order iids) m (Some 2);
+      missing = calls_with file iids sids (file_order iids) m None;
     }
 
 -- no calls, and those of two counts together

@@ -1,65 +1,50 @@
-// The answers: the joined call's, from those of the two calls.
-ghost use Rattle.std.specs.Prelude.{◌≡◌};
-ghost use Rattle.answer.specs.Answer.{is_done, GivesNo};
+// The joined call's refusals, from those of the two calls.
+ghost use Rattle.std.specs.Prelude.{◌≡◌, Err};
+ghost use Rattle.answer.specs.Answer.{GivesNo};
 ghost use Rattle.bed_read.specs.Says.{read_says};
 ghost use Rattle.standardise.specs.Says.{standardise_says};
 ghost use Rattle.read_standardised.specs.Says.{joined_says};
 
-use bed_file::FileFault;
-use bed_read::ReadAnswer;
-use standardise::StandardiseAnswer;
+use bed_file::FileError;
+use bed_read::ReadError;
+use standardise::StandardiseError;
 
-// What the joined call answers; 5 and 6 carry the entry, 13 the place in the marker list.
-#[derive(Clone, Copy)]
-pub enum JoinedAnswer {
-    Done,
+// What the joined call refuses; 5 and 6 carry the entry, 13 the place in the marker list.
+#[derive(Clone, Copy, Debug, PartialEq, Eq)]
+pub enum JoinedError {
     IndexMismatch,
     StatsMismatch,
-    Refused(FileFault),
+    File(FileError),
     IidIndexTooBig(i64),
     SidIndexTooBig(i64),
     NoIndividuals(usize),
 }
 
-// The reading's answer as the joined call's.
-pub(crate) fn of_reading(answer: ReadAnswer) -> JoinedAnswer
-    ensures { joined_says result ≡ read_says answer }
-{
-    match answer {
-        ReadAnswer::Done => JoinedAnswer::Done,
-        ReadAnswer::IndexMismatch => JoinedAnswer::IndexMismatch,
-        ReadAnswer::Refused(fault) => JoinedAnswer::Refused(fault),
-        ReadAnswer::IidIndexTooBig(e) => JoinedAnswer::IidIndexTooBig(e),
-        ReadAnswer::SidIndexTooBig(e) => JoinedAnswer::SidIndexTooBig(e),
+impl From<ReadError> for JoinedError {
+    ghost from_gives = { λ read joined. joined_says (Err joined) ≡ read_says (Err read) };
+
+    fn from(error: ReadError) -> JoinedError {
+        match error {
+            ReadError::IndexMismatch => JoinedError::IndexMismatch,
+            ReadError::File(error) => JoinedError::File(error),
+            ReadError::IidIndexTooBig(e) => JoinedError::IidIndexTooBig(e),
+            ReadError::SidIndexTooBig(e) => JoinedError::SidIndexTooBig(e),
+        }
     }
 }
 
-// The standardiser's answer as the joined call's, which has no 14: of calls that were read the standardiser gives none.
-pub(crate) fn of_standardising(answer: StandardiseAnswer) -> JoinedAnswer
-    requires { GivesNo 14 (standardise_says answer) }
-    ensures { joined_says result ≡ standardise_says answer }
+// The standardiser's result as the joined call's, which has no 14: of calls that were read the standardiser gives none.
+pub(crate) fn of_standardising(said: Result<(), StandardiseError>) -> Result<(), JoinedError>
+    requires { GivesNo 14 (standardise_says said) }
+    ensures { joined_says result ≡ standardise_says said }
 {
-    match answer {
-        StandardiseAnswer::Done => JoinedAnswer::Done,
-        StandardiseAnswer::CountTooLarge => JoinedAnswer::Refused(FileFault::CountTooLarge),
-        StandardiseAnswer::IndexMismatch => JoinedAnswer::IndexMismatch,
-        StandardiseAnswer::StatsMismatch => JoinedAnswer::StatsMismatch,
-        StandardiseAnswer::NoIndividuals(m) => JoinedAnswer::NoIndividuals(m),
+    match said {
+        Ok(()) => Ok(()),
+        Err(StandardiseError::CountTooLarge) => Err(JoinedError::File(FileError::CountTooLarge)),
+        Err(StandardiseError::IndexMismatch) => Err(JoinedError::IndexMismatch),
+        Err(StandardiseError::StatsMismatch) => Err(JoinedError::StatsMismatch),
+        Err(StandardiseError::NoIndividuals(m)) => Err(JoinedError::NoIndividuals(m)),
         // never reached: that is what is required
-        StandardiseAnswer::IllegalSnpMean(m) => JoinedAnswer::NoIndividuals(m),
-    }
-}
-
-pub(crate) fn is_done(answer: JoinedAnswer) -> bool
-    ensures { result ≡ is_done (joined_says answer) }
-{
-    match answer {
-        JoinedAnswer::Done => true,
-        JoinedAnswer::IndexMismatch => false,
-        JoinedAnswer::StatsMismatch => false,
-        JoinedAnswer::Refused(_) => false,
-        JoinedAnswer::IidIndexTooBig(_) => false,
-        JoinedAnswer::SidIndexTooBig(_) => false,
-        JoinedAnswer::NoIndividuals(_) => false,
+        Err(StandardiseError::IllegalSnpMean(m)) => Err(JoinedError::NoIndividuals(m)),
     }
 }

@@ -3,14 +3,14 @@ ghost use Rattle.std.specs.Float.{binary64};
 ghost use Rattle.read_standardised.specs.Says.{in_turn_says};
 ghost use Rattle.read_standardised.specs.Ways.{in_turn, GoesBy};
 
-use bed_read::ReadAnswer;
-use standardise::StandardiseAnswer;
+use bed_read::ReadError;
+use standardise::StandardiseError;
 
 // What the two calls answer.
-#[derive(Clone, Copy)]
+#[derive(Clone, Copy, Debug, PartialEq, Eq)]
 pub struct AnswersInTurn {
-    pub reading: ReadAnswer,
-    pub standardising: StandardiseAnswer,
+    pub reading: Result<(), ReadError>,
+    pub standardising: Result<(), StandardiseError>,
 }
 
 // Demand 3's other way: reads with missing NaN, then standardises the values as the reading left them, whatever it answered, in the order they were
@@ -31,31 +31,28 @@ pub fn read_then_standardise_f64(
     ensures { GoesBy binary64 file.now iid_count sid_count is_a1_counted iid_index.now sid_index.now
         animal_order val.old stats.old (in_turn use_stats apply_in_place) (in_turn_says result) val.new stats.new }
 {
-    let missing: f64 = 0.0 / 0.0;
-    let reading = bed_read::read_no_alloc_f64(
+    let reading = bed_read::read_no_alloc(
         file,
         iid_count,
         sid_count,
         is_a1_counted,
         iid_index,
         sid_index,
-        missing,
+        f64::NAN,
         animal_order,
         val,
     );
-    let iids = iid_index.len();
-    let sids = sid_index.len();
     let standardising = standardise::impute_and_zero_mean_snps_f64(
         val,
-        iids,
-        sids,
+        iid_index.len(),
+        sid_index.len(),
         animal_order,
         apply_in_place,
         use_stats,
         stats,
     );
     AnswersInTurn {
-        reading: reading,
-        standardising: standardising,
+        reading,
+        standardising,
     }
 }

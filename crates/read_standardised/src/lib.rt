@@ -8,8 +8,8 @@ ghost use Rattle.read_standardised.specs.Joined.{Joins};
 mod answers;
 mod in_turn;
 
-pub use answers::JoinedAnswer;
-use bed_file::FileFault;
+pub use answers::JoinedError;
+use bed_file::FileError;
 pub use in_turn::{AnswersInTurn, read_then_standardise_f64};
 
 // The joined call. It checks 18, 15, 17, the reading's from 1 on, then markers.
@@ -23,44 +23,40 @@ pub fn read_standardised_f64(
     animal_order: bool,
     val: &mut [f64],
     stats: &mut [f64],
-) -> JoinedAnswer
+) -> Result<(), JoinedError>
     ensures { Joins binary64 file.now iid_count sid_count is_a1_counted iid_index.now sid_index.now
         animal_order val.old stats.old (joined_says result) val.new stats.new }
 {
     if iid_count > answer::COUNT_LIMIT {
-        return JoinedAnswer::Refused(FileFault::CountTooLarge);
+        return Err(JoinedError::File(FileError::CountTooLarge));
     }
     if sid_count > answer::COUNT_LIMIT {
-        return JoinedAnswer::Refused(FileFault::CountTooLarge);
+        return Err(JoinedError::File(FileError::CountTooLarge));
     }
     if !blocks::product_is(iid_index.len(), sid_index.len(), val.len()) {
-        return JoinedAnswer::IndexMismatch;
+        return Err(JoinedError::IndexMismatch);
     }
     if !blocks::product_is(standardise::STATS_PER_MARKER, sid_index.len(), stats.len()) {
-        return JoinedAnswer::StatsMismatch;
+        return Err(JoinedError::StatsMismatch);
     }
-    let missing: f64 = 0.0 / 0.0;
-    let read = answers::of_reading(bed_read::read_no_alloc_f64(
+    bed_read::read_no_alloc(
         file,
         iid_count,
         sid_count,
         is_a1_counted,
         iid_index,
         sid_index,
-        missing,
+        f64::NAN,
         animal_order,
         val,
-    ));
-    if answers::is_done(read) {
-        return answers::of_standardising(standardise::impute_and_zero_mean_snps_f64(
-            val,
-            iid_index.len(),
-            sid_index.len(),
-            animal_order,
-            true,
-            false,
-            stats,
-        ));
-    }
-    read
+    )?;
+    answers::of_standardising(standardise::impute_and_zero_mean_snps_f64(
+        val,
+        iid_index.len(),
+        sid_index.len(),
+        animal_order,
+        true,
+        false,
+        stats,
+    ))
 }

@@ -1,307 +1,326 @@
-// Each call of the C interface, with the numbers and the buffers of its line. The sections of a line: 1 bytes, 2 bytes that are written, 3 a list of
-// i64, 4 a second one or one that is written, 5 i8, 6 f64, 7 statistics; 8 the answer; 9 and 10 the written buffers as they are afterwards.
+// Each call of the C interface, with the numbers and the buffers of its line.
+use crate::call::Call;
+use crate::value::Value;
 use bed_answer::BedAnswer;
-use stored_list::buffers::{
-    bytes_at, f64s_at, i8s_at, i64s_at, same_bytes, same_f64s, same_i8s, same_i64s,
-};
-use stored_list::words::{bits_of, float_of, length, numbers_of, signed, signed8, word};
+use std::alloc::{AllocError, Global};
+use stored_list::line::{Line, Section};
+use stored_list::stored::Stored;
 
-fn same_answer(words: &[usize; 715], answer: BedAnswer) -> bool {
-    if answer.number != word(words, 8, 0) as u64 {
-        return false;
-    }
-    if answer.first != signed(word(words, 8, 1)) {
-        return false;
-    }
-    answer.second == signed(word(words, 8, 2))
+// Whether a call answered what the line has.
+fn same_answer(line: &Line, answer: BedAnswer) -> bool {
+    answer.number.has_word(line.word(Section::Answer, 0))
+        && answer.first.has_word(line.word(Section::Answer, 1))
+        && answer.second.has_word(line.word(Section::Answer, 2))
 }
 
-// Calls that write nothing. The root's bits are in the place of the first number.
-fn root_f64(variance: usize) -> BedAnswer {
-    let root = mungkelas::bed_root_f64(float_of(variance));
-    BedAnswer {
-        number: 0,
-        first: signed(bits_of(root)),
-        second: 0,
-    }
+// The buffer that has what each word of a section stands for.
+fn buffer_at<T: Stored>(
+    alloc: Global,
+    line: &Line,
+    section: Section,
+) -> Result<Vec<T>, AllocError> {
+    let mut buffer = vec![in alloc; T::from_word(0); line.len(section)]?;
+    line.buffer_at(section, buffer.as_mut_slice());
+    Ok(buffer)
 }
 
-fn open_and_check(words: &[usize; 715]) -> BedAnswer {
-    let file = bytes_at(words, 1);
-    let file_len = length(words, 1);
-    mungkelas::bed_open_and_check(&file[0..file_len])
+// A call that writes the buffer of one section.
+fn writes<T: Stored, F: FnOnce(&mut [T]) -> BedAnswer>(
+    alloc: Global,
+    line: &Line,
+    section: Section,
+    call: F,
+) -> Result<bool, AllocError>
+    requires { F.IsAlwaysCallable call }
+{
+    let mut buffer = buffer_at(alloc, line, section)?;
+    let answer = call(buffer.as_mut_slice());
+    Ok(same_answer(line, answer) && line.same_at(Section::Later, buffer.as_slice()))
 }
 
-fn byte_span(words: &[usize; 715]) -> BedAnswer {
-    let n = numbers_of(words);
-    let index = i64s_at(words, 3);
-    let index_len = length(words, 3);
-    mungkelas::bed_byte_span(n.a, &index[0..index_len])
-}
-
-fn number_answer(call: usize, words: &[usize; 715]) -> BedAnswer {
-    let n = numbers_of(words);
-    match call {
-        1 => open_and_check(words),
-        2 => mungkelas::bed_try_div_4(n.a, n.b),
-        3 => byte_span(words),
-        4 => mungkelas::bed_to_range(n.a, n.b == 1, n.c, n.d == 1, n.e),
-        _ => root_f64(n.a),
-    }
-}
-
-pub(crate) fn number(call: usize, words: &[usize; 715]) -> bool {
-    same_answer(words, number_answer(call, words))
-}
-
-// Calls that make lists.
-fn index_vec(words: &[usize; 715], list: &mut [i64]) -> BedAnswer {
-    let n = numbers_of(words);
-    let vec = i64s_at(words, 3);
-    let vec_len = length(words, 3);
-    mungkelas::bed_index_vec(n.a, &vec[0..vec_len], list)
-}
-
-fn index_bool(words: &[usize; 715], list: &mut [i64]) -> BedAnswer {
-    let n = numbers_of(words);
-    let marks = bytes_at(words, 1);
-    let marks_len = length(words, 1);
-    mungkelas::bed_index_bool(n.a, &marks[0..marks_len], list)
-}
-
-fn list_answer(call: usize, words: &[usize; 715], list: &mut [i64]) -> BedAnswer {
-    let n = numbers_of(words);
-    match call {
-        14 => mungkelas::bed_index_all(n.a, list),
-        15 => mungkelas::bed_index_one(n.a, signed(n.b), list),
-        16 => index_vec(words, list),
-        17 => index_bool(words, list),
-        18 => mungkelas::bed_index_range(n.a, n.b == 1, n.c, n.d == 1, n.e, list),
-        _ => mungkelas::bed_index_slice(n.a, signed(n.b), n.c == 1, signed(n.d), signed(n.e), list),
-    }
-}
-
-fn list_made(call: usize, words: &[usize; 715], list: &mut [i64]) -> bool {
-    let answer = list_answer(call, words, list);
-    same_answer(words, answer) && same_i64s(words, 9, list)
-}
-
-pub(crate) fn list(call: usize, words: &[usize; 715]) -> bool {
-    let mut list = i64s_at(words, 4);
-    let list_len = length(words, 4);
-    list_made(call, words, &mut list[0..list_len])
-}
-
-// Reading.
-fn i8s_read(words: &[usize; 715], file: &[u8], iids: &[i64], sids: &[i64], val: &mut [i8]) -> bool {
-    let n = numbers_of(words);
-    let answer = mungkelas::bed_read_i8(
-        file,
-        n.a,
-        n.b,
-        n.c == 1,
-        iids,
-        sids,
-        signed8(n.d),
-        n.e == 1,
-        val,
-    );
-    same_answer(words, answer) && same_i8s(words, 9, val)
-}
-
-fn read_i8(words: &[usize; 715], file: &[u8], iids: &[i64], sids: &[i64]) -> bool {
-    let mut val = i8s_at(words, 5);
-    let val_len = length(words, 5);
-    i8s_read(words, file, iids, sids, &mut val[0..val_len])
-}
-
-fn f64s_read(
-    words: &[usize; 715],
-    file: &[u8],
-    iids: &[i64],
-    sids: &[i64],
-    val: &mut [f64],
-) -> bool {
-    let n = numbers_of(words);
-    let answer = mungkelas::bed_read_f64(
-        file,
-        n.a,
-        n.b,
-        n.c == 1,
-        iids,
-        sids,
-        float_of(n.d),
-        n.e == 1,
-        val,
-    );
-    same_answer(words, answer) && same_f64s(words, 9, val)
-}
-
-fn read_f64(words: &[usize; 715], file: &[u8], iids: &[i64], sids: &[i64]) -> bool {
-    let mut val = f64s_at(words, 6);
-    let val_len = length(words, 6);
-    f64s_read(words, file, iids, sids, &mut val[0..val_len])
-}
-
-fn standardised_read(
-    words: &[usize; 715],
-    file: &[u8],
-    iids: &[i64],
-    sids: &[i64],
-    val: &mut [f64],
-    stats: &mut [f64],
-) -> bool {
-    let n = numbers_of(words);
-    let answer = mungkelas::bed_read_standardised_f64(
-        file,
-        n.a,
-        n.b,
-        n.c == 1,
-        iids,
-        sids,
-        n.d == 1,
-        val,
-        stats,
-    );
-    same_answer(words, answer) && same_f64s(words, 9, val) && same_f64s(words, 10, stats)
-}
-
-fn read_standardised_f64(words: &[usize; 715], file: &[u8], iids: &[i64], sids: &[i64]) -> bool {
-    let mut val = f64s_at(words, 6);
-    let val_len = length(words, 6);
-    let mut stats = f64s_at(words, 7);
-    let stats_len = length(words, 7);
-    standardised_read(
-        words,
-        file,
-        iids,
-        sids,
-        &mut val[0..val_len],
-        &mut stats[0..stats_len],
+// A call that writes values and their statistics.
+fn writes_stats<F: FnOnce(&mut [f64], &mut [f64]) -> BedAnswer>(
+    alloc: Global,
+    line: &Line,
+    call: F,
+) -> Result<bool, AllocError>
+    requires { F.IsAlwaysCallable call }
+{
+    let mut val = buffer_at(alloc, line, Section::F64s)?;
+    let mut stats = buffer_at(alloc, line, Section::Stats)?;
+    let answer = call(val.as_mut_slice(), stats.as_mut_slice());
+    Ok(
+        same_answer(line, answer)
+            && line.same_at(Section::Later, val.as_slice())
+            && line.same_at(Section::LaterStats, stats.as_slice()),
     )
 }
 
-fn read_any(call: usize, words: &[usize; 715], file: &[u8], iids: &[i64], sids: &[i64]) -> bool {
-    match call {
-        5 => read_i8(words, file, iids, sids),
-        6 => read_f64(words, file, iids, sids),
-        _ => read_standardised_f64(words, file, iids, sids),
-    }
+fn open_and_check(alloc: Global, line: &Line) -> Result<bool, AllocError> {
+    let file = buffer_at(alloc, line, Section::Bytes)?;
+    let answer = mungkelas::bed_open_and_check(file.as_slice());
+    Ok(same_answer(line, answer))
 }
 
-pub(crate) fn read(call: usize, words: &[usize; 715]) -> bool {
-    let file = bytes_at(words, 1);
-    let file_len = length(words, 1);
-    let iids = i64s_at(words, 3);
-    let iid_len = length(words, 3);
-    let sids = i64s_at(words, 4);
-    let sid_len = length(words, 4);
-    read_any(
-        call,
-        words,
-        &file[0..file_len],
-        &iids[0..iid_len],
-        &sids[0..sid_len],
+fn try_div_4(line: &Line) -> bool {
+    let in_iid_count = line.number(0);
+    let in_sid_count = line.number(1);
+    let answer = mungkelas::bed_try_div_4(in_iid_count, in_sid_count);
+    same_answer(line, answer)
+}
+
+fn byte_span(alloc: Global, line: &Line) -> Result<bool, AllocError> {
+    let count = line.number(0);
+    let index = buffer_at(alloc, line, Section::Index)?;
+    let answer = mungkelas::bed_byte_span(count, index.as_slice());
+    Ok(same_answer(line, answer))
+}
+
+fn to_range(line: &Line) -> bool {
+    let count = line.number(0);
+    let has_start = line.number(1);
+    let start = line.number(2);
+    let has_end = line.number(3);
+    let end = line.number(4);
+    let answer = mungkelas::bed_to_range(count, has_start, start, has_end, end);
+    same_answer(line, answer)
+}
+
+fn read<T: Value>(alloc: Global, line: &Line) -> Result<bool, AllocError> {
+    let iid_count = line.number(0);
+    let sid_count = line.number(1);
+    let is_a1_counted = line.number(2);
+    let missing_value: T = line.number(3);
+    let animal_order = line.number(4);
+    let file = buffer_at(alloc, line, Section::Bytes)?;
+    let iid_index = buffer_at(alloc, line, Section::Index)?;
+    let sid_index = buffer_at(alloc, line, Section::List)?;
+    writes(alloc, line, T::section(), |val| {
+        mungkelas::bed_read::<T>(
+            file.as_slice(),
+            iid_count,
+            sid_count,
+            is_a1_counted,
+            iid_index.as_slice(),
+            sid_index.as_slice(),
+            missing_value,
+            animal_order,
+            val,
+        )
+    })
+}
+
+fn read_standardised_f64(alloc: Global, line: &Line) -> Result<bool, AllocError> {
+    let iid_count = line.number(0);
+    let sid_count = line.number(1);
+    let is_a1_counted = line.number(2);
+    let animal_order = line.number(3);
+    let file = buffer_at(alloc, line, Section::Bytes)?;
+    let iid_index = buffer_at(alloc, line, Section::Index)?;
+    let sid_index = buffer_at(alloc, line, Section::List)?;
+    writes_stats(alloc, line, |val, stats| {
+        mungkelas::bed_read_standardised_f64(
+            file.as_slice(),
+            iid_count,
+            sid_count,
+            is_a1_counted,
+            iid_index.as_slice(),
+            sid_index.as_slice(),
+            animal_order,
+            val,
+            stats,
+        )
+    })
+}
+
+fn impute_and_zero_mean_snps_f64(alloc: Global, line: &Line) -> Result<bool, AllocError> {
+    let iid_count = line.number(0);
+    let sid_count = line.number(1);
+    let animal_order = line.number(2);
+    let apply_in_place = line.number(3);
+    let use_stats = line.number(4);
+    writes_stats(alloc, line, |val, stats| {
+        mungkelas::bed_impute_and_zero_mean_snps_f64(
+            val,
+            iid_count,
+            sid_count,
+            animal_order,
+            apply_in_place,
+            use_stats,
+            stats,
+        )
+    })
+}
+
+fn encode1<T: Value>(alloc: Global, line: &Line) -> Result<bool, AllocError> {
+    let is_a1_counted = line.number(0);
+    let missing = line.number(1);
+    let val = buffer_at(alloc, line, T::section())?;
+    writes(alloc, line, Section::Out, |out| {
+        T::encode1(val.as_slice(), out, is_a1_counted, missing)
+    })
+}
+
+fn write<T: Value>(alloc: Global, line: &Line) -> Result<bool, AllocError> {
+    let iid_count = line.number(0);
+    let sid_count = line.number(1);
+    let animal_order = line.number(2);
+    let is_a1_counted = line.number(3);
+    let missing: T = line.number(4);
+    let val: Vec<T> = buffer_at(alloc, line, T::section())?;
+    writes(alloc, line, Section::Out, |out| {
+        mungkelas::bed_write::<T>(
+            val.as_slice(),
+            iid_count,
+            sid_count,
+            animal_order,
+            is_a1_counted,
+            missing,
+            out,
+        )
+    })
+}
+
+fn canonical(alloc: Global, line: &Line) -> Result<bool, AllocError> {
+    let iid_count = line.number(0);
+    let sid_count = line.number(1);
+    let file = buffer_at(alloc, line, Section::Bytes)?;
+    writes(alloc, line, Section::Out, |out| {
+        mungkelas::bed_canonical(file.as_slice(), iid_count, sid_count, out)
+    })
+}
+
+fn index_all(alloc: Global, line: &Line) -> Result<bool, AllocError> {
+    let count = line.number(0);
+    writes(
+        alloc,
+        line,
+        Section::List,
+        |list| mungkelas::bed_index_all(count, list),
     )
 }
 
-// Standardising.
-fn standardised(words: &[usize; 715], val: &mut [f64], stats: &mut [f64]) -> bool {
-    let n = numbers_of(words);
-    let answer = mungkelas::bed_impute_and_zero_mean_snps_f64(
-        val,
-        n.a,
-        n.b,
-        n.c == 1,
-        n.d == 1,
-        n.e == 1,
-        stats,
+fn index_one(alloc: Global, line: &Line) -> Result<bool, AllocError> {
+    let count = line.number(0);
+    let one = line.number(1);
+    writes(
+        alloc,
+        line,
+        Section::List,
+        |list| mungkelas::bed_index_one(count, one, list),
+    )
+}
+
+fn index_vec(alloc: Global, line: &Line) -> Result<bool, AllocError> {
+    let count = line.number(0);
+    let vec = buffer_at(alloc, line, Section::Index)?;
+    writes(alloc, line, Section::List, |list| {
+        mungkelas::bed_index_vec(count, vec.as_slice(), list)
+    })
+}
+
+fn index_bool(alloc: Global, line: &Line) -> Result<bool, AllocError> {
+    let count = line.number(0);
+    let marks = buffer_at(alloc, line, Section::Bytes)?;
+    writes(alloc, line, Section::List, |list| {
+        mungkelas::bed_index_bool(count, marks.as_slice(), list)
+    })
+}
+
+fn index_range(alloc: Global, line: &Line) -> Result<bool, AllocError> {
+    let count = line.number(0);
+    let has_start = line.number(1);
+    let start = line.number(2);
+    let has_end = line.number(3);
+    let end = line.number(4);
+    writes(alloc, line, Section::List, |list| {
+        mungkelas::bed_index_range(count, has_start, start, has_end, end, list)
+    })
+}
+
+fn index_slice(alloc: Global, line: &Line) -> Result<bool, AllocError> {
+    let count = line.number(0);
+    let start = line.number(1);
+    let has_end = line.number(2);
+    let end = line.number(3);
+    let step = line.number(4);
+    writes(alloc, line, Section::List, |list| {
+        mungkelas::bed_index_slice(count, start, has_end, end, step, list)
+    })
+}
+
+// A piece of either product, by a closure: a call that another crate hands on is not proved where it is passed by its name. The number after the
+// counts is the piece's first column or row.
+fn piece<F>(alloc: Global, line: &Line, call: F) -> Result<bool, AllocError>
+where
+    F: FnOnce(&[u8], u64, usize, usize, usize, usize, usize, &mut [f64]) -> BedAnswer,
+    requires { F.IsAlwaysCallable call }
+{
+    let offset = line.number(0);
+    let row_count = line.number(1);
+    let col_count = line.number(2);
+    let start = line.number(3);
+    let height = line.number(4);
+    let width = line.number(5);
+    let bytes = buffer_at(alloc, line, Section::Bytes)?;
+    let mut piece = buffer_at(alloc, line, Section::F64s)?;
+    let answer = call(
+        bytes.as_slice(),
+        offset,
+        row_count,
+        col_count,
+        start,
+        height,
+        width,
+        piece.as_mut_slice(),
     );
-    same_answer(words, answer) && same_f64s(words, 9, val) && same_f64s(words, 10, stats)
+    Ok(same_answer(line, answer) && line.same_at(Section::Later, piece.as_slice()))
 }
 
-pub(crate) fn impute_and_zero_mean_snps_f64(words: &[usize; 715]) -> bool {
-    let mut val = f64s_at(words, 6);
-    let val_len = length(words, 6);
-    let mut stats = f64s_at(words, 7);
-    let stats_len = length(words, 7);
-    standardised(words, &mut val[0..val_len], &mut stats[0..stats_len])
+// The root's bits stand in the place of the first number.
+fn root_f64(line: &Line) -> bool {
+    let root = mungkelas::bed_root_f64(line.number(0));
+    line.word(Section::Answer, 0) == 0
+        && root.has_word(line.word(Section::Answer, 1))
+        && line.word(Section::Answer, 2) == 0
 }
 
-// Calls that write bytes.
-fn i8s_packed(call: usize, words: &[usize; 715], val: &[i8], out: &mut [u8]) -> BedAnswer {
-    let n = numbers_of(words);
+// Whether the library agrees with a line.
+pub fn agrees(alloc: Global, call: Call, line: &Line) -> Result<bool, AllocError> {
     match call {
-        7 => mungkelas::bed_encode1_i8(val, out, n.a == 1, signed8(n.b)),
-        _ => mungkelas::bed_write_i8(val, n.a, n.b, n.c == 1, n.d == 1, signed8(n.e), out),
+        Call::OpenAndCheck => open_and_check(alloc, line),
+        Call::TryDiv4 => Ok(try_div_4(line)),
+        Call::ByteSpan => byte_span(alloc, line),
+        Call::ToRange => Ok(to_range(line)),
+        Call::ReadI8 => read::<i8>(alloc, line),
+        Call::ReadF64 => read::<f64>(alloc, line),
+        Call::Encode1I8 => encode1::<i8>(alloc, line),
+        Call::Encode1F64 => encode1::<f64>(alloc, line),
+        Call::WriteI8 => write::<i8>(alloc, line),
+        Call::WriteF64 => write::<f64>(alloc, line),
+        Call::Canonical => canonical(alloc, line),
+        Call::ImputeAndZeroMeanSnpsF64 => impute_and_zero_mean_snps_f64(alloc, line),
+        Call::ReadStandardisedF64 => read_standardised_f64(alloc, line),
+        Call::IndexAll => index_all(alloc, line),
+        Call::IndexOne => index_one(alloc, line),
+        Call::IndexVec => index_vec(alloc, line),
+        Call::IndexBool => index_bool(alloc, line),
+        Call::IndexRange => index_range(alloc, line),
+        Call::IndexSlice => index_slice(alloc, line),
+        Call::FileAtaPiece => piece(
+            alloc,
+            line,
+            |bytes, offset, row_count, col_count, col_start, height, width, piece| mungkelas::bed_file_ata_piece(
+                bytes, offset, row_count, col_count, col_start, height, width, piece,
+            ),
+        ),
+        Call::FileAatPiece => piece(
+            alloc,
+            line,
+            |bytes, offset, row_count, col_count, row_start, height, width, piece| mungkelas::bed_file_aat_piece(
+                bytes, offset, row_count, col_count, row_start, height, width, piece,
+            ),
+        ),
+        Call::RootF64 => Ok(root_f64(line)),
     }
-}
-
-fn pack_i8(call: usize, words: &[usize; 715], out: &mut [u8]) -> BedAnswer {
-    let val = i8s_at(words, 5);
-    let val_len = length(words, 5);
-    i8s_packed(call, words, &val[0..val_len], out)
-}
-
-fn f64s_packed(call: usize, words: &[usize; 715], val: &[f64], out: &mut [u8]) -> BedAnswer {
-    let n = numbers_of(words);
-    match call {
-        8 => mungkelas::bed_encode1_f64(val, out, n.a == 1, float_of(n.b)),
-        _ => mungkelas::bed_write_f64(val, n.a, n.b, n.c == 1, n.d == 1, float_of(n.e), out),
-    }
-}
-
-fn pack_f64(call: usize, words: &[usize; 715], out: &mut [u8]) -> BedAnswer {
-    let val = f64s_at(words, 6);
-    let val_len = length(words, 6);
-    f64s_packed(call, words, &val[0..val_len], out)
-}
-
-fn canonical(words: &[usize; 715], out: &mut [u8]) -> BedAnswer {
-    let n = numbers_of(words);
-    let file = bytes_at(words, 1);
-    let file_len = length(words, 1);
-    mungkelas::bed_canonical(&file[0..file_len], n.a, n.b, out)
-}
-
-fn byte_answer(call: usize, words: &[usize; 715], out: &mut [u8]) -> BedAnswer {
-    match call {
-        7 | 9 => pack_i8(call, words, out),
-        8 | 10 => pack_f64(call, words, out),
-        _ => canonical(words, out),
-    }
-}
-
-fn bytes_written(call: usize, words: &[usize; 715], out: &mut [u8]) -> bool {
-    let answer = byte_answer(call, words, out);
-    same_answer(words, answer) && same_bytes(words, 9, out)
-}
-
-pub(crate) fn write(call: usize, words: &[usize; 715]) -> bool {
-    let mut out = bytes_at(words, 2);
-    let out_len = length(words, 2);
-    bytes_written(call, words, &mut out[0..out_len])
-}
-
-// Products.
-fn piece_answer(call: usize, words: &[usize; 715], bytes: &[u8], piece: &mut [f64]) -> BedAnswer {
-    let n = numbers_of(words);
-    let offset = n.a as u64;
-    match call {
-        20 => mungkelas::bed_file_ata_piece(bytes, offset, n.b, n.c, n.d, n.e, n.f, piece),
-        _ => mungkelas::bed_file_aat_piece(bytes, offset, n.b, n.c, n.d, n.e, n.f, piece),
-    }
-}
-
-fn piece_made(call: usize, words: &[usize; 715], bytes: &[u8], piece: &mut [f64]) -> bool {
-    let answer = piece_answer(call, words, bytes, piece);
-    same_answer(words, answer) && same_f64s(words, 9, piece)
-}
-
-pub(crate) fn piece(call: usize, words: &[usize; 715]) -> bool {
-    let bytes = bytes_at(words, 1);
-    let bytes_len = length(words, 1);
-    let mut val = f64s_at(words, 6);
-    let val_len = length(words, 6);
-    piece_made(call, words, &bytes[0..bytes_len], &mut val[0..val_len])
 }

@@ -5,7 +5,7 @@ use native.Mathlib.Nat.{not-le_of_lt, zero-lt-suc, mul-pos}
 use native.Mathlib.Omega.{arith}
 use mathlib.Core.Bool.{Bool, true, false, not, ◌&&◌, ◌||◌, beq, true≢false}
 use lib.Dec.{T, ltb, eqb, eqb→eq, ltb→lt, lt→ltb}
-use lib.Ieee.{Float, nan, inf, fin, Format, up, down, hid, ones, to_bits, fits, is_nan, nan_bits, eq, lt}
+use lib.Ieee.{Float, nan, inf, fin, Format, up, down, hid, ones, to_bits, fits, nan_bits, eq, lt}
 use lib.Ieee.Fits.{up_pos, and_l}
 use lib.Ieee.Bits.{is_true, nan_bits_is}
 use lib.Ieee.Positive.{positive}
@@ -34,14 +34,7 @@ equals_zero f (fin s zero d) e = refl
 equals_zero f (fin s (suc m) d) e =
     absurd (some m (up d) (up_pos d) (eqb→eq (suc m * up d * 1) (0 * 1 * down d) (and_l (eqb (suc m * up d * 1) (0 * 1 * down d)) (beq s false || eqb (suc m * up d * 1) 0) (is_T (eq (fin s (suc m) d) zero_value) e)) ∙ none 1 (down d)))
 
--- what is above zero is no NaN
-pub above_number : (v : Float) → lt zero_value v ≡ true → T (not (is_nan v))
-unfolding lt is_nan
-above_number nan e = absurd (true≢false (sym e))
-above_number (inf s) e = tt
-above_number (fin s m d) e = tt
-
--- and with a pattern below the infinity's it is positive and finite
+-- what is above zero, with a pattern below the infinity's, is positive and finite
 pub above_positive : (f : Format) (v : Float) → lt zero_value v ≡ true → to_bits f v < ones f * hid f → T (positive v)
 unfolding lt to_bits
 above_positive f nan e u = absurd (true≢false (sym e))

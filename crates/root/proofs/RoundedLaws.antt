@@ -3,7 +3,7 @@
 use mathlib.Core.Path.{◌≡◌, refl, sym, ap, ap₂, ◌∙◌, subst, subst₂}
 use mathlib.Core.Logic.{◌⊎◌, inl, inr}
 use Prim.Native.Nat.{ℕ, zero, suc, ◌+◌, ◌-◌, ◌*◌, ◌/◌, ◌%◌, ◌^◌, ◌≤◌, ◌<◌}
-use native.Mathlib.Nat.{le_refl, le_of_lt, lt_of_lt_of_le, lt_of_le_of_lt, not-le_of_lt, lt_irrefl, eq-or-lt_of_le, mul-le-mul, mul-le-mul_left, mul-le-mul_right, mul-lt-mul_of_pos_right, mul-pos, mul_assoc, mul-one, le-div_iff_mul-le, div-lt_iff_lt-mul, pow-succ', mod-lt}
+use native.Mathlib.Nat.{le_of_lt, lt_of_lt_of_le, lt_of_le_of_lt, not-le_of_lt, eq-or-lt_of_le, mul-le-mul, mul-le-mul_left, mul-le-mul_right, mul-lt-mul_of_pos_right, mul-pos, mul_assoc, mul-one, le-div_iff_mul-le, div-lt_iff_lt-mul, pow-succ', mod-lt}
 use native.Mathlib.Omega.{arith}
 use lib.Dec.{T, lit<, lit≤}
 use lib.Pow.{pow-add, pow_pos, pow_mono}
@@ -54,42 +54,34 @@ scaled_normal f K l u =
     shift : (x m : ℕ) → 1 ≤ x → 2 ≤ m → x + (m - 2) ≡ x - 1 + (m - 1)
     shift x m a b = omega arith
 
--- a subnormal value's digits, moved up from K
-pub record Lifted (f : Format) (K digits exponent : ℕ) : Type 0 where
-  pub same : digits * 2 ^ exponent ≡ K * 2 ^ (emax f - 1)
-  pub some : 0 < digits
-  pub short : digits < 2 * hid f
-  pub bound : exponent ≤ emax f - 1
+-- digits of which the first stands for 2 ^ l, moved up by s places
+pub first_below : (l t K : ℕ) → 2 ^ l ≤ K → K < 2 ^ t → l < t
+first_below l t K a b = elim (here_or_on l t) [ inl h ↦ h | inr h ↦ absurd (let m : 2 ^ t ≤ 2 ^ l = pow_mono h in omega arith) ]
 
-pub lifted_start : (f : Format) (K : ℕ) → 0 < K → K < hid f → Lifted f K K (emax f - 1)
-lifted_start f K p l = record { same = refl; some = p; short = omega arith; bound = le_refl (emax f - 1) }
+moved_up : (l s t K : ℕ) → 2 ^ l ≤ K → K < 2 * 2 ^ l → l + s ≡ t → (2 ^ t ≤ K * 2 ^ s) × (K * 2 ^ s < 2 * 2 ^ t)
+moved_up l s t K a b e =
+    let p : 2 ^ t ≡ 2 ^ l * 2 ^ s = ap (λ (z : ℕ). 2 ^ z) (sym e) ∙ pow-add 2 l s in
+    let x : 2 ^ l * 2 ^ s ≤ K * 2 ^ s = mul-le-mul_right (2 ^ s) a in
+    let y : K * 2 ^ s < 2 * 2 ^ l * 2 ^ s = mul-lt-mul_of_pos_right b (pow_pos s) in
+    (omega arith, omega arith)
 
-pub lifted_more : (f : Format) (K d e : ℕ) → 0 < K → Lifted f K d e → d < hid f → 0 < e
-lifted_more f K d zero p g l =
-    let a : d ≡ K * 2 ^ (emax f - 1) = sym (mul-one d) ∙ g.same in
-    let b : 1 * 2 ^ (emax f - 1) ≤ K * 2 ^ (emax f - 1) = mul-le-mul_right (2 ^ (emax f - 1)) p in
-    omega (arith, hid_le f)
-lifted_more f K d (suc e) p g l = omega arith
-
-pub lifted_step : (f : Format) (K d e : ℕ) → 0 < K → Lifted f K d e → d < hid f → Lifted f K (d * 2) (e - 1)
-lifted_step f K d zero p g l = absurd (lt_irrefl 0 (lifted_more f K d zero p g l))
-lifted_step f K d (suc e) p g l = record {
-  same = ap (λ (z : ℕ). d * 2 * 2 ^ z) (one_off e) ∙ mul_assoc d 2 (2 ^ e) ∙ ap (λ (z : ℕ). d * z) (sym (pow-succ' 2 e)) ∙ g.same;
-  some = omega (arith, g.some);
-  short = omega arith;
-  bound = omega (arith, g.bound);
+-- a subnormal value's digits, moved up by s places
+scaled_subnormal : (f : Format) (K s e : ℕ) → K < hid f → (hid f ≤ K * 2 ^ s) × (K * 2 ^ s < 2 * hid f) → s + e ≡ emax f - 1 → IsScaled f (of_bits f K) (K * 2 ^ s) e
+scaled_subnormal f K s e l (least, most) p = record {
+  same = mul_assoc K (2 ^ s) (2 ^ e) ∙ ap (λ (z : ℕ). K * z) (sym (pow-add 2 s e) ∙ ap (λ (z : ℕ). 2 ^ z) p)
+      ∙ ap (λ (z : ℕ). z * 2 ^ (emax f - 1)) (sym (at_count f K 0 K (subnormal_at f K l) ∙ mul-one K));
+  full = least;
+  short = most;
+  bound = omega (arith, two_emax f);
 }
-  where
-    one_off : (t : ℕ) → suc t - 1 ≡ t
-    one_off t = omega arith
 
-pub lifted_end : (f : Format) (K d e : ℕ) → K < hid f → Lifted f K d e → hid f ≤ d → IsScaled f (of_bits f K) d e
-lifted_end f K d e l g h = record {
-  same = g.same ∙ ap (λ (z : ℕ). z * 2 ^ (emax f - 1)) (sym (at_count f K 0 K (subnormal_at f K l) ∙ mul-one K));
-  full = h;
-  short = g.short;
-  bound = omega (arith, g.bound);
-}
+-- and in the code, which moves them in 64 bits
+pub shifted_subnormal : (K l s : ℕ) → K < 2 ^ 52 → 2 ^ l ≤ K → K < 2 * 2 ^ l → l + s ≡ 52 → IsScaled binary64 (of_bits binary64 K) (K * 2 ^ s % 2 ^ 64 % 2 ^ 52 + 2 ^ 52) (1022 - s)
+shifted_subnormal K l s k a b e =
+    let m = moved_up l s 52 K a b e in
+    let fits : K * 2 ^ s ≡ K * 2 ^ s % 2 ^ 64 % 2 ^ 52 + 2 ^ 52 = omega (arith, m.0, m.1) in
+    subst (λ (d : ℕ). IsScaled binary64 (of_bits binary64 K) d (1022 - s)) fits
+    (scaled_subnormal binary64 K s (1022 - s) k m (omega arith))
 
 -- ---- rounding
 -- the digits, doubled where the exponent is odd, so that half the exponent is left

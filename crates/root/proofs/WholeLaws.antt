@@ -2,7 +2,7 @@
 use mathlib.Core.Path.{◌≡◌, sym, ap, ◌∙◌, subst}
 use mathlib.Core.Logic.{inl, inr}
 use Prim.Native.Nat.{ℕ, zero, suc, ◌+◌, ◌-◌, ◌*◌, ◌/◌, ◌%◌, ◌^◌, ◌≤◌, ◌<◌}
-use native.Mathlib.Nat.{le_trans, mul-le-mul, mul-le-mul_left, mul-le-mul_right, div-add-mod', mod-lt, div-div-eq-div-mul, div-lt_iff_lt-mul, mul-pos, lt_irrefl, div-le_self, div-one, not-suc-le-zero}
+use native.Mathlib.Nat.{le_trans, mul-le-mul, mul-le-mul_left, mul-le-mul_right, div-add-mod', mod-lt, div-div-eq-div-mul, div-lt_iff_lt-mul, mul-pos, lt_irrefl}
 use native.Mathlib.Numerals.{add-one}
 use native.Mathlib.Omega.{arith}
 use lib.Pow.{pow-add}
@@ -141,12 +141,6 @@ two_on n l = ap (λ (z : ℕ). 4 * z + n / 2 ^ (l * 2) % 4) (ap (λ (z : ℕ). n
     whole x = omega arith
 
 -- ---- the loop over seven pairs of binary digits
-pub short_start : (n : ℕ) → n < 16384 → IsWholeRoot (n / 16384) 0 0
-short_start n l = record { sum = omega arith; small = omega arith }
-
-pub short_under : (n m s r : ℕ) → n < 16384 → IsWholeRoot (n / m) s r → s < 134217728
-short_under n m s r l w = root_under (n / m) s r 134217728 w (omega (arith, div-le_self n m))
-
 -- a turn, from `left` pairs to one less
 pub short_turn : (n left s r s' r' : ℕ) → 0 < left → IsWholeRoot (n / 2 ^ (left * 2)) s r → IsWholeRoot (4 * (s * s + r) + n / 2 ^ ((left - 1) * 2) % 4) s' r' → IsWholeRoot (n / 2 ^ ((left - 1) * 2)) s' r'
 short_turn n zero s r s' r' p w w' = absurd (lt_irrefl 0 p)
@@ -157,7 +151,3 @@ short_turn n (suc l) s r s' r' p w w' =
   where
     one_off : (t : ℕ) → suc t - 1 ≡ t
     one_off t = omega arith
-
-pub short_end : (n left s r : ℕ) → left ≤ 0 → IsWholeRoot (n / 2 ^ (left * 2)) s r → IsWholeRoot n s r
-short_end n zero s r p w = subst (λ (z : ℕ). IsWholeRoot z s r) (div-one n) w
-short_end n (suc l) s r p w = absurd (not-suc-le-zero p)

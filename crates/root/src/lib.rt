@@ -7,11 +7,11 @@ ghost use Rattle.std.specs.Float.Ieee.{hid, ones, of_bits};
 ghost use Rattle.root.specs.Root.{root};
 ghost use Rattle.root.specs.Private.{IsWholeRoot, IsScaled};
 
-// 2 ^ 52, the weight of an f64's leading binary digit.
-const LEADING: u64 = 4503599627370496;
+// The weight of an f64's leading binary digit.
+const LEADING: u64 = 1 << 52;
 
-// The bits of +infinity, 2047 * 2 ^ 52.
-const INFINITY_BITS: u64 = 9218868437227405312;
+// The bits of +infinity.
+const INFINITY_BITS: u64 = 2047 * LEADING;
 
 // A whole number's root, and what the root's square leaves of the number.
 #[derive(Clone, Copy)]
@@ -27,22 +27,51 @@ struct Scaled {
     exponent: u64,
 }
 
-// One binary digit more: of a number whose next two binary digits are pair.
-fn next_digit(found: WholeRoot, pair: u64) -> WholeRoot
-    requires { (found.rest ≤ 2 * found.root) × (found.root < 134217728) × (pair < 4) }
-    ensures { IsWholeRoot (4 * (found.root * found.root + found.rest) + pair) result.root result.rest }
-{
-    let rest = found.rest * 4 + pair;
-    let trial = found.root * 4 + 1;
-    if trial <= rest {
-        WholeRoot {
-            root: found.root * 2 + 1,
-            rest: rest - trial,
+impl WholeRoot {
+    // One binary digit more: of a number whose next two binary digits are pair.
+    fn next_digit(self, pair: u64) -> WholeRoot
+        requires { (self.rest ≤ 2 * self.root) × (self.root < 134217728) × (pair < 4) }
+        ensures { IsWholeRoot (4 * (self.root * self.root + self.rest) + pair) result.root result.rest }
+    {
+        let rest = self.rest * 4 + pair;
+        let trial = self.root * 4 + 1;
+        if trial <= rest {
+            WholeRoot {
+                root: self.root * 2 + 1,
+                rest: rest - trial,
+            }
+        } else {
+            WholeRoot {
+                root: self.root * 2,
+                rest,
+            }
         }
-    } else {
-        WholeRoot {
-            root: found.root * 2,
-            rest: rest,
+    }
+
+    // As many digits more as base has, by one division: of a number whose next two digits to that base
+    // are high and low.
+    #[tactic(auto, using(crate::proofs::WholeLaws::room))]
+    fn next_digits(self, high: u64, low: u64, base: u64) -> WholeRoot
+        requires { (self.rest ≤ 2 * self.root) × (self.root < 134217728) × (base ≤ 2 * self.root)
+            × (base ≤ 134217728) × (high < base) × (low < base) }
+        ensures { IsWholeRoot ((self.root * self.root + self.rest) * (base * base) + high * base + low)
+            result.root result.rest }
+    {
+        let twice = self.root * 2;
+        let part = self.rest * base + high;
+        let quotient = part / twice;
+        let square = quotient * quotient;
+        let over = part % twice * base + low;
+        let root = self.root * base + quotient;
+        if over < square {
+            let less = root - 1;
+            let rest = over + less + root - square;
+            WholeRoot { root: less, rest }
+        } else {
+            WholeRoot {
+                root,
+                rest: over - square,
+            }
         }
     }
 }
@@ -53,41 +82,10 @@ fn short_root(n: u64) -> WholeRoot
     ensures { IsWholeRoot n result.root result.rest }
 {
     let mut found = WholeRoot { root: 0, rest: 0 };
-    let mut left: u64 = 7;
-    while 0 < left {
-        left -= 1;
-        found = next_digit(found, (n >> (left * 2)) % 4);
+    for left in (0..7u32).rev() {
+        found = found.next_digit((n >> (left * 2)) % 4);
     }
     found
-}
-
-// As many digits more as base has, by one division: of a number whose next two digits to that base
-// are high and low.
-fn next_digits(found: WholeRoot, high: u64, low: u64, base: u64) -> WholeRoot
-    requires { (found.rest ≤ 2 * found.root) × (found.root < 134217728) × (base ≤ 2 * found.root)
-        × (base ≤ 134217728) × (high < base) × (low < base) }
-    ensures { IsWholeRoot ((found.root * found.root + found.rest) * (base * base) + high * base + low)
-        result.root result.rest }
-{
-    let twice = found.root * 2;
-    let part = found.rest * base + high;
-    let quotient = part / twice;
-    let square = quotient * quotient;
-    let over = part % twice * base + low;
-    let root = found.root * base + quotient;
-    if over < square {
-        let less = root - 1;
-        let rest = over + less + root - square;
-        WholeRoot {
-            root: less,
-            rest: rest,
-        }
-    } else {
-        WholeRoot {
-            root: root,
-            rest: over - square,
-        }
-    }
 }
 
 // The root of n * 2 ^ 54, for an n of 53 or 54 binary digits: 7, 14, 27 and then 54 digits of it, from
@@ -97,9 +95,9 @@ fn long_root(n: u64) -> WholeRoot
     ensures { IsWholeRoot (n * (4 * hid binary64)) result.root result.rest }
 {
     let seven = short_root(n / 1099511627776);
-    let fourteen = next_digits(seven, n / 8589934592 % 128, n / 67108864 % 128, 128);
-    let half = next_digits(fourteen, n / 8192 % 8192, n % 8192, 8192);
-    next_digits(half, 0, 0, 134217728)
+    let fourteen = seven.next_digits(n / 8589934592 % 128, n / 67108864 % 128, 128);
+    let half = fourteen.next_digits(n / 8192 % 8192, n % 8192, 8192);
+    half.next_digits(0, 0, 134217728)
 }
 
 // A positive finite value by its bits, as digits * 2 ^ exponent. A subnormal value's digits are moved
@@ -116,13 +114,11 @@ fn digits_of(bits: u64) -> Scaled
             exponent: field,
         };
     }
-    let mut digits = bits;
-    let mut exponent: u64 = 1022;
-    while digits < LEADING {
-        digits = digits * 2;
-        exponent -= 1;
+    let shift = 52 - bits.ilog2();
+    Scaled {
+        digits: (bits << shift) % LEADING + LEADING, // the leading digit once more, so that the compiler knows it
+        exponent: 1022 - u64::from(shift),
     }
-    Scaled { digits, exponent }
 }
 
 // The bits of the root of a positive finite value.
@@ -130,9 +126,7 @@ fn root_bits(bits: u64) -> u64
     requires { (0 < bits) × (bits < ones binary64 * hid binary64) }
     ensures { (result < ones binary64 * hid binary64) × (of_bits binary64 result ≡ root binary64 (of_bits binary64 bits)) }
 {
-    let v = digits_of(bits);
-    let digits = v.digits;
-    let exponent = v.exponent;
+    let Scaled { digits, exponent } = digits_of(bits);
     let under = digits * (1 + exponent % 2);
     let found = long_root(under);
     let rounded = (found.root + 1) / 2;
@@ -154,5 +148,5 @@ pub fn root_f64(variance: f64) -> f64
         }
         return variance; // +infinity
     }
-    0.0 / 0.0 // a NaN
+    f64::NAN
 }

@@ -2,7 +2,7 @@
 use mathlib.Core.Path.{◌≡◌, ◌∙◌}
 use mathlib.Core.Bool.{Bool, true, false}
 use mathlib.Core.List.{List, [], ◌∷◌}
-use mathlib.Core.Option.{some, none}
+use Rattle.std.specs.Prelude.{Some, None}
 use Prim.Native.Nat.{ℕ, ◌*◌, min}
 use lib.IntN.{ℤ, pos}
 use lib.ListN.{length, get_or}
@@ -22,7 +22,7 @@ use Rattle.sire.proofs.Limit.{made_is}
 module _ (file : List ℕ) (iids sids : ℕ) (offspring : ℤ) (candidates : List ℤ) where
   -- the calls that are compared, as they are read under either flag
   pub opposes_by_values :
-      (w : Width) → Numbers w → NotTwo w → (missing : w.Value) → w.same missing w.zero ≡ false → w.same missing w.two ≡ false
+      {V : Type 0} (w : Width V) → Numbers w → NotTwo w → (missing : V) → w.same missing w.zero ≡ false → w.same missing w.two ≡ false
       → (flag : Bool) (k m : ℕ)
       → opposing_values w (value_of w flag missing (call_code file iids sids (means iids offspring) m)) (value_of w flag missing (call_code file iids sids (means iids (get_or candidates k (pos 0))) m))
       ≡ opposes_in file iids sids offspring candidates k m
@@ -46,19 +46,19 @@ module _ (file : List ℕ) (iids sids : ℕ) (offspring : ℤ) (candidates : Lis
       pub offspring_bad : is_good iids offspring ≡ false → sire_answer file iids sids offspring candidates limit ≡ refused 5 (offspring ∷ [])
       unfolding accept_answer sire_answer check_sire first_bad
       offspring_bad b =
-          let f : first_bad iids (offspring ∷ candidates) ≡ some offspring = rw b in
+          let f : first_bad iids (offspring ∷ candidates) ≡ Some offspring = rw b in
           heard own_stage [] accepted _ ∙ entry_refuses (first_bad iids (offspring ∷ candidates)) 5 _ offspring f
 
       module _ (good : is_good iids offspring ≡ true) where
-        pub candidate_bad : (e : ℤ) → first_bad iids candidates ≡ some e → sire_answer file iids sids offspring candidates limit ≡ refused 5 (e ∷ [])
+        pub candidate_bad : (e : ℤ) → first_bad iids candidates ≡ Some e → sire_answer file iids sids offspring candidates limit ≡ refused 5 (e ∷ [])
         unfolding accept_answer sire_answer check_sire first_bad
         candidate_bad e b =
-            let f : first_bad iids (offspring ∷ candidates) ≡ some e = rw good b in
+            let f : first_bad iids (offspring ∷ candidates) ≡ Some e = rw good b in
             heard own_stage [] accepted _ ∙ entry_refuses (first_bad iids (offspring ∷ candidates)) 5 _ e f
 
         -- the comparisons made are those of 02, whatever the calls are, missing ones too
         pub numbers_answered :
-            first_bad iids candidates ≡ none
+            first_bad iids candidates ≡ None
             → sire_answer file iids sids offspring candidates limit
             ≡ done (
             pos (min limit (length candidates * sids))
@@ -66,5 +66,5 @@ module _ (file : List ℕ) (iids sids : ℕ) (offspring : ℤ) (candidates : Lis
             ∷ named_numbers (named limit sids (length candidates) (opposes_in file iids sids offspring candidates)))
         unfolding accept_answer sire_answer check_sire sire_numbers first_bad
         numbers_answered b =
-            let f : first_bad iids (offspring ∷ candidates) ≡ none = rw good b in
+            let f : first_bad iids (offspring ∷ candidates) ≡ None = rw good b in
             rw (← made_is limit sids (length candidates)) (heard own_stage [] accepted _ ∙ entry_passes (first_bad iids (offspring ∷ candidates)) 5 _ f)

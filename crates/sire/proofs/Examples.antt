@@ -3,7 +3,7 @@ use mathlib.Core.Path.{◌≡◌, refl}
 use mathlib.Core.Bool.{Bool, true, false, not}
 use mathlib.Core.List.{List, [], ◌∷◌}
 use mathlib.Core.Logic.{◌⊎◌, inl, inr}
-use mathlib.Core.Option.{Option, some, none}
+use Rattle.std.specs.Prelude.{Option, Some, None}
 use Prim.Native.Nat.{ℕ, ◌<◌, ◌≤◌, min}
 use lib.Dec.{eqb, lit≤}
 use lib.IntN.{pos, negsuc}
@@ -31,7 +31,7 @@ abbrev pub placed : ℕ → ℕ → Placed
 placed place count = record { place = place; count = count }
 
 abbrev pub at : ℕ → ℕ → Option Placed
-at place count = some (placed place count)
+at place count = Some (placed place count)
 
 pub first_on_equal_counts : least_of (λ k. true) (λ k. get_or (2 ∷ 1 ∷ 1 ∷ []) k 0) 3 ≡ at 1 1
 unfolding least_of lesser
@@ -50,7 +50,7 @@ pub record Drawn : Type 0 where
   pub five_floor : floor 5 3 2 drawn ≡ 1
   pub five_overall : least_overall 3 2 drawn ≡ at 1 1
   -- 2 finish none
-  pub two_named : named 2 3 1 drawn ≡ none
+  pub two_named : named 2 3 1 drawn ≡ None
   pub two_floor : floor 2 3 1 drawn ≡ 1
   -- more than the list needs
   pub all_named : named 100 3 4 drawn ≡ at 3 0
@@ -58,9 +58,9 @@ pub record Drawn : Type 0 where
   -- the last marker counts
   pub last_marker : so_far 9 3 drawn 2 ≡ 1
   -- limit 0: with markers none is named, without markers the first
-  pub zero_named : named 0 3 4 drawn ≡ none
+  pub zero_named : named 0 3 4 drawn ≡ None
   pub no_markers : named 0 0 4 drawn ≡ at 0 0
-  pub nobody : named 9 3 0 drawn ≡ none
+  pub nobody : named 9 3 0 drawn ≡ None
 
 pub computed : Drawn
 unfolding comparisons_made compared is_finished so_far in_all named least_unfinished floor least_overall least_of lesser count_or total how_many
@@ -94,9 +94,9 @@ pub record ByTheorems : Type 0 where
   pub third_finished : is_finished 9 3 2 ≡ true
   pub not_begun_count : so_far 9 3 drawn 3 ≡ 0
   pub first_of_least : IsLeast (is_finished 9 3) (in_all 3 drawn) 4 (placed 1 1)
-  pub nobody_below : named 2 3 1 drawn ≡ none
+  pub nobody_below : named 2 3 1 drawn ≡ None
   pub nobody_why : (◌≡◌ {A = ℕ} 1 0) ⊎ (2 < 3)
-  pub nobody_there : named 9 3 0 drawn ≡ none
+  pub nobody_there : named 9 3 0 drawn ≡ None
   pub least_unfinished_law : CountOfLeast (λ k. not (is_finished 5 3 k)) (so_far 5 3 drawn) 2 1
   pub not_begun_floor : floor 9 3 4 drawn ≡ 0
   pub finished_floor : floor 9 3 3 drawn ≡ 1
@@ -135,7 +135,7 @@ by_theorems =
 
 -- ---- calls. Codes 0 and 3 are 2 and 0 with the first allele counted, 0 and 2 without; code 1 is missing, here −127 and NaN
 pub record Calls : Type 0 where
-  pub copies_apart : ((copies 0 ≡ some 0) × (copies 3 ≡ some 2)) ⊎ ((copies 0 ≡ some 2) × (copies 3 ≡ some 0))
+  pub copies_apart : ((copies 0 ≡ Some 0) × (copies 3 ≡ Some 2)) ⊎ ((copies 0 ≡ Some 2) × (copies 3 ≡ Some 0))
   pub counted : opposing_values i8 (pos 2) (pos 0) ≡ true
   pub other_counted : opposing_values i8 (pos 0) (pos 2) ≡ true
   pub missing : opposing_values float nan float.two ≡ false

@@ -2,7 +2,7 @@
 use mathlib.Core.Path.{◌≡◌, refl, sym, ap, subst, ◌∙◌}
 use mathlib.Core.Bool.{Bool, true, false, cond}
 use mathlib.Core.Logic.{◌↔◌}
-use mathlib.Core.Option.{Option, some, none}
+use Rattle.std.specs.Prelude.{Option, Some, None}
 use Prim.Native.Nat.{ℕ, zero, suc, ◌<◌, ◌≤◌}
 use native.Mathlib.Omega.{arith}
 use lib.Dec.{ltb}
@@ -15,18 +15,18 @@ not_both b t f = absurd (let q : true ≡ false = (sym t ∙ f) in let z : ◌�
 
 -- the later one where its count is below, else the earlier
 lesser_by : (P : Option Placed → Type 0) (earlier later : Placed)
-    → (later.count < earlier.count → P (some later)) → (earlier.count ≤ later.count → P (some earlier)) → P (lesser (some earlier) later)
+    → (later.count < earlier.count → P (Some later)) → (earlier.count ≤ later.count → P (Some earlier)) → P (lesser (Some earlier) later)
 unfolding lesser
 lesser_by P earlier later f g =
     by_test (ltb later.count earlier.count)
-    (λ t. subst (λ (b : Bool). P (cond b (some later) (some earlier))) (sym t) (f (ltb-true later.count earlier.count t)))
-    (λ t. subst (λ (b : Bool). P (cond b (some later) (some earlier))) (sym t) (g (ltb-false later.count earlier.count t)))
+    (λ t. subst (λ (b : Bool). P (cond b (Some later) (Some earlier))) (sym t) (f (ltb-true later.count earlier.count t)))
+    (λ t. subst (λ (b : Bool). P (cond b (Some later) (Some earlier))) (sym t) (g (ltb-false later.count earlier.count t)))
 
 module _ (test : ℕ → Bool) (count : ℕ → ℕ) where
   -- what is found among n places: nothing where none passes, else the first of the least
   data Finds (n : ℕ) : Option Placed → Type 0 where
-    nothing : ((k : ℕ) → k < n → test k ≡ false) → Finds n none
-    finds : (found : Placed) → IsLeast test count n found → Finds n (some found)
+    nothing : ((k : ℕ) → k < n → test k ≡ false) → Finds n None
+    finds : (found : Placed) → IsLeast test count n found → Finds n (Some found)
 
   here : ℕ → Placed
   here n = record { place = n; count = count n }
@@ -50,7 +50,7 @@ module _ (test : ℕ → Bool) (count : ℕ → ℕ) where
         })
 
     -- the place n itself is found, if those before it that pass have more
-    taken : test n ≡ true → ((k : ℕ) → k < n → test k ≡ true → count n < count k) → Finds (suc n) (some (here n))
+    taken : test n ≡ true → ((k : ℕ) → k < n → test k ≡ true → count n < count k) → Finds (suc n) (Some (here n))
     unfolding here
     taken t more =
         finds (here n) (record {
@@ -61,7 +61,7 @@ module _ (test : ℕ → Bool) (count : ℕ → ℕ) where
           first = more;
         })
 
-    kept : (found : Placed) → IsLeast test count n found → found.count ≤ count n → Finds (suc n) (some found)
+    kept : (found : Placed) → IsLeast test count n found → found.count ≤ count n → Finds (suc n) (Some found)
     kept found h m =
         finds found (record {
           in_list = let a = h.in_list in omega arith;
@@ -85,19 +85,19 @@ module _ (test : ℕ → Bool) (count : ℕ → ℕ) where
       (λ t. rw t (skipped n t (least_found n)))
 
   -- ---- what is found has these words, and nothing else has
-  found_has : {n : ℕ} {o : Option Placed} (found : Placed) → Finds n o → o ≡ some found → IsLeast test count n found
+  found_has : {n : ℕ} {o : Option Placed} (found : Placed) → Finds n o → o ≡ Some found → IsLeast test count n found
   found_has found (nothing h) e = absurd (let z : ◌≡◌ {A = ℕ} 0 1 = cc in omega arith)
   found_has {n} found (finds other h) e = let q : other ≡ found = cc in subst (IsLeast test count n) q h
 
-  none_has : {n : ℕ} {o : Option Placed} → Finds n o → o ≡ none → (k : ℕ) → k < n → test k ≡ false
+  none_has : {n : ℕ} {o : Option Placed} → Finds n o → o ≡ None → (k : ℕ) → k < n → test k ≡ false
   none_has (nothing h) e = h
   none_has (finds other h) e = absurd (let z : ◌≡◌ {A = ℕ} 0 1 = cc in omega arith)
 
   module _ (n : ℕ) where
-    least_is : (found : Placed) → least_of test count n ≡ some found → IsLeast test count n found
+    least_is : (found : Placed) → least_of test count n ≡ Some found → IsLeast test count n found
     least_is found e = found_has found (least_found n) e
 
-    least_none : least_of test count n ≡ none → (k : ℕ) → k < n → test k ≡ false
+    least_none : least_of test count n ≡ None → (k : ℕ) → k < n → test k ≡ false
     least_none e = none_has (least_found n) e
 
     same_place : (f g : Placed) → IsLeast test count n f → IsLeast test count n g → g.place ≤ f.place
@@ -112,18 +112,18 @@ module _ (test : ℕ → Bool) (count : ℕ → ℕ) where
         let q : f.count ≡ g.count = (a.its_count ∙ ap count p ∙ sym b.its_count) in
         ap (λ (x : ℕ). let r : Placed = record { place = x; count = f.count } in r) p ∙ ap (λ (x : ℕ). let r : Placed = record { place = g.place; count = x } in r) q
 
-    to_least : {o : Option Placed} (found : Placed) → IsLeast test count n found → Finds n o → o ≡ some found
+    to_least : {o : Option Placed} (found : Placed) → IsLeast test count n found → Finds n o → o ≡ Some found
     to_least found a (nothing h) = not_both (test found.place) a.passes (h found.place a.in_list)
-    to_least found a (finds other h) = ap some (just_one other found h a)
+    to_least found a (finds other h) = ap Some (just_one other found h a)
 
-    to_none : {o : Option Placed} → ((k : ℕ) → k < n → test k ≡ false) → Finds n o → o ≡ none
+    to_none : {o : Option Placed} → ((k : ℕ) → k < n → test k ≡ false) → Finds n o → o ≡ None
     to_none f (nothing h) = refl
     to_none f (finds other h) = not_both (test other.place) h.passes (f other.place h.in_list)
 
-    pub least_exactly : (found : Placed) → (least_of test count n ≡ some found) ↔ IsLeast test count n found
+    pub least_exactly : (found : Placed) → (least_of test count n ≡ Some found) ↔ IsLeast test count n found
     least_exactly found = (least_is found, λ a. to_least found a (least_found n))
 
-    pub none_exactly : (least_of test count n ≡ none) ↔ ((k : ℕ) → k < n → test k ≡ false)
+    pub none_exactly : (least_of test count n ≡ None) ↔ ((k : ℕ) → k < n → test k ≡ false)
     none_exactly = (least_none, λ f. to_none f (least_found n))
 
     -- where a place passes, one is found, whose count is no more

@@ -3,7 +3,7 @@
 use mathlib.Core.Path.{◌≡◌, refl, ◌∙◌}
 use mathlib.Core.Bool.{Bool, true, false, ◌&&◌, cond, and_comm, or_comm}
 use mathlib.Core.Logic.{◌↔◌, ◌⊎◌, inl, inr}
-use mathlib.Core.Option.{some, none}
+use Rattle.std.specs.Prelude.{Some, None}
 use Prim.Native.Nat.{ℕ, zero, suc, ◌<◌}
 use native.Mathlib.Omega.{arith}
 use lib.Dec.{eqb}
@@ -31,14 +31,14 @@ code_of_law (suc (suc (suc (suc n)))) h = absurd (omega arith)
 never : {A : Type 0} → false ≡ true → A
 never e = absurd (let z : ◌≡◌ {A = ℕ} 0 1 = cc in omega arith)
 
-other : {A : Type 0} {m n : ℕ} → eqb m n ≡ false → some m ≡ some n → A
+other : {A : Type 0} {m n : ℕ} → eqb m n ≡ false → Some m ≡ Some n → A
 other {m = m} {n = n} e q = absurd (eqb-false m n e (let r : m ≡ n = cc in r))
 
-absent : {A : Type 0} {n : ℕ} → none ≡ some n → A
+absent : {A : Type 0} {n : ℕ} → None ≡ Some n → A
 absent e = absurd (let z : ◌≡◌ {A = ℕ} 0 1 = cc in omega arith)
 
 -- ---- by copies
-then_copies : {c d : ℕ} → Code c → Code d → opposing c d ≡ true → ((copies c ≡ some 0) × (copies d ≡ some 2)) ⊎ ((copies c ≡ some 2) × (copies d ≡ some 0))
+then_copies : {c d : ℕ} → Code c → Code d → opposing c d ≡ true → ((copies c ≡ Some 0) × (copies d ≡ Some 2)) ⊎ ((copies c ≡ Some 2) × (copies d ≡ Some 0))
 unfolding opposing copies
 then_copies c0 c0 e = never e
 then_copies c0 c1 e = never e
@@ -51,37 +51,37 @@ then_copies c3 c1 e = never e
 then_copies c3 c2 e = never e
 then_copies c3 c3 e = never e
 
-no_copy : {c : ℕ} → Code c → copies c ≡ some 0 → c ≡ 3
+no_copy : {c : ℕ} → Code c → copies c ≡ Some 0 → c ≡ 3
 unfolding copies
 no_copy c0 e = other refl e
 no_copy c1 e = absent e
 no_copy c2 e = other refl e
 no_copy c3 e = refl
 
-two_copies : {c : ℕ} → Code c → copies c ≡ some 2 → c ≡ 0
+two_copies : {c : ℕ} → Code c → copies c ≡ Some 2 → c ≡ 0
 unfolding copies
 two_copies c0 e = refl
 two_copies c1 e = absent e
 two_copies c2 e = other refl e
 two_copies c3 e = other refl e
 
-if_copies : {c d : ℕ} → Code c → Code d → ((copies c ≡ some 0) × (copies d ≡ some 2)) ⊎ ((copies c ≡ some 2) × (copies d ≡ some 0)) → opposing c d ≡ true
+if_copies : {c d : ℕ} → Code c → Code d → ((copies c ≡ Some 0) × (copies d ≡ Some 2)) ⊎ ((copies c ≡ Some 2) × (copies d ≡ Some 0)) → opposing c d ≡ true
 unfolding opposing
 if_copies a b (inl e) = rw (no_copy a e.0, two_copies b e.1)
 if_copies a b (inr e) = rw (two_copies a e.0, no_copy b e.1)
 
 pub opposing_by_copies :
     (c d : ℕ) → c < 4 → d < 4
-    → (opposing c d ≡ true) ↔ (((copies c ≡ some 0) × (copies d ≡ some 2)) ⊎ ((copies c ≡ some 2) × (copies d ≡ some 0)))
+    → (opposing c d ≡ true) ↔ (((copies c ≡ Some 0) × (copies d ≡ Some 2)) ⊎ ((copies c ≡ Some 2) × (copies d ≡ Some 0)))
 opposing_by_copies c d h k = (then_copies (code_of_law c h) (code_of_law d k), if_copies (code_of_law c h) (code_of_law d k))
 
 -- ---- by values
 -- what `Numbers` does not say of 2
-pub record NotTwo (w : Width) : Type 0 where
+pub record NotTwo {V : Type 0} (w : Width V) : Type 0 where
   pub zero_two : w.same w.zero w.two ≡ false
   pub one_two : w.same w.one w.two ≡ false
 
-module _ (w : Width) (numbers : Numbers w) (not_two : NotTwo w) (missing : w.Value)
+module _ {V : Type 0} (w : Width V) (numbers : Numbers w) (not_two : NotTwo w) (missing : V)
     (no_zero : w.same missing w.zero ≡ false) (no_two : w.same missing w.two ≡ false) where
   zero_test : (flag : Bool) {c : ℕ} → Code c → w.same (value_of w flag missing c) w.zero ≡ eqb c (cond flag 3 0)
   unfolding value_of values

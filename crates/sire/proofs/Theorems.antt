@@ -2,7 +2,7 @@
 use mathlib.Core.Path.{◌≡◌, refl, sym, ap, ◌∙◌}
 use mathlib.Core.Bool.{Bool, true, false, not}
 use mathlib.Core.Logic.{◌↔◌, ◌⊎◌, inl, inr}
-use mathlib.Core.Option.{Option, some, none}
+use Rattle.std.specs.Prelude.{Option, Some, None}
 use Prim.Native.Nat.{ℕ, suc, ◌*◌, ◌<◌, ◌≤◌, min}
 use native.Mathlib.Nat.{mul-le-mul}
 use native.Mathlib.Omega.{arith}
@@ -15,7 +15,7 @@ use Rattle.sire.proofs.Limit.{finished_all, reached_finished, still_finished, no
 -- "The least over the whole list"
 pub overall_is_least :
     (markers candidates : ℕ) (opposes : ℕ → ℕ → Bool) (whole : Placed)
-    → (least_overall markers candidates opposes ≡ some whole) ↔ IsLeast (λ k. true) (in_all markers opposes) candidates whole
+    → (least_overall markers candidates opposes ≡ Some whole) ↔ IsLeast (λ k. true) (in_all markers opposes) candidates whole
 unfolding least_overall
 overall_is_least markers candidates opposes whole = least_exactly (λ k. true) (in_all markers opposes) candidates whole
 
@@ -29,17 +29,17 @@ module _ (limit markers candidates : ℕ) (opposes : ℕ → ℕ → Bool) where
       (λ k l. refl) (λ k l t. finished_count limit markers opposes k t)
 
   -- "the fully compared ram that opposes least, the first on equal counts, by its place in the list and its count"
-  pub named_is_least : (found : Placed) → (named limit markers candidates opposes ≡ some found) ↔ IsLeast (is_finished limit markers) (in_all markers opposes) candidates found
+  pub named_is_least : (found : Placed) → (named limit markers candidates opposes ≡ Some found) ↔ IsLeast (is_finished limit markers) (in_all markers opposes) candidates found
   named_is_least found = (
     (λ e. (least_exactly (is_finished limit markers) (in_all markers opposes) candidates found).0 (sym named_in_all ∙ e)),
     (λ h. named_in_all ∙ (least_exactly (is_finished limit markers) (in_all markers opposes) candidates found).1 h),
   )
 
-  none_finished : named limit markers candidates opposes ≡ none → (k : ℕ) → k < candidates → is_finished limit markers k ≡ false
+  none_finished : named limit markers candidates opposes ≡ None → (k : ℕ) → k < candidates → is_finished limit markers k ≡ false
   none_finished e = (none_exactly (is_finished limit markers) (in_all markers opposes) candidates).0 (sym named_in_all ∙ e)
 
   -- "No ram is named exactly if the list is empty or the limit is below the marker count."
-  then_none : named limit markers candidates opposes ≡ none → (candidates ≡ 0) ⊎ (limit < markers)
+  then_none : named limit markers candidates opposes ≡ None → (candidates ≡ 0) ⊎ (limit < markers)
   then_none e =
       by_lt 0 candidates
       (λ l. by_lt limit markers (λ b. inr b) (λ b. not_both (is_finished limit markers 0) (reached_finished limit markers 0 (omega arith)) (none_finished e 0 l)))
@@ -52,12 +52,12 @@ module _ (limit markers candidates : ℕ) (opposes : ℕ → ℕ → Bool) where
       (λ t. absurd (let e = finished_all limit markers k t in omega arith))
       (λ t. t)
 
-  if_none : (candidates ≡ 0) ⊎ (limit < markers) → named limit markers candidates opposes ≡ none
+  if_none : (candidates ≡ 0) ⊎ (limit < markers) → named limit markers candidates opposes ≡ None
   unfolding named
   if_none (inl e) = (none_exactly (is_finished limit markers) (so_far limit markers opposes) candidates).1 (λ k l. absurd (omega arith))
   if_none (inr h) = (none_exactly (is_finished limit markers) (so_far limit markers opposes) candidates).1 (λ k l. unfinished_below h k)
 
-  pub nobody_named : (named limit markers candidates opposes ≡ none) ↔ ((candidates ≡ 0) ⊎ (limit < markers))
+  pub nobody_named : (named limit markers candidates opposes ≡ None) ↔ ((candidates ≡ 0) ⊎ (limit < markers))
   nobody_named = (then_none, if_none)
 
   -- ---- the floor
@@ -89,7 +89,7 @@ module _ (limit markers candidates : ℕ) (opposes : ℕ → ℕ → Bool) where
         ((none_exactly (λ k. not (is_finished limit markers k)) (so_far limit markers opposes) candidates).1 (λ k l. ap not (all k l)))
 
     -- "with none unfinished it is the named ram's count"
-    pub floor_finished : (found : Placed) → named limit markers candidates opposes ≡ some found → floor limit markers candidates opposes ≡ found.count
+    pub floor_finished : (found : Placed) → named limit markers candidates opposes ≡ Some found → floor limit markers candidates opposes ≡ found.count
     unfolding count_or
     floor_finished found e = floor_named ∙ ap (λ (o : Option Placed). count_or o 0) e
 
@@ -101,7 +101,7 @@ module _ (limit markers candidates : ℕ) (opposes : ℕ → ℕ → Bool) where
         ∙ least_ext (is_finished limit markers) (λ k. true) (in_all markers opposes) (in_all markers opposes) candidates all (λ k l t. refl)
 
   -- ---- "The least over the whole list is"
-  module _ (whole : Placed) (overall : least_overall markers candidates opposes ≡ some whole) where
+  module _ (whole : Placed) (overall : least_overall markers candidates opposes ≡ Some whole) where
     whole_is : IsLeast (λ k. true) (in_all markers opposes) candidates whole
     whole_is = (overall_is_least markers candidates opposes whole).0 overall
 
@@ -112,14 +112,14 @@ module _ (limit markers candidates : ℕ) (opposes : ℕ → ℕ → Bool) where
         let c = whole_is.its_count in omega arith
 
     -- "no lower than the smaller of floor and named count"
-    pub no_lower_than_named : (found : Placed) → named limit markers candidates opposes ≡ some found → min (floor limit markers candidates opposes) found.count ≤ whole.count
+    pub no_lower_than_named : (found : Placed) → named limit markers candidates opposes ≡ Some found → min (floor limit markers candidates opposes) found.count ≤ whole.count
     no_lower_than_named found e =
         by_test (is_finished limit markers whole.place)
         (λ t. let a = ((named_is_least found).0 e).least whole.place whole_is.in_list t in let c = whole_is.its_count in omega arith)
         (λ f. let a = if_unfinished f in omega arith)
 
     -- "or than the floor when no ram is named"
-    pub no_lower_than_floor : named limit markers candidates opposes ≡ none → floor limit markers candidates opposes ≤ whole.count
+    pub no_lower_than_floor : named limit markers candidates opposes ≡ None → floor limit markers candidates opposes ≤ whole.count
     no_lower_than_floor e = if_unfinished (none_finished e whole.place whole_is.in_list)
 
 -- "or 0 for an empty list"
@@ -136,7 +136,7 @@ enough limit markers candidates h k l =
 -- ---- "A larger limit never names a ram that opposes more.": it names one, whose count is no more
 pub larger_limit :
     (limit more markers candidates : ℕ) (opposes : ℕ → ℕ → Bool) → limit ≤ more
-    → (found : Placed) → named limit markers candidates opposes ≡ some found → FoundNoMore (named more markers candidates opposes) found.count
+    → (found : Placed) → named limit markers candidates opposes ≡ Some found → FoundNoMore (named more markers candidates opposes) found.count
 larger_limit limit more markers candidates opposes h found e =
     let a = (named_is_least limit markers candidates opposes found).0 e in
     let t = still_finished limit more markers found.place h a.passes in

@@ -1,7 +1,7 @@
 -- Which candidate is the sire: comparing an offspring with candidates, marker by marker, under a limit. 02's lamb is the offspring, its rams are the
 -- candidates.
 use Rattle.std.specs.Prelude.{Bool, true, not, ◌&&◌, ◌||◌, List, [], ◌∷◌, ℕ, ◌-◌, ◌*◌, min, eqb, ℤ, pos, length, get_or}
-use Rattle.std.proofs.Math.Option.{Option, some, none}
+use Rattle.std.specs.Prelude.{Option, Some, None}
 use Rattle.answer.specs.Answer.{Answer, done, check_count, check_entry}
 use Rattle.answer.specs.Lists.{how_many}
 use Rattle.statistics.specs.Calls.{total}
@@ -17,7 +17,7 @@ unfoldable pub opposing : ℕ → ℕ → Bool
 opposing c d = (eqb c 3 && eqb d 0) || (eqb c 0 && eqb d 3)
 
 -- the same of two values
-unfoldable pub opposing_values : (w : Width) → w.Value → w.Value → Bool
+unfoldable pub opposing_values : {V : Type 0} (w : Width V) → V → V → Bool
 opposing_values w u v = (w.same u w.zero && w.same v w.two) || (w.same u w.two && w.same v w.zero)
 
 -- ---- what the limit leaves. k is a candidate's place in the list, from 0
@@ -83,8 +83,8 @@ check_sire file iids sids offspring candidates later =
 
 -- "by its place in the list and its count", where one is named
 unfoldable pub named_numbers : Option Placed → List ℤ
-named_numbers none = []
-named_numbers (some found) = pos found.place ∷ pos found.count ∷ []
+named_numbers None = []
+named_numbers (Some found) = pos found.place ∷ pos found.count ∷ []
 
 -- "Return the comparisons made, the fully compared ram .., and a floor": here the floor before the two numbers of the named one
 unfoldable pub sire_numbers : ℕ → ℕ → ℕ → (ℕ → ℕ → Bool) → List ℤ

@@ -1,5 +1,5 @@
 -- Applying in animal order: neighbouring markers, animal by animal.
-use mathlib.Core.Path.{◌≡◌, refl, sym, ap, subst, ◌∙◌}
+use mathlib.Core.Path.{◌≡◌, refl, sym, ap, ◌∙◌}
 use mathlib.Core.Bool.{Bool, true, false, ◌&&◌, cond}
 use mathlib.Core.List.{List}
 use Prim.Native.Nat.{ℕ, suc, ◌+◌, ◌-◌, ◌*◌, ◌<◌, ◌≤◌}
@@ -14,46 +14,49 @@ use Rattle.answer.specs.Matrix.{matrix_place, matrix}
 use Rattle.answer.proofs.Tests.{by_test, by_lt, leb_both}
 use Rattle.answer.proofs.MatrixLaws.{length_matrix, get_d_matrix, matrix_ext}
 use Rattle.statistics.specs.declared.Stats.{Stats}
+use Rattle.statistics.specs.declared.Scale.{Scale}
+use Rattle.standardise.specs.declared.animal_order.Scales.{Scales}
 use Rattle.statistics.specs.Statistics.{one, is_infinite, standardised, stats_at}
 use Rattle.standardise.specs.Standardised.{value}
-use Rattle.standardise.specs.Private.{scaled_at, IsLoaded, written, from, markers_applied, all_applied}
+use Rattle.standardise.specs.Private.{scale_at, scale_of, scaled_at, written, from, markers_applied, all_applied}
 use Rattle.statistics.specs.Statistics.{scaled_by}
 use Rattle.standardise.proofs.StoreLaws.{written_places}
 use Rattle.standardise.proofs.CellLaws.{own_cells, written_cells, up_to, up_to_below, up_to_above, none_new, all_new}
 use Rattle.standardise.proofs.ChoiceLaws.{scaled_standardised}
 
 -- ---- what is loaded
-pub loaded_more : (f : Format) (st : ℕ → Stats) (means deviations factors : List Float) (j : ℕ) (s : Stats) (d : Float)
-    → j < length means → j < length deviations → j < length factors
-    → ((k : ℕ) → k < j → IsLoaded f (st k) (get_or means k nan) (get_or deviations k nan) (get_or factors k nan)) → s ≡ st j → d ≡ div f one s.deviation
-    → (k : ℕ) → k < j + 1 → IsLoaded f (st k) (get_or (set means j s.mean) k nan) (get_or (set deviations j s.deviation) k nan) (get_or (set factors j d) k nan)
-loaded_more f st means deviations factors j s d a b c p e g k h = by_test (eqb k j) (λ t. same (eqb-true k j t)) (λ t. other (eqb-false k j t))
+-- a tile after a store
+abbrev pub scales_set : Scales → ℕ → Stats → Float → Scales
+scales_set t j s d = record { means = set t.means j s.mean; deviations = set t.deviations j s.deviation; factors = set t.factors j d }
+
+scale : Float → Float → Bool → Scale
+scale x y b = record { mean = x; factor = y; infinite = b }
+
+pub loaded_more : (f : Format) (st : ℕ → Stats) (t : Scales) (j : ℕ) (s : Stats) (d : Float)
+    → j < length t.means → j < length t.deviations → j < length t.factors
+    → ((k : ℕ) → k < j → scale_at t k ≡ scale_of f (st k)) → s ≡ st j → d ≡ div f one s.deviation
+    → (k : ℕ) → k < j + 1 → scale_at (scales_set t j s d) k ≡ scale_of f (st k)
+unfolding scale
+loaded_more f st t j s d a b c p e g k h = by_test (eqb k j) (λ q. same (eqb-true k j q)) (λ q. other (eqb-false k j q))
   where
-    here : IsLoaded f (st j) (get_or (set means j s.mean) j nan) (get_or (set deviations j s.deviation) j nan) (get_or (set factors j d) j nan)
-    here = record {
-      its_mean = get_or-set_same means j s.mean nan a ∙ ap (λ (x : Stats). x.mean) e;
-      its_deviation = get_or-set_same deviations j s.deviation nan b ∙ ap (λ (x : Stats). x.deviation) e;
-      its_factor = get_or-set_same factors j d nan c ∙ g ∙ ap (λ (x : Stats). div f one x.deviation) e;
-    }
-
-    same : k ≡ j → IsLoaded f (st k) (get_or (set means j s.mean) k nan) (get_or (set deviations j s.deviation) k nan) (get_or (set factors j d) k nan)
+    same : k ≡ j → scale_at (scales_set t j s d) k ≡ scale_of f (st k)
     same q =
-        subst (λ (x : ℕ). IsLoaded f (st x) (get_or (set means j s.mean) x nan) (get_or (set deviations j s.deviation) x nan) (get_or (set factors j d) x nan)) (sym q) here
+        ap (scale_at (scales_set t j s d)) q
+        ∙ (λ i. scale (get_or-set_same t.means j s.mean nan a i) (get_or-set_same t.factors j d nan c i) (is_infinite (get_or-set_same t.deviations j s.deviation nan b i)))
+        ∙ ap (λ (x : Float). scale s.mean x (is_infinite s.deviation)) g
+        ∙ ap (scale_of f) (e ∙ ap st (sym q))
 
-    other : (k ≡ j → ⊥) → IsLoaded f (st k) (get_or (set means j s.mean) k nan) (get_or (set deviations j s.deviation) k nan) (get_or (set factors j d) k nan)
-    other n = let o = p k (omega arith) in record {
-      its_mean = get_or-set_other means j k s.mean nan n ∙ o.its_mean;
-      its_deviation = get_or-set_other deviations j k s.deviation nan n ∙ o.its_deviation;
-      its_factor = get_or-set_other factors j k d nan n ∙ o.its_factor;
-    }
+    other : (k ≡ j → ⊥) → scale_at (scales_set t j s d) k ≡ scale_of f (st k)
+    other n =
+        (λ i. scale (get_or-set_other t.means j k s.mean nan n i) (get_or-set_other t.factors j k d nan n i) (is_infinite (get_or-set_other t.deviations j k s.deviation nan n i)))
+        ∙ p k (omega arith)
 
 -- what is loaded standardises
-pub loaded_scales : (f : Format) (s : Stats) (means deviations factors : List Float) (j : ℕ) (v : Float)
-    → IsLoaded f s (get_or means j nan) (get_or deviations j nan) (get_or factors j nan) → scaled_at f means deviations factors j v ≡ standardised f s v
+pub loaded_scales : (f : Format) (s : Stats) (t : Scales) (j : ℕ) (v : Float) → scale_at t j ≡ scale_of f s → scaled_at f t j v ≡ standardised f s v
 unfolding scaled_at
-loaded_scales f s means deviations factors j v p =
-    ap (λ (x : Float). scaled_by f x (get_or factors j nan) (is_infinite (get_or deviations j nan)) v) p.its_mean
-    ∙ scaled_standardised f s (get_or factors j nan) (is_infinite (get_or deviations j nan)) p.its_factor (ap is_infinite p.its_deviation) v
+loaded_scales f s t j v p =
+    ap (λ (x : Scale). scaled_by f x.mean x.factor x.infinite v) p
+    ∙ scaled_standardised f s (div f one s.deviation) (is_infinite s.deviation) refl refl v
 
 -- ---- the animals below r have the markers of the tile changed
 module _ (iids sids base width : ℕ) (new old : ℕ → ℕ → Float) where
@@ -174,16 +177,16 @@ module _ (f : Format) (iids sids : ℕ) (stats val : List Float) where
     pub rows_length : (r : ℕ) (now : List Float) → RowsPassed r now → length now ≡ iids * sids
     rows_length r now e = ap length e ∙ length_matrix true iids sids (tile_to iids sids base width new_cell old_cell r)
 
-    pub rows_more_law : (r : ℕ) (now later means deviations factors : List Float) → r < iids → base + width ≤ sids → RowsPassed r now
-        → ((j : ℕ) → j < width → IsLoaded f (stats_at stats (base + j)) (get_or means j nan) (get_or deviations j nan) (get_or factors j nan))
-        → later ≡ written now (λ j. r * sids + base + j) (λ j. scaled_at f means deviations factors j (from now (r * sids + base) j)) width
+    pub rows_more_law : (r : ℕ) (now later : List Float) (t : Scales) → r < iids → base + width ≤ sids → RowsPassed r now
+        → ((j : ℕ) → j < width → scale_at t j ≡ scale_of f (stats_at stats (base + j)))
+        → later ≡ written now (λ j. r * sids + base + j) (λ j. scaled_at f t j (from now (r * sids + base) j)) width
         → RowsPassed (r + 1) later
-    rows_more_law r now later means deviations factors h k e g w =
+    rows_more_law r now later t h k e g w =
         w
-        ∙ ap (λ (x : List Float). written x (λ j. r * sids + base + j) (λ j. scaled_at f means deviations factors j (from now (r * sids + base) j)) width) e
-        ∙ tile_row iids sids base width new_cell old_cell r h k (λ j. scaled_at f means deviations factors j (from now (r * sids + base) j))
+        ∙ ap (λ (x : List Float). written x (λ j. r * sids + base + j) (λ j. scaled_at f t j (from now (r * sids + base) j)) width) e
+        ∙ tile_row iids sids base width new_cell old_cell r h k (λ j. scaled_at f t j (from now (r * sids + base) j))
         (λ j l.
-        loaded_scales f (stats_at stats (base + j)) means deviations factors j (from now (r * sids + base) j) (g j l)
+        loaded_scales f (stats_at stats (base + j)) t j (from now (r * sids + base) j) (g j l)
         ∙ ap (standardised f (stats_at stats (base + j)))
         (ap (λ (x : List Float). get_or x (r * sids + base + j) nan) e ∙ tile_row_old iids sids base width new_cell old_cell r j h k l))
 

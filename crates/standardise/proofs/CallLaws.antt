@@ -14,10 +14,12 @@ use Rattle.answer.specs.Matrix.{matrix_place, matrix}
 use Rattle.answer.proofs.Tests.{by_test}
 use Rattle.answer.proofs.MatrixLaws.{get_d_matrix, matrix_ext}
 use Rattle.statistics.specs.declared.Stats.{Stats}
+use Rattle.std.specs.Prelude.{Option, Some, None, Result, Ok, Err}
 use Rattle.statistics.specs.declared.MarkerStats.{MarkerStats}
-use Rattle.statistics.specs.declared.MarkerStats.TheVariants.{Lent, Found, NoIndividuals, IllegalSnpMean}
-use Rattle.statistics.specs.Statistics.{stats_per_marker, stats_at, in_places, found_for, standardised}
-use Rattle.standardise.specs.Standardised.{marker_answer, markers_answer, buffer_checks, kept_or_new, applied, value, found, lowest_refused, standardise_answer, new_stats, may_change, new_values, later_stats, later_values, Standardises}
+use Rattle.statistics.specs.declared.MarkerError.{MarkerError}
+use Rattle.statistics.specs.declared.MarkerError.TheVariants.{NoIndividuals, IllegalSnpMean}
+use Rattle.statistics.specs.Statistics.{lent, found_with, stats_per_marker, stats_at, in_places, found_for, standardised}
+use Rattle.standardise.specs.Standardised.{marker_answer, markers_answer, buffer_checks, lent_or_new, kept_or_new, applied, value, found, lowest_refused, standardise_answer, new_stats, may_change, new_values, later_stats, later_values, Standardises}
 use Rattle.standardise.specs.Private.{all_applied, Processes, FindsStats}
 use Rattle.statistics.proofs.CountLaws.{found_not_lent}
 use Rattle.standardise.proofs.CellLaws.{own_cells}
@@ -69,21 +71,21 @@ module _ (f : Format) (order : Bool) (iids sids : ℕ) (val : List Float) (use_s
   )
 
 -- ---- lent statistics
-none_refused : (st : ℕ → Stats) (n : ℕ) → markers_answer (λ m. Lent (st m)) n ≡ done []
+none_refused : (st : ℕ → Stats) (n : ℕ) → markers_answer (λ m. Ok (lent (st m))) n ≡ done []
 unfolding markers_answer
 none_refused st zero = refl
 none_refused st (suc n) = ap (λ (a : Answer). if_done a (done []) a) (none_refused st n)
 
 module _ (f : Format) (order : Bool) (iids sids : ℕ) (val : List Float) (use_stats : Bool) (stats : List Float) where
-  lent : done [] ≡ lowest_refused f order iids sids val true stats
+  lent_done : done [] ≡ lowest_refused f order iids sids val true stats
   unfolding lowest_refused found found_for
-  lent = sym (none_refused (stats_at stats) sids)
+  lent_done = sym (none_refused (stats_at stats) sids)
 
   pub lent_answer : use_stats ≡ true → done [] ≡ lowest_refused f order iids sids val use_stats stats
-  lent_answer e = subst (λ (b : Bool). done [] ≡ lowest_refused f order iids sids val b stats) (sym e) lent
+  lent_answer e = subst (λ (b : Bool). done [] ≡ lowest_refused f order iids sids val b stats) (sym e) lent_done
 
   pub lent_stats : stats_per_marker * sids ≡ length stats → use_stats ≡ true → stats ≡ new_stats f order iids sids val use_stats stats
-  unfolding new_stats found found_for kept_or_new matrix_place
+  unfolding new_stats found found_for kept_or_new lent_or_new matrix_place
   lent_stats l e = own_cells false stats_per_marker sids stats (sym l) ∙ ap (λ (b : Bool). new_stats f order iids sids val b stats) (sym e)
 
   pub as_not_lent : use_stats ≡ false → (answer : Answer) (statistics : List Float)
@@ -109,7 +111,7 @@ module _ (apply t : Bool) (new old : List Float) where
       both false = refl
 
 -- ---- without a refusal every marker's statistics are found
-pub done_found : (found : ℕ → MarkerStats) (n m : ℕ) → is_done (markers_answer found n) ≡ true → m < n → is_done (marker_answer m (found m)) ≡ true
+pub done_found : (found : ℕ → Result MarkerStats MarkerError) (n m : ℕ) → is_done (markers_answer found n) ≡ true → m < n → is_done (marker_answer m (found m)) ≡ true
 unfolding markers_answer
 done_found found zero m e h = absurd (let z : m < 0 = h in omega arith)
 done_found found (suc n) m e h = by_test (is_done (markers_answer found n)) (λ t. earlier t (done_found found n m t)) (λ t. absurd (true≢false (sym e ∙ ap is_done (kept t) ∙ t)))
@@ -124,16 +126,16 @@ done_found found (suc n) m e h = by_test (is_done (markers_answer found n)) (λ 
     earlier t before =
         by_test (eqb m n) (λ q. subst (λ (x : ℕ). is_done (marker_answer x (found x)) ≡ true) (sym (eqb-true m n q)) (last t)) (λ q. let d : m ≡ n → ⊥ = eqb-false m n q in before (omega arith))
 
-module _ (f : Format) (sids : ℕ) (found : ℕ → MarkerStats) (old : ℕ → ℕ → Float) (m : ℕ) (h : m < sids) (v : Float)
-    (own : (s : Stats) → found m ≡ Lent s → ⊥) where
+module _ (f : Format) (sids : ℕ) (found : ℕ → Result MarkerStats MarkerError) (old : ℕ → ℕ → Float) (m : ℕ) (h : m < sids) (v : Float)
+    (own : (s : Stats) → found m ≡ Ok (lent s) → ⊥) where
   abbrev stored : List Float
   stored = matrix false stats_per_marker sids (λ c k. kept_or_new (found k) c (old c k))
 
-  stored_is : (s : Stats) (observed : Float) → found m ≡ Found s observed → stats_at stored m ≡ s
-  unfolding stats_at matrix_place kept_or_new in_places
+  stored_is : (s : Stats) (observed : Float) → found m ≡ Ok (found_with s observed) → stats_at stored m ≡ s
+  unfolding stats_at matrix_place kept_or_new lent_or_new in_places
   stored_is s observed e =
-      let place : (c : ℕ) → c < stats_per_marker → get_or stored (m * stats_per_marker + c) nan ≡ kept_or_new (Found s observed) c (old c m) = (
-      λ c k. get_d_matrix stats_per_marker sids c m k h false (λ c k. kept_or_new (found k) c (old c k)) nan ∙ ap (λ (x : MarkerStats). kept_or_new x c (old c m)) e
+      let place : (c : ℕ) → c < stats_per_marker → get_or stored (m * stats_per_marker + c) nan ≡ kept_or_new (Ok (found_with s observed)) c (old c m) = (
+      λ c k. get_d_matrix stats_per_marker sids c m k h false (λ c k. kept_or_new (found k) c (old c k)) nan ∙ ap (λ (x : Result MarkerStats MarkerError). kept_or_new x c (old c m)) e
       ) in
       let a : get_or stored (m * stats_per_marker) nan ≡ s.mean = (ap (λ (x : ℕ). get_or stored x nan) (sym (add-zero (m * stats_per_marker))) ∙ place 0 (omega arith)) in
       let b : get_or stored (m * stats_per_marker + 1) nan ≡ s.deviation = place 1 (omega arith) in
@@ -142,12 +144,15 @@ module _ (f : Format) (sids : ℕ) (found : ℕ → MarkerStats) (old : ℕ → 
       pair_of : Float → Float → Stats
       pair_of x y = record { mean = x; deviation = y }
 
-  stored_applies : (x : MarkerStats) → found m ≡ x → is_done (marker_answer m x) ≡ true → standardised f (stats_at stored m) v ≡ applied f x v
+  stored_applies : (x : Result MarkerStats MarkerError) → found m ≡ x → is_done (marker_answer m x) ≡ true → standardised f (stats_at stored m) v ≡ applied f x v
   unfolding applied marker_answer
-  stored_applies (Lent s) e t = absurd (own s e)
-  stored_applies (Found s observed) e t = ap (λ (y : Stats). standardised f y v) (stored_is s observed e)
-  stored_applies NoIndividuals e t = absurd (true≢false (sym t))
-  stored_applies IllegalSnpMean e t = absurd (true≢false (sym t))
+  stored_applies (Ok x) e t = by_observed x.observed refl
+    where
+      by_observed : (o : Option Float) → x.observed ≡ o → standardised f (stats_at stored m) v ≡ standardised f x.stats v
+      by_observed None q = absurd (own x.stats (e ∙ ap (λ (o : Option Float). Ok (record { stats = x.stats; observed = o })) q))
+      by_observed (Some observed) q = ap (λ (y : Stats). standardised f y v) (stored_is x.stats observed (e ∙ ap (λ (o : Option Float). Ok (record { stats = x.stats; observed = o })) q))
+  stored_applies (Err NoIndividuals) e t = absurd (true≢false (sym t))
+  stored_applies (Err IllegalSnpMean) e t = absurd (true≢false (sym t))
 
   pub new_applies : is_done (markers_answer found sids) ≡ true → standardised f (stats_at stored m) v ≡ applied f (found m) v
   new_applies t = stored_applies (found m) refl (done_found found sids m t h)

@@ -7,12 +7,13 @@ use native.Mathlib.Nat.{add-zero}
 use native.Mathlib.Omega.{arith}
 use lib.ListN.{get_or, set}
 use lib.Ieee.{Float, nan, Format, div}
-use Rattle.answer.specs.Answer.{Answer, is_done, if_done}
 use Rattle.statistics.specs.declared.Stats.{Stats}
+use Rattle.std.specs.Prelude.{Option, Some, None, Result, Ok, Err}
 use Rattle.statistics.specs.declared.MarkerStats.{MarkerStats}
-use Rattle.statistics.specs.declared.MarkerStats.TheVariants.{Lent, Found, NoIndividuals, IllegalSnpMean}
-use Rattle.statistics.specs.Statistics.{one, is_infinite, standardised, in_places, stats_per_marker, marker_stats, found_for}
-use Rattle.standardise.specs.Standardised.{kept_or_new, applied}
+use Rattle.statistics.specs.declared.MarkerError.{MarkerError}
+use Rattle.statistics.specs.declared.MarkerError.TheVariants.{NoIndividuals, IllegalSnpMean}
+use Rattle.statistics.specs.Statistics.{lent, one, is_infinite, standardised, in_places, stats_per_marker, marker_stats, found_for}
+use Rattle.standardise.specs.Standardised.{lent_or_new, kept_or_new, applied}
 use Rattle.standardise.specs.Private.{later_value, written, changed, stored_stats}
 use Rattle.statistics.specs.Statistics.{scaled_by}
 use Rattle.standardise.proofs.StoreLaws.{written_ext, written_same, changed_ext}
@@ -35,31 +36,30 @@ module _ (f : Format) (xs : List Float) (start n : ℕ) where
   unchanged : (g : Float → Float) → ((v : Float) → v ≡ g v) → xs ≡ changed xs start n g
   unchanged g e = sym (written_same xs (λ i. start + i) n) ∙ changed_ext xs start n (λ v. v) g e
 
-  pub not_applied : (apply : Bool) (found : MarkerStats) → apply ≡ false → xs ≡ changed xs start n (later_value f apply found)
+  pub not_applied : (apply : Bool) (found : Result MarkerStats MarkerError) → apply ≡ false → xs ≡ changed xs start n (later_value f apply found)
   unfolding later_value
   not_applied apply found e = unchanged (later_value f apply found) (λ v. sym (ap (λ (b : Bool). cond b (applied f found v) v) e))
 
-  applied_by : (apply : Bool) (found x : MarkerStats) (s : Stats) → apply ≡ true → found ≡ x → ((v : Float) → applied f x v ≡ standardised f s v)
+  applied_by : (apply : Bool) (found x : Result MarkerStats MarkerError) (s : Stats) → apply ≡ true → found ≡ x → ((v : Float) → applied f x v ≡ standardised f s v)
       → changed xs start n (standardised f s) ≡ changed xs start n (later_value f apply found)
   unfolding later_value
   applied_by apply found x s e g h =
       changed_ext xs start n (standardised f s) (later_value f apply found)
-      (λ v. sym (ap (λ (b : Bool). later_value f b found v) e ∙ ap (λ (y : MarkerStats). later_value f true y v) g ∙ h v))
+      (λ v. sym (ap (λ (b : Bool). later_value f b found v) e ∙ ap (λ (y : Result MarkerStats MarkerError). later_value f true y v) g ∙ h v))
 
-  pub applied_lent : (apply : Bool) (found : MarkerStats) (s : Stats) → apply ≡ true → found ≡ Lent s
-      → changed xs start n (standardised f s) ≡ changed xs start n (later_value f apply found)
+  pub applied_found : (apply : Bool) (found : Result MarkerStats MarkerError) (x : MarkerStats) → apply ≡ true → found ≡ Ok x
+      → changed xs start n (standardised f x.stats) ≡ changed xs start n (later_value f apply found)
   unfolding applied
-  applied_lent apply found s e g = applied_by apply found (Lent s) s e g (λ v. refl)
+  applied_found apply found x e g = applied_by apply found (Ok x) x.stats e g (λ v. refl)
 
-  pub applied_found : (apply : Bool) (found : MarkerStats) (s : Stats) (observed : Float) → apply ≡ true → found ≡ Found s observed
-      → changed xs start n (standardised f s) ≡ changed xs start n (later_value f apply found)
-  unfolding applied
-  applied_found apply found s observed e g = applied_by apply found (Found s observed) s e g (λ v. refl)
-
-  pub refused_kept : (apply : Bool) (found : MarkerStats) → ((v : Float) → v ≡ applied f found v) → xs ≡ changed xs start n (later_value f apply found)
-  unfolding later_value
-  refused_kept true found e = unchanged (later_value f true found) e
-  refused_kept false found e = unchanged (later_value f false found) (λ v. refl)
+  pub refused_kept : (apply : Bool) (found : Result MarkerStats MarkerError) (e : MarkerError) → found ≡ Err e → xs ≡ changed xs start n (later_value f apply found)
+  unfolding later_value applied
+  refused_kept apply found e g = unchanged (later_value f apply found) (λ v. sym (ap (λ (x : Result MarkerStats MarkerError). later_value f apply x v) g ∙ kept apply e v))
+    where
+      kept : (b : Bool) (e : MarkerError) (v : Float) → later_value f b (Err e) v ≡ v
+      kept true NoIndividuals v = refl
+      kept true IllegalSnpMean v = refl
+      kept false e v = refl
 
 -- ---- statistics by what is found
 module _ (xs : List Float) (m : ℕ) where
@@ -75,46 +75,34 @@ module _ (xs : List Float) (m : ℕ) where
   kept : (g : ℕ → Float) → ((c : ℕ) → get_or xs (m * stats_per_marker + c) nan ≡ g c) → xs ≡ written xs (λ c. m * stats_per_marker + c) g stats_per_marker
   kept g e = sym (written_same xs (λ c. m * stats_per_marker + c) stats_per_marker) ∙ written_ext xs (λ c. m * stats_per_marker + c) (λ c. get_or xs (m * stats_per_marker + c) nan) g stats_per_marker (λ c h. e c)
 
-  pub found_stored : (found : MarkerStats) (s : Stats) (observed : Float) → found ≡ Found s observed
-      → written xs (λ c. m * stats_per_marker + c) (λ c. get_or (in_places s observed) c nan) stats_per_marker
-      ≡ stored_stats found m xs
-  unfolding kept_or_new
-  found_stored found s observed g =
-      written_ext xs (λ c. m * stats_per_marker + c) (λ c. get_or (in_places s observed) c nan) (λ c. kept_or_new found c (get_or xs (m * stats_per_marker + c) nan)) stats_per_marker
-      (λ c h. sym (ap (λ (x : MarkerStats). kept_or_new x c (get_or xs (m * stats_per_marker + c) nan)) g))
+  pub found_stored : (found : Result MarkerStats MarkerError) (x : MarkerStats) (observed : Float) → found ≡ Ok x → x.observed ≡ Some observed
+      → written xs (λ c. m * stats_per_marker + c) (λ c. get_or (in_places x.stats observed) c nan) stats_per_marker ≡ stored_stats found m xs
+  unfolding kept_or_new lent_or_new
+  found_stored found x observed g e =
+      written_ext xs (λ c. m * stats_per_marker + c) (λ c. get_or (in_places x.stats observed) c nan) (λ c. kept_or_new found c (get_or xs (m * stats_per_marker + c) nan)) stats_per_marker
+      (λ c h. sym (ap (λ (y : Result MarkerStats MarkerError). kept_or_new y c (get_or xs (m * stats_per_marker + c) nan)) g
+      ∙ ap (λ (o : Option Float). lent_or_new x.stats o c (get_or xs (m * stats_per_marker + c) nan)) e))
 
-  stats_kept : (found x : MarkerStats) → found ≡ x → ((c : ℕ) (v : Float) → v ≡ kept_or_new x c v) → xs ≡ stored_stats found m xs
+  stats_kept : (found x : Result MarkerStats MarkerError) → found ≡ x → ((c : ℕ) (v : Float) → v ≡ kept_or_new x c v) → xs ≡ stored_stats found m xs
   stats_kept found x g e =
       kept (λ c. kept_or_new found c (get_or xs (m * stats_per_marker + c) nan))
-      (λ c. e c (get_or xs (m * stats_per_marker + c) nan) ∙ sym (ap (λ (y : MarkerStats). kept_or_new y c (get_or xs (m * stats_per_marker + c) nan)) g))
+      (λ c. e c (get_or xs (m * stats_per_marker + c) nan) ∙ sym (ap (λ (y : Result MarkerStats MarkerError). kept_or_new y c (get_or xs (m * stats_per_marker + c) nan)) g))
 
-  pub lent_kept : (found : MarkerStats) (s : Stats) → found ≡ Lent s → xs ≡ stored_stats found m xs
+  pub lent_kept : (found : Result MarkerStats MarkerError) (x : MarkerStats) → found ≡ Ok x → x.observed ≡ None → xs ≡ stored_stats found m xs
+  unfolding kept_or_new lent_or_new
+  lent_kept found x g e = stats_kept found (Ok x) g (λ c v. sym (ap (λ (o : Option Float). lent_or_new x.stats o c v) e))
+
+  pub refused_stays : (found : Result MarkerStats MarkerError) (e : MarkerError) → found ≡ Err e → xs ≡ stored_stats found m xs
   unfolding kept_or_new
-  lent_kept found s g = stats_kept found (Lent s) g (λ c v. refl)
+  refused_stays found NoIndividuals g = stats_kept found (Err NoIndividuals) g (λ c v. refl)
+  refused_stays found IllegalSnpMean g = stats_kept found (Err IllegalSnpMean) g (λ c v. refl)
 
-  pub kept_at_13 : (found : MarkerStats) → found ≡ NoIndividuals → xs ≡ stored_stats found m xs
-  unfolding kept_or_new
-  kept_at_13 found g = stats_kept found NoIndividuals g (λ c v. refl)
-
-  pub kept_at_14 : (found : MarkerStats) → found ≡ IllegalSnpMean → xs ≡ stored_stats found m xs
-  unfolding kept_or_new
-  kept_at_14 found g = stats_kept found IllegalSnpMean g (λ c v. refl)
-
--- ---- what is found, and the answer so far
-module _ (f : Format) (use_stats : Bool) (s : Stats) (n : ℕ) (column : ℕ → Float) (r : MarkerStats) where
-  pub found_lent : use_stats ≡ true → r ≡ Lent s → r ≡ found_for f use_stats s n column
+-- ---- what is found
+module _ (f : Format) (use_stats : Bool) (s : Stats) (n : ℕ) (column : ℕ → Float) (r : Result MarkerStats MarkerError) where
+  pub found_lent : use_stats ≡ true → r ≡ Ok (lent s) → r ≡ found_for f use_stats s n column
   unfolding found_for
   found_lent e g = g ∙ ap (λ (b : Bool). found_for f b s n column) (sym e)
 
   pub found_worked_out : use_stats ≡ false → r ≡ marker_stats f n column → r ≡ found_for f use_stats s n column
   unfolding found_for
   found_worked_out e g = g ∙ ap (λ (b : Bool). found_for f b s n column) (sym e)
-
-module _ (a b : Answer) (t : Bool) (e : t ≡ is_done a) where
-  pub done_so_far : t ≡ true → b ≡ if_done a b a
-  unfolding if_done
-  done_so_far h = let k : is_done a ≡ true = sym e ∙ h in rw k
-
-  pub refused_so_far : t ≡ false → a ≡ if_done a b a
-  unfolding if_done
-  refused_so_far h = let k : is_done a ≡ false = sym e ∙ h in rw k

@@ -10,8 +10,10 @@ use lib.Dec.{lit≤}
 use lib.IntN.{pos}
 use lib.ListN.{get_or}
 use lib.Ieee.{Float, nan, inf, binary64, of_int, add, mul, div, is_nan}
+use Rattle.std.specs.Prelude.{Result, Err}
 use Rattle.statistics.specs.declared.MarkerStats.{MarkerStats}
-use Rattle.statistics.specs.declared.MarkerStats.TheVariants.{NoIndividuals, IllegalSnpMean}
+use Rattle.statistics.specs.declared.MarkerError.{MarkerError}
+use Rattle.statistics.specs.declared.MarkerError.TheVariants.{NoIndividuals, IllegalSnpMean}
 use Rattle.statistics.specs.Statistics.{plus_zero, one, counted, accumulated, mean, stats_of, no_value, marker_stats, found_for, in_places, stats_at}
 use Rattle.answer.specs.Answer.{Answer, done, refused, is_done, GivesNo, if_done}
 use Rattle.answer.specs.Matrix.{matrix_place}
@@ -103,15 +105,15 @@ nine = one ∷ two ∷ one ∷ nan ∷ plus_zero ∷ two ∷ plus_zero ∷ nan �
 
 mixed_found : (order : Bool) → NotRefused (found binary64 order 3 3 (mixed order) false nine 0)
 unfolding found found_for marker_stats no_value accumulated counted mean value matrix_place is_nan add mul div
-mixed_found true = inr (_, _, refl)
-mixed_found false = inr (_, _, refl)
+mixed_found true = (_, refl)
+mixed_found false = (_, refl)
 
-mixed_13 : (order : Bool) → found binary64 order 3 3 (mixed order) false nine 1 ≡ NoIndividuals
+mixed_13 : (order : Bool) → found binary64 order 3 3 (mixed order) false nine 1 ≡ Err NoIndividuals
 unfolding found found_for marker_stats no_value value matrix_place is_nan
 mixed_13 true = refl
 mixed_13 false = refl
 
-mixed_14 : (order : Bool) → found binary64 order 3 3 (mixed order) false nine 2 ≡ IllegalSnpMean
+mixed_14 : (order : Bool) → found binary64 order 3 3 (mixed order) false nine 2 ≡ Err IllegalSnpMean
 unfolding found found_for marker_stats no_value accumulated counted mean value matrix_place is_nan add mul div
 mixed_14 true = refl
 mixed_14 false = refl
@@ -122,7 +124,7 @@ first_column = one ∷ one ∷ nan ∷ []
 
 first_found : (m : ℕ) → m < 1 → NotRefused (found binary64 true 3 1 first_column false nine m)
 unfolding found found_for marker_stats no_value accumulated counted mean value matrix_place is_nan add mul div
-first_found zero h = inr (_, _, refl)
+first_found zero h = (_, refl)
 first_found (suc m) h = absurd (omega arith)
 
 pub first_answer : lowest_refused binary64 true 3 1 first_column false nine ≡ done []
@@ -145,7 +147,7 @@ mixed_answer order =
     only_0 a zero h = a
     only_0 a (suc j) h = absurd (omega arith)
 
-    at_13 : found binary64 order 3 3 (mixed order) false nine 1 ≡ NoIndividuals → marker_answer 1 (found binary64 order 3 3 (mixed order) false nine 1) ≡ refused 13 (pos 1 ∷ [])
+    at_13 : found binary64 order 3 3 (mixed order) false nine 1 ≡ Err NoIndividuals → marker_answer 1 (found binary64 order 3 3 (mixed order) false nine 1) ≡ refused 13 (pos 1 ∷ [])
     at_13 e = ap (marker_answer 1) e
 
 pub mixed_lowest : (order : Bool) → (m : ℕ) × (pos 1 ∷ [] ≡ pos m ∷ []) × IsLowestRefused (found binary64 order 3 3 (mixed order) false nine) 3 13 m
@@ -155,7 +157,7 @@ mixed_lowest order = lowest_refused_law binary64 order 3 3 (mixed order) false n
 pub mixed_no_value : (order : Bool) (i : ℕ) → i < 3 → is_nan (value order 3 3 (mixed order) i 1) ≡ true
 mixed_no_value order = (is_13 binary64 order 3 3 (mixed order) nine 1).0 (mixed_13 order)
 
-pub mixed_13_again : (order : Bool) → found binary64 order 3 3 (mixed order) false nine 1 ≡ NoIndividuals
+pub mixed_13_again : (order : Bool) → found binary64 order 3 3 (mixed order) false nine 1 ≡ Err NoIndividuals
 mixed_13_again order = (is_13 binary64 order 3 3 (mixed order) nine 1).1 (mixed_no_value order)
 
 -- marker 2 has a value and a NaN mean, and so is refused by 14
@@ -164,7 +166,7 @@ unfolding value matrix_place is_nan
 mixed_value_0 true = refl
 mixed_value_0 false = refl
 
-pub mixed_14_again : (order : Bool) → found binary64 order 3 3 (mixed order) false nine 2 ≡ IllegalSnpMean
+pub mixed_14_again : (order : Bool) → found binary64 order 3 3 (mixed order) false nine 2 ≡ Err IllegalSnpMean
 mixed_14_again order =
     let t = is_14 binary64 order 3 3 (mixed order) nine 2 in
     t.1 0 (lit≤ tt) (mixed_value_0 order) (t.0 (mixed_14 order)).1
@@ -193,10 +195,10 @@ unfolding marker_answer found found_for marker_stats no_value accumulated counte
 only_answer true = refl
 only_answer false = refl
 
-pub infinite_is_14 : (order : Bool) → found binary64 order 3 1 infinite false nine 0 ≡ IllegalSnpMean
+pub infinite_is_14 : (order : Bool) → found binary64 order 3 1 infinite false nine 0 ≡ Err IllegalSnpMean
 infinite_is_14 order = by_number (number_told 0 (found binary64 order 3 1 infinite false nine 0) 14 (pos 0 ∷ []) (only_answer order))
   where
-    by_number : {x : MarkerStats} → ((◌≡◌ {A = ℕ} 14 13) × (x ≡ NoIndividuals)) ⊎ ((◌≡◌ {A = ℕ} 14 14) × (x ≡ IllegalSnpMean)) → x ≡ IllegalSnpMean
+    by_number : {x : Result MarkerStats MarkerError} → ((◌≡◌ {A = ℕ} 14 13) × (x ≡ Err NoIndividuals)) ⊎ ((◌≡◌ {A = ℕ} 14 14) × (x ≡ Err IllegalSnpMean)) → x ≡ Err IllegalSnpMean
     by_number (inl (n, e)) = absurd (omega arith)
     by_number (inr (n, e)) = e
 

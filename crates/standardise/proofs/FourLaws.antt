@@ -6,7 +6,7 @@ use Prim.Native.Nat.{ℕ, ◌+◌}
 use native.Mathlib.Nat.{add_assoc}
 use native.Mathlib.Omega.{arith}
 use lib.ListN.{get_or}
-use lib.Ieee.{Float, nan, Format, add, mul, ne}
+use lib.Ieee.{Float, nan, Format, add, mul, is_nan}
 use Rattle.statistics.specs.declared.Accumulator.{Accumulator}
 use Rattle.statistics.specs.Statistics.{one, counted, accumulated}
 use Rattle.statistics.proofs.CountLaws.{accumulated_more}
@@ -27,7 +27,7 @@ more f a v = record { count = add f a.count one; sum = add f a.sum v; squares = 
 
 -- four numbers
 pub four_counted :
-    (f : Format) (a : Accumulator) (v0 v1 v2 v3 : Float) → ne v0 v0 ≡ false → ne v1 v1 ≡ false → ne v2 v2 ≡ false → ne v3 v3 ≡ false
+    (f : Format) (a : Accumulator) (v0 v1 v2 v3 : Float) → is_nan v0 ≡ false → is_nan v1 ≡ false → is_nan v2 ≡ false → is_nan v3 ≡ false
     → more f (more f (more f (more f a v0) v1) v2) v3 ≡ counted_four f a v0 v1 v2 v3
 four_counted f a v0 v1 v2 v3 n0 n1 n2 n3 =
     each_counted f a (more f a v0) (more f (more f a v0) v1) (more f (more f (more f a v0) v1) v2) (more f (more f (more f (more f a v0) v1) v2) v3) v0 v1 v2 v3
@@ -56,7 +56,7 @@ module _ (f : Format) (a : Accumulator) (i : ℕ) (v0 v1 v2 v3 : Float) where
       (omega arith, omega arith, λ column e0 e1 e2 e3 s. accumulated_more f column i (e ∙ ap (counted f a) e0) s ∙ ap (accumulated f column) (sym k))
 
   pub four_passed :
-      ne v0 v0 ≡ false → ne v1 v1 ≡ false → ne v2 v2 ≡ false → ne v3 v3 ≡ false
+      is_nan v0 ≡ false → is_nan v1 ≡ false → is_nan v2 ≡ false → is_nan v3 ≡ false
       → Accumulates f a i v0 v1 v2 v3 (more f (more f (more f (more f a v0) v1) v2) v3) (i + 4)
   four_passed n0 n1 n2 n3 = (
     omega arith,

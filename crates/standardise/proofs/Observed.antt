@@ -2,7 +2,6 @@
 use mathlib.Core.Path.{◌≡◌, refl, sym, ap, ◌∙◌}
 use mathlib.Core.Bool.{Bool, true, false, ◌&&◌, cond}
 use mathlib.Core.List.{List, []}
-use mathlib.Core.Logic.{inl, inr}
 use Prim.Native.Nat.{ℕ, ◌+◌, ◌*◌, ◌^◌, ◌<◌, ◌≤◌}
 use native.Mathlib.Omega.{arith}
 use borrow.Author.Tests.{eqb-true}
@@ -15,26 +14,26 @@ use Rattle.answer.proofs.Tests.{by_test}
 use Rattle.answer.proofs.MatrixLaws.{get_d_matrix, matrix_ext}
 use Rattle.statistics.specs.declared.Accumulator.{Accumulator}
 use Rattle.statistics.specs.declared.Stats.{Stats}
+use Rattle.std.specs.Prelude.{Result, Ok, Err}
 use Rattle.statistics.specs.declared.MarkerStats.{MarkerStats}
-use Rattle.statistics.specs.declared.MarkerStats.TheVariants.{Lent, Found, NoIndividuals, IllegalSnpMean}
-use Rattle.statistics.specs.Statistics.{accumulated, mean, stats_of, no_value, marker_stats, found_for, stats_per_marker, in_places, stats_at}
+use Rattle.statistics.specs.declared.MarkerError.{MarkerError}
+use Rattle.statistics.specs.declared.MarkerError.TheVariants.{NoIndividuals, IllegalSnpMean}
+use Rattle.statistics.specs.Statistics.{lent, found_with, accumulated, mean, stats_of, no_value, marker_stats, found_for, stats_per_marker, in_places, stats_at}
 use Rattle.statistics.specs.Calls.{whole, observed, Calls}
-use Rattle.statistics.proofs.CountLaws.{found_not_lent}
 use Rattle.statistics.proofs.Exact.{observed_is, none_observed}
 use Rattle.statistics.proofs.SumLimit.{mean_of_calls}
-use Rattle.standardise.specs.Standardised.{buffer_checks, kept_or_new, applied, value, found, lowest_refused, standardise_answer, new_stats, may_change, new_values, later_stats, later_values}
+use Rattle.standardise.specs.Standardised.{buffer_checks, lent_or_new, kept_or_new, applied, value, found, lowest_refused, standardise_answer, new_stats, may_change, new_values, later_stats, later_values}
 use Rattle.standardise.specs.Refused.{NotRefused}
 use Rattle.standardise.proofs.CallLaws.{lent_stats, lent_answer}
 
 -- ---- 1. statistics found
 -- a marker that is not refused has the pair of mean and deviation of its values, and their count
 three : (f : Format) (n : ℕ) (column : ℕ → Float) → NotRefused (marker_stats f n column)
-    → marker_stats f n column ≡ Found (stats_of f (accumulated f column n)) (accumulated f column n).count
+    → marker_stats f n column ≡ Ok (found_with (stats_of f (accumulated f column n)) (accumulated f column n).count)
 unfolding marker_stats
-three f n column (inl (s, e)) = absurd (found_not_lent f n column s e)
-three f n column (inr (s, o, e)) = go (no_value column n) (is_nan (mean f (accumulated f column n))) (Found (stats_of f (accumulated f column n)) (accumulated f column n).count) e
+three f n column (s, e) = go (no_value column n) (is_nan (mean f (accumulated f column n))) (Ok (found_with (stats_of f (accumulated f column n)) (accumulated f column n).count)) e
   where
-    go : (p q : Bool) (x : MarkerStats) → cond p NoIndividuals (cond q IllegalSnpMean x) ≡ Found s o → cond p NoIndividuals (cond q IllegalSnpMean x) ≡ x
+    go : (p q : Bool) (x : Result MarkerStats MarkerError) → cond p (Err NoIndividuals) (cond q (Err IllegalSnpMean) x) ≡ Ok s → cond p (Err NoIndividuals) (cond q (Err IllegalSnpMean) x) ≡ x
     go true q x e = absurd (let z : ◌≡◌ {A = ℕ} 0 1 = cc in omega arith)
     go false true x e = absurd (let z : ◌≡◌ {A = ℕ} 0 1 = cc in omega arith)
     go false false x e = refl
@@ -48,25 +47,25 @@ module _ (f : Format) (order : Bool) (iids sids : ℕ) (val stats : List Float) 
   a = accumulated f column iids
 
   -- what is found, by its two tests
-  abbrev by_tests : Bool → Bool → MarkerStats
-  by_tests p q = cond p NoIndividuals (cond q IllegalSnpMean (Found (stats_of f a) a.count))
+  abbrev by_tests : Bool → Bool → Result MarkerStats MarkerError
+  by_tests p q = cond p (Err NoIndividuals) (cond q (Err IllegalSnpMean) (Ok (found_with (stats_of f a) a.count)))
 
   abbrev old : ℕ → Float
   old c = get_or stats (m * stats_per_marker + c) nan
 
-  new_place : (x : MarkerStats) → found f order iids sids val false stats m ≡ x → (c : ℕ) → c < stats_per_marker
+  new_place : (x : Result MarkerStats MarkerError) → found f order iids sids val false stats m ≡ x → (c : ℕ) → c < stats_per_marker
       → get_or (new_stats f order iids sids val false stats) (m * stats_per_marker + c) nan ≡ kept_or_new x c (old c)
   unfolding new_stats matrix_place
   new_place x e c k =
       get_d_matrix stats_per_marker sids c m k h false (λ c m. kept_or_new (found f order iids sids val false stats m) c (get_or stats (m * stats_per_marker + c) nan)) nan
-      ∙ ap (λ (y : MarkerStats). kept_or_new y c (old c)) e
+      ∙ ap (λ (y : Result MarkerStats MarkerError). kept_or_new y c (old c)) e
 
   module _ (r : NotRefused (found f order iids sids val false stats m)) where
     -- "at places 3m, 3m + 1 and 3m + 2"
     new_three : (c : ℕ) → c < stats_per_marker
         → get_or (new_stats f order iids sids val false stats) (m * stats_per_marker + c) nan ≡ get_or (in_places (stats_of f a) a.count) c nan
-    unfolding found found_for kept_or_new
-    new_three c k = new_place (Found (stats_of f a) a.count) (three f iids column r) c k
+    unfolding found found_for kept_or_new lent_or_new
+    new_three c k = new_place (Ok (found_with (stats_of f a) a.count)) (three f iids column r) c k
 
     pub new_third_is_observed : iids ≤ 2 ^ prec f
         → get_or (new_stats f order iids sids val false stats) (m * stats_per_marker + 2) nan ≡ whole f (observed (λ i. value order iids sids val i m) iids)
@@ -93,7 +92,7 @@ module _ (f : Format) (order : Bool) (iids sids : ℕ) (val stats : List Float) 
   pub third_of_calls : Calls (λ i. value order iids sids val i m) iids → iids ≤ 2 ^ prec f
       → get_or (new_stats f order iids sids val false stats) (m * stats_per_marker + 2) nan
       ≡ cond (eqb (observed (λ i. value order iids sids val i m) iids) 0) (get_or stats (m * stats_per_marker + 2) nan) (whole f (observed (λ i. value order iids sids val i m) iids))
-  unfolding found found_for marker_stats kept_or_new
+  unfolding found found_for marker_stats kept_or_new lent_or_new
   third_of_calls calls e = by_test (no_value column iids) none some
     where
       by : Bool → Float
@@ -103,11 +102,11 @@ module _ (f : Format) (order : Bool) (iids sids : ℕ) (val stats : List Float) 
       given b t = none_observed column iids ∙ t
 
       none : no_value column iids ≡ true → get_or (new_stats f order iids sids val false stats) (m * stats_per_marker + 2) nan ≡ by (eqb (observed column iids) 0)
-      none t = new_place NoIndividuals (ap (λ (b : Bool). by_tests b (is_nan (mean f a))) t) 2 (lit≤ tt) ∙ sym (ap by (given true t))
+      none t = new_place (Err NoIndividuals) (ap (λ (b : Bool). by_tests b (is_nan (mean f a))) t) 2 (lit≤ tt) ∙ sym (ap by (given true t))
 
       some : no_value column iids ≡ false → get_or (new_stats f order iids sids val false stats) (m * stats_per_marker + 2) nan ≡ by (eqb (observed column iids) 0)
       some t =
-          new_third_is_observed (inr (stats_of f a, a.count, ap (λ (b : Bool). by_tests b (is_nan (mean f a))) t ∙ ap (by_tests false) (mean_of_calls f column iids calls t))) e
+          new_third_is_observed (found_with (stats_of f a) a.count, ap (λ (b : Bool). by_tests b (is_nan (mean f a))) t ∙ ap (by_tests false) (mean_of_calls f column iids calls t)) e
           ∙ sym (ap by (given false t))
 
 -- ---- 2. "With lent statistics the third is neither read nor written."
@@ -142,10 +141,10 @@ module _ (f : Format) (order : Bool) (iids sids : ℕ) (val : List Float) where
     values_alike : (apply : Bool) → new_values f order iids sids val true stats apply ≡ new_values f order iids sids val true stats' apply
     unfolding new_values may_change found found_for
     values_alike apply =
-        ap (λ (a : Answer). cond (apply && cond order (is_done a) true) (matrix order iids sids (λ i m. applied f (Lent (stats_at stats m)) (value order iids sids val i m))) val) markers_alike
+        ap (λ (a : Answer). cond (apply && cond order (is_done a) true) (matrix order iids sids (λ i m. applied f (Ok (lent (stats_at stats m))) (value order iids sids val i m))) val) markers_alike
         ∙ ap (λ (x : List Float). cond (apply && cond order (is_done (lowest_refused f order iids sids val true stats')) true) x val)
-        (matrix_ext order iids sids (λ i m. applied f (Lent (stats_at stats m)) (value order iids sids val i m))
-        (λ i m. applied f (Lent (stats_at stats' m)) (value order iids sids val i m)) (λ i m a b. ap (λ (s : Stats). applied f (Lent s) (value order iids sids val i m)) (pairs m b)))
+        (matrix_ext order iids sids (λ i m. applied f (Ok (lent (stats_at stats m))) (value order iids sids val i m))
+        (λ i m. applied f (Ok (lent (stats_at stats' m))) (value order iids sids val i m)) (λ i m a b. ap (λ (s : Stats). applied f (Ok (lent s)) (value order iids sids val i m)) (pairs m b)))
 
     pub lent_third_unread : (apply : Bool) → (standardise_answer f order iids sids val true stats ≡ standardise_answer f order iids sids val true stats')
         × (later_values f order iids sids val true stats apply ≡ later_values f order iids sids val true stats' apply)

@@ -11,7 +11,13 @@ use lib.Ieee.{Float, nan, Format}
 use Rattle.answer.specs.Answer.{Answer, done, if_done}
 use Rattle.answer.specs.Matrix.{matrix_place, matrix}
 use Rattle.statistics.specs.declared.Stats.{Stats}
+use Rattle.std.specs.Prelude.{Result, Ok, Err}
+use Rattle.std.specs.Result.{result_and}
+use Rattle.standardise.specs.Says.{standardise_says}
+use Rattle.standardise.specs.declared.answers.StandardiseError.{StandardiseError}
+use Rattle.standardise.specs.declared.answers.StandardiseError.TheVariants.{CountTooLarge, IndexMismatch, StatsMismatch, NoIndividuals, IllegalSnpMean}
 use Rattle.statistics.specs.declared.MarkerStats.{MarkerStats}
+use Rattle.statistics.specs.declared.MarkerError.{MarkerError}
 use Rattle.statistics.specs.Statistics.{stats_per_marker, stats_at, found_for}
 use Rattle.standardise.specs.Standardised.{marker_answer, markers_answer, kept_or_new, applied, value, found, lowest_refused, new_stats, may_change, new_values}
 use Rattle.standardise.specs.Private.{later_value, written, from, changed, stored_stats, StatsIn}
@@ -20,17 +26,29 @@ use Rattle.standardise.proofs.CellLaws.{own_cells, up_to, column_more, column_ol
 use Rattle.statistics.proofs.CountLaws.{found_for_ext}
 
 -- ---- the answer
-pub refusal_of : (a b x y : Answer) → b ≡ if_done a x a → x ≡ y → b ≡ if_done a y a
-refusal_of a b x y e g = e ∙ ap (λ (z : Answer). if_done a z a) g
+says_and : (a b : Result (Unit {0}) StandardiseError) → standardise_says (result_and a b) ≡ if_done (standardise_says a) (standardise_says b) (standardise_says a)
+unfolding if_done
+says_and (Ok u) b = refl
+says_and (Err CountTooLarge) b = refl
+says_and (Err IndexMismatch) b = refl
+says_and (Err StatsMismatch) b = refl
+says_and (Err (NoIndividuals m)) b = refl
+says_and (Err (IllegalSnpMean m)) b = refl
 
-module _ (found : ℕ → MarkerStats) where
-  pub answer_more : (m : ℕ) (a b : Answer) (r : MarkerStats) → a ≡ markers_answer found m → r ≡ found m → b ≡ if_done a (marker_answer m r) a
+-- the first of two refusals, if any
+pub refusal_of : (a b r : Result (Unit {0}) StandardiseError) (y : Answer) → r ≡ result_and a b → standardise_says b ≡ y
+    → standardise_says r ≡ if_done (standardise_says a) y (standardise_says a)
+refusal_of a b r y e g =
+    ap standardise_says e ∙ says_and a b ∙ ap (λ (z : Answer). if_done (standardise_says a) z (standardise_says a)) g
+
+module _ (found : ℕ → Result MarkerStats MarkerError) where
+  pub answer_more : (m : ℕ) (a b : Answer) (r : Result MarkerStats MarkerError) → a ≡ markers_answer found m → r ≡ found m → b ≡ if_done a (marker_answer m r) a
       → b ≡ markers_answer found (m + 1)
   unfolding markers_answer
   answer_more m a b r e g h =
       h
       ∙ ap (λ (x : Answer). if_done x (marker_answer m r) x) e
-      ∙ ap (λ (x : MarkerStats). if_done (markers_answer found m) (marker_answer m x) (markers_answer found m)) g
+      ∙ ap (λ (x : Result MarkerStats MarkerError). if_done (markers_answer found m) (marker_answer m x) (markers_answer found m)) g
       ∙ ap (markers_answer found) (sym (add-one m))
 
   pub answer_all : (m n : ℕ) (a : Answer) → a ≡ markers_answer found m → m ≤ n → n ≤ m → a ≡ markers_answer found n
@@ -44,10 +62,10 @@ pair_of x y = record { mean = x; deviation = y }
 abbrev pub old_stat : List Float → ℕ → ℕ → Float
 old_stat stats c m = get_or stats (m * stats_per_marker + c) nan
 
-abbrev pub new_stat : (ℕ → MarkerStats) → List Float → ℕ → ℕ → Float
+abbrev pub new_stat : (ℕ → Result MarkerStats MarkerError) → List Float → ℕ → ℕ → Float
 new_stat found stats c m = kept_or_new (found m) c (old_stat stats c m)
 
-module _ (sids : ℕ) (found : ℕ → MarkerStats) (stats : List Float) where
+module _ (sids : ℕ) (found : ℕ → Result MarkerStats MarkerError) (stats : List Float) where
   -- the markers below m are passed
   pub record StatsPassed (m : ℕ) (answer : Answer) (now : List Float) : Type 0 where
     pub within : m ≤ sids
@@ -77,7 +95,7 @@ module _ (sids : ℕ) (found : ℕ → MarkerStats) (stats : List Float) where
           ) in
           ap (λ (x : Float). pair_of x (get_or now (m * stats_per_marker + 1) nan)) z ∙ ap (pair_of (get_or stats (m * stats_per_marker) nan)) (stat_old 1 (omega arith))
 
-      pub stats_passed_more : (answer' : Answer) (later : List Float) (r : MarkerStats) → r ≡ found m → answer' ≡ if_done answer (marker_answer m r) answer
+      pub stats_passed_more : (answer' : Answer) (later : List Float) (r : Result MarkerStats MarkerError) → r ≡ found m → answer' ≡ if_done answer (marker_answer m r) answer
           → later ≡ stored_stats r m now
           → StatsPassed (m + 1) answer' later
       stats_passed_more answer' later r g a w = record {
@@ -87,7 +105,7 @@ module _ (sids : ℕ) (found : ℕ → MarkerStats) (stats : List Float) where
             w
             ∙ ap (λ (x : List Float). written x (λ c. m * stats_per_marker + c) (λ c. kept_or_new r c (old_stat now c m)) stats_per_marker) p.stored
             ∙ column_more stats_per_marker sids (new_stat found stats) (old_stat stats) m h (λ c. kept_or_new r c (old_stat now c m))
-            (λ c k. ap (λ (x : MarkerStats). kept_or_new x c (old_stat now c m)) g ∙ ap (kept_or_new (found m) c) (stat_old c k));
+            (λ c k. ap (λ (x : Result MarkerStats MarkerError). kept_or_new x c (old_stat now c m)) g ∙ ap (kept_or_new (found m) c) (stat_old c k));
       }
 
   module _ (l : stats_per_marker * sids ≡ length stats) where
@@ -109,7 +127,7 @@ module _ (sids : ℕ) (found : ℕ → MarkerStats) (stats : List Float) where
         (answer_all found m sids answer p.answered p.within h, p.stored ∙ all_new false stats_per_marker sids (new_stat found stats) (old_stat stats) m h)
 
 -- ---- the values, in marker order
-module _ (f : Format) (iids sids : ℕ) (apply : Bool) (found : ℕ → MarkerStats) (val : List Float) where
+module _ (f : Format) (iids sids : ℕ) (apply : Bool) (found : ℕ → Result MarkerStats MarkerError) (val : List Float) where
   abbrev old_cell : ℕ → ℕ → Float
   old_cell i m = get_or val (m * iids + i) nan
 
@@ -123,12 +141,12 @@ module _ (f : Format) (iids sids : ℕ) (apply : Bool) (found : ℕ → MarkerSt
     pub value_old : (i : ℕ) → i < iids → from now (m * iids) i ≡ old_cell i m
     value_old i k = ap (λ (x : List Float). get_or x (m * iids + i) nan) e ∙ column_old iids sids new_cell old_cell m i h k
 
-    pub values_more : (later : List Float) (r : MarkerStats) → r ≡ found m → later ≡ changed now (m * iids) iids (later_value f apply r) → ValuesPassed (m + 1) later
+    pub values_more : (later : List Float) (r : Result MarkerStats MarkerError) → r ≡ found m → later ≡ changed now (m * iids) iids (later_value f apply r) → ValuesPassed (m + 1) later
     values_more later r g w =
         w
         ∙ ap (λ (x : List Float). written x (λ i. m * iids + i) (λ i. later_value f apply r (from now (m * iids) i)) iids) e
         ∙ column_more iids sids new_cell old_cell m h (λ i. later_value f apply r (from now (m * iids) i))
-        (λ i k. ap (λ (x : MarkerStats). later_value f apply x (from now (m * iids) i)) g ∙ ap (later_value f apply (found m)) (value_old i k))
+        (λ i k. ap (λ (x : Result MarkerStats MarkerError). later_value f apply x (from now (m * iids) i)) g ∙ ap (later_value f apply (found m)) (value_old i k))
 
   module _ (l : iids * sids ≡ length val) where
     values_own : val ≡ matrix false iids sids old_cell
@@ -148,7 +166,7 @@ module _ (f : Format) (iids sids : ℕ) (apply : Bool) (found : ℕ → MarkerSt
 
 -- ---- all of it, in marker order
 module _ (f : Format) (iids sids : ℕ) (val : List Float) (use_stats : Bool) (stats : List Float) (apply : Bool) where
-  abbrev here : ℕ → MarkerStats
+  abbrev here : ℕ → Result MarkerStats MarkerError
   here = found f false iids sids val use_stats stats
 
   pub record Passed (m : ℕ) (answer : Answer) (values statistics : List Float) : Type 0 where
@@ -179,7 +197,7 @@ module _ (f : Format) (iids sids : ℕ) (val : List Float) (use_stats : Bool) (s
         let q = stats_passed_all sids here stats k p.counted h in
         (q.0, values_all f iids sids apply here val l m values p.valued h, q.1)
 
-  module _ {m : ℕ} (h : m < sids) {answer : Answer} {values statistics : List Float} (p : Passed m answer values statistics) (r : MarkerStats)
+  module _ {m : ℕ} (h : m < sids) {answer : Answer} {values statistics : List Float} (p : Passed m answer values statistics) (r : Result MarkerStats MarkerError)
       (e : r ≡ found_for f use_stats (stats_at statistics m) iids (from values (m * iids))) where
     is_found : r ≡ here m
     unfolding found value matrix_place

@@ -16,9 +16,11 @@ use Rattle.answer.proofs.MatrixLaws.{get_d_matrix}
 use Rattle.answer.proofs.Tests.{by_test}
 use Rattle.answer.proofs.AnswerLaws.{number, check_other, count_other}
 use Rattle.statistics.specs.declared.Stats.{Stats}
+use Rattle.std.specs.Prelude.{Result, Ok, Err}
 use Rattle.statistics.specs.declared.MarkerStats.{MarkerStats}
-use Rattle.statistics.specs.declared.MarkerStats.TheVariants.{Lent, Found, NoIndividuals, IllegalSnpMean}
-use Rattle.statistics.specs.Statistics.{accumulated, mean, stats_of, no_value, marker_stats, found_for, stats_per_marker, stats_at}
+use Rattle.statistics.specs.declared.MarkerError.{MarkerError}
+use Rattle.statistics.specs.declared.MarkerError.TheVariants.{NoIndividuals, IllegalSnpMean}
+use Rattle.statistics.specs.Statistics.{lent, found_with, accumulated, mean, stats_of, no_value, marker_stats, found_for, stats_per_marker, stats_at}
 use Rattle.statistics.specs.Calls.{IsCall}
 use Rattle.statistics.proofs.SumLimit.{calls_not_14}
 use Rattle.standardise.specs.Standardised.{marker_answer, markers_answer, buffer_checks, kept_or_new, applied, value, found, lowest_refused, standardise_answer, new_stats, later_stats, later_values}
@@ -28,33 +30,29 @@ use Rattle.standardise.proofs.Theorems.{later_value_law, changes, either_same}
 
 -- ---- 1. the answer of the first n markers
 -- a marker's answer is done exactly if the marker is not refused
-not_refused : (m : ℕ) (x : MarkerStats) → is_done (marker_answer m x) ≡ true → NotRefused x
+not_refused : (m : ℕ) (x : Result MarkerStats MarkerError) → is_done (marker_answer m x) ≡ true → NotRefused x
 unfolding marker_answer
-not_refused m (Lent s) e = inl (s, refl)
-not_refused m (Found s observed) e = inr (s, observed, refl)
-not_refused m NoIndividuals e = absurd (true≢false (sym e))
-not_refused m IllegalSnpMean e = absurd (true≢false (sym e))
+not_refused m (Ok x) e = (x, refl)
+not_refused m (Err NoIndividuals) e = absurd (true≢false (sym e))
+not_refused m (Err IllegalSnpMean) e = absurd (true≢false (sym e))
 
-answer_done : (m : ℕ) (x : MarkerStats) → NotRefused x → marker_answer m x ≡ done []
+answer_done : (m : ℕ) (x : Result MarkerStats MarkerError) → NotRefused x → marker_answer m x ≡ done []
 unfolding marker_answer
-answer_done m x (inl (s, e)) = ap (marker_answer m) e
-answer_done m x (inr (s, observed, e)) = ap (marker_answer m) e
+answer_done m x (s, e) = ap (marker_answer m) e
 
 -- a refused marker's answer carries its place
-carries : (m : ℕ) (x : MarkerStats) (k : ℕ) (vs : List ℤ) → marker_answer m x ≡ refused k vs → vs ≡ pos m ∷ []
+carries : (m : ℕ) (x : Result MarkerStats MarkerError) (k : ℕ) (vs : List ℤ) → marker_answer m x ≡ refused k vs → vs ≡ pos m ∷ []
 unfolding marker_answer
-carries m (Lent s) k vs e = absurd (let q : ◌≡◌ {A = ℕ} 0 1 = cc in omega arith)
-carries m (Found s observed) k vs e = absurd (let q : ◌≡◌ {A = ℕ} 0 1 = cc in omega arith)
-carries m NoIndividuals k vs e = cc
-carries m IllegalSnpMean k vs e = cc
+carries m (Ok x) k vs e = absurd (let q : ◌≡◌ {A = ℕ} 0 1 = cc in omega arith)
+carries m (Err NoIndividuals) k vs e = cc
+carries m (Err IllegalSnpMean) k vs e = cc
 
 -- 13 for "no non-NaN value", 14 for "a NaN mean", and no other number
-pub number_told : (m : ℕ) (x : MarkerStats) (k : ℕ) (vs : List ℤ) → marker_answer m x ≡ refused k vs → ((k ≡ 13) × (x ≡ NoIndividuals)) ⊎ ((k ≡ 14) × (x ≡ IllegalSnpMean))
+pub number_told : (m : ℕ) (x : Result MarkerStats MarkerError) (k : ℕ) (vs : List ℤ) → marker_answer m x ≡ refused k vs → ((k ≡ 13) × (x ≡ Err NoIndividuals)) ⊎ ((k ≡ 14) × (x ≡ Err IllegalSnpMean))
 unfolding marker_answer
-number_told m (Lent s) k vs e = absurd (let q : ◌≡◌ {A = ℕ} 0 1 = cc in omega arith)
-number_told m (Found s observed) k vs e = absurd (let q : ◌≡◌ {A = ℕ} 0 1 = cc in omega arith)
-number_told m NoIndividuals k vs e = inl (cc, refl)
-number_told m IllegalSnpMean k vs e = inr (cc, refl)
+number_told m (Ok x) k vs e = absurd (let q : ◌≡◌ {A = ℕ} 0 1 = cc in omega arith)
+number_told m (Err NoIndividuals) k vs e = inl (cc, refl)
+number_told m (Err IllegalSnpMean) k vs e = inr (cc, refl)
 
 -- two answers of which the second counts if the first is done
 both_done : (a b : Answer) → is_done (if_done a b a) ≡ true → (is_done a ≡ true) × (is_done b ≡ true)
@@ -62,7 +60,7 @@ unfolding if_done
 both_done (done vs) b e = (refl, e)
 both_done (refused k vs) b e = absurd (true≢false (sym e))
 
-module _ (g : ℕ → MarkerStats) where
+module _ (g : ℕ → Result MarkerStats MarkerError) where
   each_not_refused : (n : ℕ) → is_done (markers_answer g n) ≡ true → (j : ℕ) → j < n → NotRefused (g j)
   unfolding markers_answer
   each_not_refused zero e j h = absurd (omega arith)
@@ -158,12 +156,12 @@ some_value column (suc n) e = go (no_value column n) refl e (some_value column n
     go false p e earlier = let (i, h, q) = earlier p in (i, omega arith, q)
 
 -- what is found, by the two tests
-told_13 : (p q : Bool) (s : Stats) (observed : Float) → cond p NoIndividuals (cond q IllegalSnpMean (Found s observed)) ≡ NoIndividuals → p ≡ true
+told_13 : (p q : Bool) (s : Stats) (observed : Float) → cond p (Err NoIndividuals) (cond q (Err IllegalSnpMean) (Ok (found_with s observed))) ≡ Err NoIndividuals → p ≡ true
 told_13 true q s observed e = refl
 told_13 false true s observed e = absurd (let z : ◌≡◌ {A = ℕ} 0 1 = cc in omega arith)
 told_13 false false s observed e = absurd (let z : ◌≡◌ {A = ℕ} 0 1 = cc in omega arith)
 
-told_14 : (p q : Bool) (s : Stats) (observed : Float) → cond p NoIndividuals (cond q IllegalSnpMean (Found s observed)) ≡ IllegalSnpMean → (p ≡ false) × (q ≡ true)
+told_14 : (p q : Bool) (s : Stats) (observed : Float) → cond p (Err NoIndividuals) (cond q (Err IllegalSnpMean) (Ok (found_with s observed))) ≡ Err IllegalSnpMean → (p ≡ false) × (q ≡ true)
 told_14 true q s observed e = absurd (let z : ◌≡◌ {A = ℕ} 0 1 = cc in omega arith)
 told_14 false true s observed e = (refl, refl)
 told_14 false false s observed e = absurd (let z : ◌≡◌ {A = ℕ} 0 1 = cc in omega arith)
@@ -173,36 +171,36 @@ module _ (f : Format) (order : Bool) (iids sids : ℕ) (val stats : List Float) 
   abbrev column : ℕ → Float
   column i = value order iids sids val i m
 
-  pub is_13 : (found f order iids sids val false stats m ≡ NoIndividuals → (i : ℕ) → i < iids → is_nan (value order iids sids val i m) ≡ true)
-      × (((i : ℕ) → i < iids → is_nan (value order iids sids val i m) ≡ true) → found f order iids sids val false stats m ≡ NoIndividuals)
+  pub is_13 : (found f order iids sids val false stats m ≡ Err NoIndividuals → (i : ℕ) → i < iids → is_nan (value order iids sids val i m) ≡ true)
+      × (((i : ℕ) → i < iids → is_nan (value order iids sids val i m) ≡ true) → found f order iids sids val false stats m ≡ Err NoIndividuals)
   unfolding found found_for marker_stats
   is_13 = (
     λ e. all_nan column iids (told_13 (no_value column iids) (is_nan (mean f (accumulated f column iids))) (stats_of f (accumulated f column iids)) (accumulated f column iids).count e),
-    λ h. ap (λ (b : Bool). cond b NoIndividuals (cond (is_nan (mean f (accumulated f column iids))) IllegalSnpMean (Found (stats_of f (accumulated f column iids)) (accumulated f column iids).count))) (no_value_law column iids h),
+    λ h. ap (λ (b : Bool). cond b (Err NoIndividuals) (cond (is_nan (mean f (accumulated f column iids))) (Err IllegalSnpMean) (Ok (found_with (stats_of f (accumulated f column iids)) (accumulated f column iids).count)))) (no_value_law column iids h),
   )
 
-  pub is_14 : (found f order iids sids val false stats m ≡ IllegalSnpMean
+  pub is_14 : (found f order iids sids val false stats m ≡ Err IllegalSnpMean
       → ((i : ℕ) × (i < iids) × (is_nan (value order iids sids val i m) ≡ false)) × (is_nan (mean f (accumulated f (λ i. value order iids sids val i m) iids)) ≡ true))
       × ((i : ℕ) → i < iids → is_nan (value order iids sids val i m) ≡ false → is_nan (mean f (accumulated f (λ i. value order iids sids val i m) iids)) ≡ true
-      → found f order iids sids val false stats m ≡ IllegalSnpMean)
+      → found f order iids sids val false stats m ≡ Err IllegalSnpMean)
   unfolding found found_for marker_stats
   is_14 = (
     λ e. let t = told_14 (no_value column iids) (is_nan (mean f (accumulated f column iids))) (stats_of f (accumulated f column iids)) (accumulated f column iids).count e in (some_value column iids t.0, t.1),
     λ i h v n.
         by_test (no_value column iids) (λ t. absurd (true≢false (sym (all_nan column iids t i h) ∙ v)))
-        (λ t. λ j. cond (t j) NoIndividuals (cond (n j) IllegalSnpMean (Found (stats_of f (accumulated f column iids)) (accumulated f column iids).count))),
+        (λ t. λ j. cond (t j) (Err NoIndividuals) (cond (n j) (Err IllegalSnpMean) (Ok (found_with (stats_of f (accumulated f column iids)) (accumulated f column iids).count)))),
   )
 
 -- "With lent statistics nothing is recomputed or refused for 13, 14."
 pub lent_not_refused : (f : Format) (order : Bool) (iids sids : ℕ) (val stats : List Float) → lowest_refused f order iids sids val true stats ≡ done []
 unfolding found found_for
-lent_not_refused f order iids sids val stats = none_is_refused f order iids sids val true stats (λ m h. inl (stats_at stats m, refl))
+lent_not_refused f order iids sids val stats = none_is_refused f order iids sids val true stats (λ m h. (lent (stats_at stats m), refl))
 
 -- ---- a matrix of decoded calls has no marker with a NaN mean, however many animals it has, and whatever the choices
 module _ (f : Format) (order : Bool) (iids sids : ℕ) (val : List Float) (stats : List Float)
     (calls : (i m : ℕ) → i < iids → m < sids → IsCall (value order iids sids val i m)) where
   no_mean : (m : ℕ) (k : ℕ) → k ≡ 14 → m < sids
-      → ((k ≡ 13) × (found f order iids sids val false stats m ≡ NoIndividuals)) ⊎ ((k ≡ 14) × (found f order iids sids val false stats m ≡ IllegalSnpMean)) → ⊥
+      → ((k ≡ 13) × (found f order iids sids val false stats m ≡ Err NoIndividuals)) ⊎ ((k ≡ 14) × (found f order iids sids val false stats m ≡ Err IllegalSnpMean)) → ⊥
   unfolding found found_for
   no_mean m k q h (inl (n, e)) = omega arith
   no_mean m k q h (inr (n, e)) = calls_not_14 f (λ i. value order iids sids val i m) iids (λ i b. calls i m b h) e
@@ -224,15 +222,15 @@ module _ (f : Format) (order : Bool) (iids sids : ℕ) (val : List Float) (stats
       (count_other sids _ 14 vs (λ q. omega (arith, q)) (count_other iids _ 14 vs (λ q. omega (arith, q)) e))))
 
 -- ---- 2. "At 13 or 14 refused markers keep old statistics"; "still applies to every marker not refused"
-kept_value : (f : Format) (b : Bool) (x : MarkerStats) (v : Float) → IsRefused x → later_value f b x v ≡ v
+kept_value : (f : Format) (b : Bool) (x : Result MarkerStats MarkerError) (v : Float) → IsRefused x → later_value f b x v ≡ v
 unfolding later_value applied
-kept_value f b x v (inl e) = ap (λ (y : MarkerStats). later_value f b y v) e ∙ either_same b v
-kept_value f b x v (inr e) = ap (λ (y : MarkerStats). later_value f b y v) e ∙ either_same b v
+kept_value f b x v (inl e) = ap (λ (y : Result MarkerStats MarkerError). later_value f b y v) e ∙ either_same b v
+kept_value f b x v (inr e) = ap (λ (y : Result MarkerStats MarkerError). later_value f b y v) e ∙ either_same b v
 
-kept_stat : (x : MarkerStats) (c : ℕ) (old : Float) → IsRefused x → kept_or_new x c old ≡ old
+kept_stat : (x : Result MarkerStats MarkerError) (c : ℕ) (old : Float) → IsRefused x → kept_or_new x c old ≡ old
 unfolding kept_or_new
-kept_stat x c old (inl e) = ap (λ (y : MarkerStats). kept_or_new y c old) e
-kept_stat x c old (inr e) = ap (λ (y : MarkerStats). kept_or_new y c old) e
+kept_stat x c old (inl e) = ap (λ (y : Result MarkerStats MarkerError). kept_or_new y c old) e
+kept_stat x c old (inr e) = ap (λ (y : Result MarkerStats MarkerError). kept_or_new y c old) e
 
 -- every refused marker, not only the lowest; in either order, by every choice, and whatever the buffers' checks say
 module _ (f : Format) (order : Bool) (iids sids : ℕ) (val : List Float) (use_stats : Bool) (stats : List Float) (m : ℕ) (hm : m < sids)

@@ -17,8 +17,10 @@ use Rattle.answer.specs.Matrix.{matrix_place, matrix}
 use Rattle.answer.proofs.AnswerLaws.{check_done, count_done, old_if_not}
 use Rattle.answer.proofs.MatrixLaws.{length_matrix, get_d_matrix, matrix_ext}
 use Rattle.answer.proofs.Tests.{by_test}
+use Rattle.std.specs.Prelude.{Result, Ok, Err}
 use Rattle.statistics.specs.declared.MarkerStats.{MarkerStats}
-use Rattle.statistics.specs.declared.MarkerStats.TheVariants.{Lent, Found, NoIndividuals, IllegalSnpMean}
+use Rattle.statistics.specs.declared.MarkerError.{MarkerError}
+use Rattle.statistics.specs.declared.MarkerError.TheVariants.{NoIndividuals, IllegalSnpMean}
 use Rattle.statistics.specs.Statistics.{stats_per_marker, stats_at, found_for, marker_stats}
 use Rattle.statistics.specs.Calls.{IsCall, is_zero, is_one, is_two, is_missing, FewEnough, SumsAgree}
 use Rattle.statistics.proofs.CountLaws.{found_for_ext}
@@ -27,12 +29,12 @@ use Rattle.standardise.specs.Standardised.{marker_answer, markers_answer, buffer
 use Rattle.standardise.specs.Private.{later_value}
 
 -- ---- what rests on what is found for the markers
-markers_answer_ext : (g h : ℕ → MarkerStats) (n : ℕ) → ((m : ℕ) → m < n → g m ≡ h m) → markers_answer g n ≡ markers_answer h n
+markers_answer_ext : (g h : ℕ → Result MarkerStats MarkerError) (n : ℕ) → ((m : ℕ) → m < n → g m ≡ h m) → markers_answer g n ≡ markers_answer h n
 unfolding markers_answer
 markers_answer_ext g h zero e = refl
 markers_answer_ext g h (suc n) e =
     ap (λ (a : Answer). if_done a (marker_answer n (g n)) a) (markers_answer_ext g h n (λ m l. e m (omega arith)))
-    ∙ ap (λ (x : MarkerStats). if_done (markers_answer h n) (marker_answer n x) (markers_answer h n)) (e n (omega arith))
+    ∙ ap (λ (x : Result MarkerStats MarkerError). if_done (markers_answer h n) (marker_answer n x) (markers_answer h n)) (e n (omega arith))
 
 checks_same : (iids sids : ℕ) (val val' stats : List Float) (later : Answer) → length val ≡ length val' → buffer_checks iids sids val stats later ≡ buffer_checks iids sids val' stats later
 unfolding buffer_checks
@@ -50,7 +52,7 @@ module _ (f : Format) (iids sids : ℕ) (order order' : Bool) (val val' : List F
   new_stats_same =
       matrix_ext false stats_per_marker sids (λ c m. kept_or_new (found f order iids sids val use_stats stats m) c (get_or stats (m * stats_per_marker + c) nan))
       (λ c m. kept_or_new (found f order' iids sids val' use_stats stats m) c (get_or stats (m * stats_per_marker + c) nan))
-      (λ c m a b. ap (λ (x : MarkerStats). kept_or_new x c (get_or stats (m * stats_per_marker + c) nan)) (same m b))
+      (λ c m a b. ap (λ (x : Result MarkerStats MarkerError). kept_or_new x c (get_or stats (m * stats_per_marker + c) nan)) (same m b))
 
   module _ (l : length val ≡ length val') where
     answer_same : standardise_answer f order iids sids val use_stats stats ≡ standardise_answer f order' iids sids val' use_stats stats
@@ -91,7 +93,7 @@ module _ (f : Format) (order : Bool) (iids sids : ℕ) (val : List Float) (use_s
       go true = new_value
       go false = refl
 
-same_cell : (f : Format) {a b : Bool} {x y : MarkerStats} {u v : Float} → a ≡ b → x ≡ y → u ≡ v → later_value f a x u ≡ later_value f b y v
+same_cell : (f : Format) {a b : Bool} {x y : Result MarkerStats MarkerError} {u v : Float} → a ≡ b → x ≡ y → u ≡ v → later_value f a x u ≡ later_value f b y v
 same_cell f p q r = λ i. later_value f (p i) (q i) (r i)
 
 -- ---- 1. the two orders
@@ -171,7 +173,7 @@ pub either_same : (b : Bool) (v : Float) → cond b v v ≡ v
 either_same true v = refl
 either_same false v = refl
 
-only_marker : (g : ℕ → MarkerStats) (sids m : ℕ) → sids ≤ 1 → m < sids → is_done (markers_answer g sids) ≡ is_done (marker_answer m (g m))
+only_marker : (g : ℕ → Result MarkerStats MarkerError) (sids m : ℕ) → sids ≤ 1 → m < sids → is_done (markers_answer g sids) ≡ is_done (marker_answer m (g m))
 unfolding markers_answer if_done
 only_marker g zero m o h = absurd (omega arith)
 only_marker g (suc zero) zero o h = refl
@@ -179,12 +181,11 @@ only_marker g (suc zero) (suc m) o h = absurd (omega arith)
 only_marker g (suc (suc n)) m o h = absurd (omega arith)
 
 -- a marker that is refused keeps its value, whether or not values may change
-only_cell : (f : Format) (m : ℕ) (b apply : Bool) (x : MarkerStats) (v : Float) → later_value f (b && (apply && is_done (marker_answer m x))) x v ≡ later_value f (b && (apply && true)) x v
+only_cell : (f : Format) (m : ℕ) (b apply : Bool) (x : Result MarkerStats MarkerError) (v : Float) → later_value f (b && (apply && is_done (marker_answer m x))) x v ≡ later_value f (b && (apply && true)) x v
 unfolding later_value applied marker_answer
-only_cell f m b apply (Lent s) v = refl
-only_cell f m b apply (Found s observed) v = refl
-only_cell f m b apply NoIndividuals v = either_same (b && (apply && false)) v ∙ sym (either_same (b && (apply && true)) v)
-only_cell f m b apply IllegalSnpMean v = either_same (b && (apply && false)) v ∙ sym (either_same (b && (apply && true)) v)
+only_cell f m b apply (Ok x) v = refl
+only_cell f m b apply (Err NoIndividuals) v = either_same (b && (apply && false)) v ∙ sym (either_same (b && (apply && true)) v)
+only_cell f m b apply (Err IllegalSnpMean) v = either_same (b && (apply && false)) v ∙ sym (either_same (b && (apply && true)) v)
 
 -- the same place in both orders
 only_place : (iids sids i m : ℕ) → sids ≤ 1 → m < sids → matrix_place true iids sids i m ≡ matrix_place false iids sids i m
@@ -326,7 +327,7 @@ pub no_animals : (f : Format) (order : Bool) (n : ℕ) (val stats : List Float) 
 unfolding lowest_refused markers_answer found found_for marker_stats marker_answer if_done
 no_animals f order n val stats = go n
   where
-    go : (k : ℕ) → markers_answer (λ m. NoIndividuals) (suc k) ≡ refused 13 (pos 0 ∷ [])
+    go : (k : ℕ) → markers_answer (λ m. (Err NoIndividuals)) (suc k) ≡ refused 13 (pos 0 ∷ [])
     go zero = refl
     go (suc k) = ap (λ (a : Answer). if_done a (refused 13 (pos (suc k) ∷ [])) a) (go k)
 

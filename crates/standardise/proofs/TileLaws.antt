@@ -1,87 +1,71 @@
 -- Accumulators of neighbouring markers, animal by animal.
 use mathlib.Core.Path.{◌≡◌, refl, sym, ap, subst, ◌∙◌}
-use mathlib.Core.Bool.{Bool, true, false, cond}
+use mathlib.Core.Bool.{true, false}
 use mathlib.Core.List.{List}
 use Prim.Native.Nat.{ℕ, suc, ◌+◌, ◌*◌, ◌<◌, ◌≤◌}
 use native.Mathlib.Nat.{suc-mul, mul-le-mul_right, add_assoc, add-zero, add-mul}
 use native.Mathlib.Omega.{arith}
-use lib.Dec.{ltb, eqb}
-use lib.ListN.{length, get_or, set, length-set, replicate, get_or-replicate}
+use lib.Dec.{eqb}
+use lib.ListN.{length, get_or, replicate, get_or-replicate}
 use lib.Seq.{get_or-set_same, get_or-set_other}
 use lib.Ieee.{Float, nan, Format}
-use borrow.Author.Tests.{eqb-true, eqb-false, lt-ltb, le-ltb}
+use borrow.Author.Tests.{eqb-true, eqb-false}
 use Rattle.answer.specs.Answer.{Answer, if_done}
 use Rattle.answer.specs.Matrix.{matrix_place}
-use Rattle.answer.proofs.Tests.{by_test, leb_both}
+use Rattle.answer.proofs.Tests.{by_test}
 use Rattle.statistics.specs.declared.Accumulator.{Accumulator}
+use Rattle.standardise.specs.declared.animal_order.Accumulators.{Accumulators}
+use Rattle.std.specs.Prelude.{Result}
 use Rattle.statistics.specs.declared.MarkerStats.{MarkerStats}
+use Rattle.statistics.specs.declared.MarkerError.{MarkerError}
 use Rattle.statistics.specs.Statistics.{plus_zero, start, counted, accumulated, found_for}
 use Rattle.standardise.specs.Standardised.{value, found, marker_answer}
-use Rattle.standardise.specs.Private.{from, counted_four, accumulator_at, tile_width, AreLong, stored_stats}
+use Rattle.standardise.specs.Private.{from, counted_four, accumulator_at, accumulators_set, AreLong, tile_width, stored_stats}
 use Rattle.statistics.specs.Statistics.{stats_from}
 use Rattle.statistics.proofs.CountLaws.{accumulated_more, stats_from_law}
 use Rattle.standardise.proofs.FourLaws.{accumulated_four}
 use Rattle.standardise.proofs.PassLaws.{StatsPassed, stats_passed_more}
 
-abbrev triple : Float → Float → Float → Accumulator
+triple : Float → Float → Float → Accumulator
 triple x y z = record { count = x; sum = y; squares = z }
 
--- the three lists after a store of an accumulator
-module _ (counts sums squares : List Float) (j : ℕ) (a : Accumulator) where
-  pub at_same : j < length counts → j < length sums → j < length squares → accumulator_at (set counts j a.count) (set sums j a.sum) (set squares j a.squares) j ≡ a
-  at_same h k l =
-      ap (λ (x : Float). triple x (get_or (set sums j a.sum) j nan) (get_or (set squares j a.squares) j nan)) (get_or-set_same counts j a.count nan h)
-      ∙ ap (λ (y : Float). triple a.count y (get_or (set squares j a.squares) j nan)) (get_or-set_same sums j a.sum nan k)
-      ∙ ap (λ (z : Float). triple a.count a.sum z) (get_or-set_same squares j a.squares nan l)
+-- a tile after a store of an accumulator
+module _ (t : Accumulators) (j : ℕ) (a : Accumulator) where
+  at_same : AreLong t → j < tile_width → accumulator_at (accumulators_set t j a) j ≡ a
+  unfolding triple
+  at_same p h =
+      let l1 = p.first_long in
+      let l2 = p.second_long in
+      let l3 = p.third_long in
+      λ i. triple (get_or-set_same t.counts j a.count nan (omega arith) i) (get_or-set_same t.sums j a.sum nan (omega arith) i) (get_or-set_same t.squares j a.squares nan (omega arith) i)
 
-  pub at_other : (k : ℕ) → (k ≡ j → ⊥) → accumulator_at (set counts j a.count) (set sums j a.sum) (set squares j a.squares) k ≡ accumulator_at counts sums squares k
-  at_other k n =
-      ap (λ (x : Float). triple x (get_or (set sums j a.sum) k nan) (get_or (set squares j a.squares) k nan)) (get_or-set_other counts j k a.count nan n)
-      ∙ ap (λ (y : Float). triple (get_or counts k nan) y (get_or (set squares j a.squares) k nan)) (get_or-set_other sums j k a.sum nan n)
-      ∙ ap (λ (z : Float). triple (get_or counts k nan) (get_or sums k nan) z) (get_or-set_other squares j k a.squares nan n)
+  at_other : (k : ℕ) → (k ≡ j → ⊥) → accumulator_at (accumulators_set t j a) k ≡ accumulator_at t k
+  unfolding triple
+  at_other k n = λ i. triple (get_or-set_other t.counts j k a.count nan n i) (get_or-set_other t.sums j k a.sum nan n i) (get_or-set_other t.squares j k a.squares nan n i)
 
 -- ---- one animal, or four: the accumulators of the first j markers have made their step
-module _ (step : ℕ → Accumulator → Accumulator) (before : ℕ → Accumulator) where
-  pub record RowCounted (j : ℕ) (counts sums squares : List Float) : Type 0 where
-    pub long : AreLong counts sums squares
-    pub each : (k : ℕ) → accumulator_at counts sums squares k ≡ cond (ltb k j) (step k (before k)) (before k)
+module _ (step : ℕ → Accumulator → Accumulator) (before : Accumulators) where
+  pub record RowCounted (j : ℕ) (t : Accumulators) : Type 0 where
+    pub passed : (k : ℕ) → k < j → accumulator_at t k ≡ step k (accumulator_at before k)
+    pub left : (k : ℕ) → j ≤ k → accumulator_at t k ≡ accumulator_at before k
 
-  pub row_more_law : (j : ℕ) (counts sums squares : List Float) (a : Accumulator) → j < tile_width → RowCounted j counts sums squares
-      → a ≡ step j (accumulator_at counts sums squares j) → RowCounted (j + 1) (set counts j a.count) (set sums j a.sum) (set squares j a.squares)
-  row_more_law j counts sums squares a h p e = record {
-    long = record {
-      first_long = length-set counts j a.count ∙ p.long.first_long;
-      second_long = length-set sums j a.sum ∙ p.long.second_long;
-      third_long = length-set squares j a.squares ∙ p.long.third_long;
-    };
-    each = λ k. by_test (eqb k j) (λ t. same k (eqb-true k j t)) (λ t. other k (eqb-false k j t));
+  pub row_none : RowCounted 0 before
+  row_none = record { passed = λ k h. absurd (omega arith); left = λ k h. refl }
+
+  pub row_more_law : (j : ℕ) (t : Accumulators) (a : Accumulator) → AreLong t → j < tile_width → RowCounted j t → a ≡ step j (accumulator_at t j)
+      → RowCounted (j + 1) (accumulators_set t j a)
+  row_more_law j t a l h p e = record {
+    passed = λ k b. by_test (eqb k j) (λ q. same k (eqb-true k j q)) (λ q. let n : k ≡ j → ⊥ = eqb-false k j q in at_other t j a k n ∙ p.passed k (omega arith));
+    left = λ k b. at_other t j a k (λ q. omega arith) ∙ p.left k (omega arith);
   }
     where
-      same : (k : ℕ) → k ≡ j → accumulator_at (set counts j a.count) (set sums j a.sum) (set squares j a.squares) k ≡ cond (ltb k (j + 1)) (step k (before k)) (before k)
+      same : (k : ℕ) → k ≡ j → accumulator_at (accumulators_set t j a) k ≡ step k (accumulator_at before k)
       same k q =
-          let l1 : length counts ≡ tile_width = p.long.first_long in
-          let l2 : length sums ≡ tile_width = p.long.second_long in
-          let l3 : length squares ≡ tile_width = p.long.third_long in
-          let old : accumulator_at counts sums squares j ≡ before j = (p.each j ∙ ap (λ (b : Bool). cond b (step j (before j)) (before j)) (le-ltb j j (omega arith))) in
-          ap (accumulator_at (set counts j a.count) (set sums j a.sum) (set squares j a.squares)) q
-          ∙ at_same counts sums squares j a (omega arith) (omega arith) (omega arith)
+          ap (accumulator_at (accumulators_set t j a)) q
+          ∙ at_same t j a l h
           ∙ e
-          ∙ ap (step j) old
-          ∙ ap (λ (x : ℕ). step x (before x)) (sym q)
-          ∙ sym (ap (λ (b : Bool). cond b (step k (before k)) (before k)) (lt-ltb k (j + 1) (omega arith)))
-
-      other : (k : ℕ) → (k ≡ j → ⊥) → accumulator_at (set counts j a.count) (set sums j a.sum) (set squares j a.squares) k ≡ cond (ltb k (j + 1)) (step k (before k)) (before k)
-      other k n =
-          at_other counts sums squares j a k n
-          ∙ p.each k
-          ∙ ap (λ (b : Bool). cond b (step k (before k)) (before k)) (leb_both (suc k) j (suc k) (j + 1) (λ l. omega arith) (λ l. omega arith))
-
-  pub row_all : (j width : ℕ) (counts sums squares : List Float) → RowCounted j counts sums squares → width ≤ j
-      → (k : ℕ) → k < width → accumulator_at counts sums squares k ≡ step k (before k)
-  row_all j width counts sums squares p h k l = p.each k ∙ ap (λ (b : Bool). cond b (step k (before k)) (before k)) (lt-ltb k j (omega arith))
-
-pub row_none : (step : ℕ → Accumulator → Accumulator) (counts sums squares : List Float) → AreLong counts sums squares → RowCounted step (accumulator_at counts sums squares) 0 counts sums squares
-row_none step counts sums squares p = record { long = p; each = λ k. sym (ap (λ (b : Bool). cond b (step k (accumulator_at counts sums squares k)) (accumulator_at counts sums squares k)) (le-ltb k 0 (omega arith))) }
+          ∙ ap (step j) (p.left j (omega arith))
+          ∙ ap (λ (x : ℕ). step x (accumulator_at before x)) (sym q)
 
 -- ---- a part of a row of a matrix in animal order
 module _ (iids sids base width i : ℕ) (h : i < iids) (k : base + width ≤ sids) where
@@ -99,35 +83,32 @@ module _ (iids sids base width i : ℕ) (h : i + 4 ≤ iids) (k : base + width �
 
 -- ---- all animals below i are counted
 module _ (f : Format) (iids sids base width : ℕ) (val : List Float) where
-  pub record TileCounted (i : ℕ) (counts sums squares : List Float) : Type 0 where
+  pub record TileCounted (i : ℕ) (t : Accumulators) : Type 0 where
     pub within : i ≤ iids
-    pub long : AreLong counts sums squares
-    pub each : (j : ℕ) → j < width → accumulator_at counts sums squares j ≡ accumulated f (λ a. value true iids sids val a (base + j)) i
+    pub each : (j : ℕ) → j < width → accumulator_at t j ≡ accumulated f (λ a. value true iids sids val a (base + j)) i
 
-  pub tile_none : (counts sums squares : List Float) → AreLong counts sums squares → ((j : ℕ) → j < width → accumulator_at counts sums squares j ≡ start) → TileCounted 0 counts sums squares
+  pub tile_none : (t : Accumulators) → ((j : ℕ) → j < width → accumulator_at t j ≡ start) → TileCounted 0 t
   unfolding accumulated
-  tile_none counts sums squares l e = record { within = omega arith; long = l; each = e }
+  tile_none t e = record { within = omega arith; each = e }
 
-  pub tile_more : (i : ℕ) (counts sums squares counts' sums' squares' : List Float) → i < iids → TileCounted i counts sums squares → AreLong counts' sums' squares'
-      → ((j : ℕ) → j < width → accumulator_at counts' sums' squares' j ≡ counted f (accumulator_at counts sums squares j) (from val (i * sids + base) j))
-      → TileCounted (i + 1) counts' sums' squares'
+  pub tile_more : (i : ℕ) (t t' : Accumulators) → i < iids → TileCounted i t
+      → ((j : ℕ) → j < width → accumulator_at t' j ≡ counted f (accumulator_at t j) (from val (i * sids + base) j))
+      → TileCounted (i + 1) t'
   unfolding value matrix_place
-  tile_more i counts sums squares counts' sums' squares' h p l e = record {
+  tile_more i t t' h p e = record {
     within = omega arith;
-    long = l;
     each = λ j k. accumulated_more f (λ a. get_or val (a * sids + (base + j)) nan) i
-        (e j k ∙ ap (λ (x : ℕ). counted f (accumulator_at counts sums squares j) (get_or val x nan)) (add_assoc (i * sids) base j)) (p.each j k);
+        (e j k ∙ ap (λ (x : ℕ). counted f (accumulator_at t j) (get_or val x nan)) (add_assoc (i * sids) base j)) (p.each j k);
   }
 
   -- four animals more
-  pub tile_four : (i : ℕ) (counts sums squares counts' sums' squares' : List Float) → i + 4 ≤ iids → TileCounted i counts sums squares → AreLong counts' sums' squares'
-      → ((j : ℕ) → j < width → accumulator_at counts' sums' squares' j ≡ counted_four f (accumulator_at counts sums squares j) (from val (i * sids + base) j)
+  pub tile_four : (i : ℕ) (t t' : Accumulators) → i + 4 ≤ iids → TileCounted i t
+      → ((j : ℕ) → j < width → accumulator_at t' j ≡ counted_four f (accumulator_at t j) (from val (i * sids + base) j)
       (from val (i * sids + base + sids) j) (from val (i * sids + base + sids + sids) j) (from val (i * sids + base + sids + sids + sids) j))
-      → TileCounted (i + 4) counts' sums' squares'
+      → TileCounted (i + 4) t'
   unfolding value matrix_place
-  tile_four i counts sums squares counts' sums' squares' h p l e = record {
+  tile_four i t t' h p e = record {
     within = omega arith;
-    long = l;
     each = λ j k.
         let m1 : (i + 1) * sids ≡ i * sids + sids = add-mul i 1 sids ∙ ap (λ (x : ℕ). i * sids + x) (omega arith) in
         let m2 : (i + 2) * sids ≡ i * sids + (sids + sids) = add-mul i 2 sids ∙ ap (λ (x : ℕ). i * sids + x) (omega arith) in
@@ -138,19 +119,19 @@ module _ (f : Format) (iids sids base width : ℕ) (val : List Float) where
         let p3 : i * sids + base + sids + sids + sids + j ≡ (i + 3) * sids + (base + j) = omega arith in
         accumulated_four f (λ a. get_or val (a * sids + (base + j)) nan) i
         (e j k
-        ∙ ap (λ (x : ℕ). counted_four f (accumulator_at counts sums squares j) (get_or val x nan) (from val (i * sids + base + sids) j) (from val (i * sids + base + sids + sids) j) (from val (i * sids + base + sids + sids + sids) j)) p0
-        ∙ ap (λ (x : ℕ). counted_four f (accumulator_at counts sums squares j) (get_or val (i * sids + (base + j)) nan) (get_or val x nan) (from val (i * sids + base + sids + sids) j) (from val (i * sids + base + sids + sids + sids) j)) p1
-        ∙ ap (λ (x : ℕ). counted_four f (accumulator_at counts sums squares j) (get_or val (i * sids + (base + j)) nan) (get_or val ((i + 1) * sids + (base + j)) nan) (get_or val x nan) (from val (i * sids + base + sids + sids + sids) j)) p2
-        ∙ ap (λ (x : ℕ). counted_four f (accumulator_at counts sums squares j) (get_or val (i * sids + (base + j)) nan) (get_or val ((i + 1) * sids + (base + j)) nan) (get_or val ((i + 2) * sids + (base + j)) nan) (get_or val x nan)) p3)
+        ∙ ap (λ (x : ℕ). counted_four f (accumulator_at t j) (get_or val x nan) (from val (i * sids + base + sids) j) (from val (i * sids + base + sids + sids) j) (from val (i * sids + base + sids + sids + sids) j)) p0
+        ∙ ap (λ (x : ℕ). counted_four f (accumulator_at t j) (get_or val (i * sids + (base + j)) nan) (get_or val x nan) (from val (i * sids + base + sids + sids) j) (from val (i * sids + base + sids + sids + sids) j)) p1
+        ∙ ap (λ (x : ℕ). counted_four f (accumulator_at t j) (get_or val (i * sids + (base + j)) nan) (get_or val ((i + 1) * sids + (base + j)) nan) (get_or val x nan) (from val (i * sids + base + sids + sids + sids) j)) p2
+        ∙ ap (λ (x : ℕ). counted_four f (accumulator_at t j) (get_or val (i * sids + (base + j)) nan) (get_or val ((i + 1) * sids + (base + j)) nan) (get_or val ((i + 2) * sids + (base + j)) nan) (get_or val x nan)) p3)
         (p.each j k);
   }
 
-  pub tile_all : (i : ℕ) (counts sums squares : List Float) → TileCounted i counts sums squares → iids ≤ i
-      → (j : ℕ) → j < width → accumulator_at counts sums squares j ≡ accumulated f (λ a. value true iids sids val a (base + j)) iids
-  tile_all i counts sums squares p h j k = let w : i ≤ iids = p.within in let z : i ≡ iids = omega arith in p.each j k ∙ ap (accumulated f (λ a. value true iids sids val a (base + j))) z
+  pub tile_all : (i : ℕ) (t : Accumulators) → TileCounted i t → iids ≤ i
+      → (j : ℕ) → j < width → accumulator_at t j ≡ accumulated f (λ a. value true iids sids val a (base + j)) iids
+  tile_all i t p h j k = let w : i ≤ iids = p.within in let z : i ≡ iids = omega arith in p.each j k ∙ ap (accumulated f (λ a. value true iids sids val a (base + j))) z
 
 -- ---- what is found for a marker of a tile
-pub tile_found : (f : Format) (iids sids : ℕ) (val stats : List Float) (m : ℕ) (a : Accumulator) (r : MarkerStats) → r ≡ stats_from f a
+pub tile_found : (f : Format) (iids sids : ℕ) (val stats : List Float) (m : ℕ) (a : Accumulator) (r : Result MarkerStats MarkerError) → r ≡ stats_from f a
     → a ≡ accumulated f (λ i. value true iids sids val i m) iids → r ≡ found f true iids sids val false stats m
 unfolding found found_for
 tile_found f iids sids val stats m a r e g = e ∙ ap (stats_from f) g ∙ stats_from_law f (λ i. value true iids sids val i m) iids
@@ -174,7 +155,7 @@ module _ (f : Format) (iids sids : ℕ) (val : List Float) (base : ℕ) (answer�
   passed_tile j width answer stats p h k first q =
       let z : j ≡ width = omega arith in subst (λ (x : ℕ). StatsPassed sids (found f true iids sids val false first) first (base + x) answer stats) z (p.passed first q)
 
-  pub passed_from_more : (j : ℕ) (answer : Answer) (stats : List Float) → PassedFrom j answer stats → base + j < sids → (a : Accumulator) (r : MarkerStats) → r ≡ stats_from f a
+  pub passed_from_more : (j : ℕ) (answer : Answer) (stats : List Float) → PassedFrom j answer stats → base + j < sids → (a : Accumulator) (r : Result MarkerStats MarkerError) → r ≡ stats_from f a
       → a ≡ accumulated f (λ i. value true iids sids val i (base + j)) iids → (answer' : Answer) (stats' : List Float) → answer' ≡ if_done answer (marker_answer (base + j) r) answer
       → length stats' ≡ length stats
       → stats' ≡ stored_stats r (base + j) stats
@@ -186,5 +167,7 @@ module _ (f : Format) (iids sids : ℕ) (val : List Float) (base : ℕ) (answer�
   }
 
 -- accumulators of zeros
-pub zeros_start : (j : ℕ) → j < tile_width → accumulator_at (replicate tile_width plus_zero) (replicate tile_width plus_zero) (replicate tile_width plus_zero) j ≡ start
+pub zeros_start : (j : ℕ) → j < tile_width
+    → accumulator_at (record { counts = replicate tile_width plus_zero; sums = replicate tile_width plus_zero; squares = replicate tile_width plus_zero }) j ≡ start
+unfolding triple
 zeros_start j h = ap (λ (x : Float). triple x x x) (get_or-replicate tile_width j plus_zero nan h)

@@ -1,5 +1,5 @@
 -- What only private functions speak in: the buffers, accumulators, and how far a pass has come.
-use Rattle.std.specs.Prelude.{◌≡◌, Bool, true, ◌&&◌, cond, List, ℕ, zero, suc, ◌+◌, ◌*◌, ◌<◌, ◌≤◌, leb, ltb, length, get_or, set, Float}
+use Rattle.std.specs.Prelude.{◌≡◌, Bool, true, ◌&&◌, cond, List, ℕ, zero, suc, ◌+◌, ◌*◌, ◌<◌, ◌≤◌, leb, ltb, length, get_or, set, Float, Result}
 use Rattle.std.specs.Float.{nan, Format}
 use Rattle.std.specs.Float.Ieee.{div}
 use Rattle.answer.specs.Answer.{Answer}
@@ -7,6 +7,10 @@ use Rattle.answer.specs.Matrix.{matrix}
 use Rattle.statistics.specs.declared.Accumulator.{Accumulator}
 use Rattle.statistics.specs.declared.Stats.{Stats}
 use Rattle.statistics.specs.declared.MarkerStats.{MarkerStats}
+use Rattle.statistics.specs.declared.MarkerError.{MarkerError}
+use Rattle.statistics.specs.declared.Scale.{Scale}
+use Rattle.standardise.specs.declared.animal_order.Accumulators.{Accumulators}
+use Rattle.standardise.specs.declared.animal_order.Scales.{Scales}
 use Rattle.statistics.specs.Statistics.{one, counted, accumulated, stats_per_marker, stats_at, is_infinite, standardised, scaled_by}
 use Rattle.standardise.specs.Standardised.{value, kept_or_new, applied, lowest_refused, new_stats, new_values}
 
@@ -28,7 +32,7 @@ FindsStats f order iids sids val use_stats stats said stats_after =
     (said ≡ lowest_refused f order iids sids val use_stats stats) × (stats_after ≡ new_stats f order iids sids val use_stats stats)
 
 -- the later value of one of a marker's values, by the choice to apply
-unfoldable pub later_value : Format → Bool → MarkerStats → Float → Float
+unfoldable pub later_value : Format → Bool → Result MarkerStats MarkerError → Float → Float
 unfolding applied
 later_value f apply found v = cond apply (applied f found v) v
 
@@ -50,7 +54,7 @@ abbrev pub StatsIn : List Float → ℕ → Type 0
 StatsIn stats m = m * stats_per_marker + stats_per_marker ≤ length stats
 
 -- the buffer after marker m
-abbrev pub stored_stats : MarkerStats → ℕ → List Float → List Float
+abbrev pub stored_stats : Result MarkerStats MarkerError → ℕ → List Float → List Float
 stored_stats found m stats =
     written stats (λ c. m * stats_per_marker + c) (λ c. kept_or_new found c (get_or stats (m * stats_per_marker + c) nan)) stats_per_marker
 
@@ -67,27 +71,27 @@ Accumulates f a i v0 v1 v2 v3 b k =
     × ((column : ℕ → Float) → v0 ≡ column i → v1 ≡ column (i + 1) → v2 ≡ column (i + 2) → v3 ≡ column (i + 3)
     → a ≡ accumulated f column i → b ≡ accumulated f column k)
 
--- the accumulator that stands at place j of three lists
-abbrev pub accumulator_at : List Float → List Float → List Float → ℕ → Accumulator
-accumulator_at counts sums squares j = record { count = get_or counts j nan; sum = get_or sums j nan; squares = get_or squares j nan }
-
 -- ---- a tile: neighbouring markers in animal order
 -- how many are taken at a time
 abbrev pub tile_width : ℕ
 tile_width = 1024
 
--- three lists with a number for each marker of a tile
-pub record AreLong (xs ys zs : List Float) : Type 0 where
-  pub first_long : length xs ≡ tile_width
-  pub second_long : length ys ≡ tile_width
-  pub third_long : length zs ≡ tile_width
+-- the accumulator of marker j of a tile, and the tile after a store of one
+abbrev pub accumulator_at : Accumulators → ℕ → Accumulator
+accumulator_at t j = record { count = get_or t.counts j nan; sum = get_or t.sums j nan; squares = get_or t.squares j nan }
+
+abbrev pub accumulators_set : Accumulators → ℕ → Accumulator → Accumulators
+accumulators_set t j a = record { counts = set t.counts j a.count; sums = set t.sums j a.sum; squares = set t.squares j a.squares }
+
+-- its arrays have a number for each of its markers
+pub record AreLong (t : Accumulators) : Type 0 where
+  pub first_long : length t.counts ≡ tile_width
+  pub second_long : length t.sums ≡ tile_width
+  pub third_long : length t.squares ≡ tile_width
 
 -- the accumulators of the first `width` markers make a step
-abbrev pub TileStep :
-    ℕ → (ℕ → Accumulator → Accumulator) → List Float → List Float → List Float → List Float → List Float → List Float → Type 0
-TileStep width step counts sums squares counts_after sums_after squares_after =
-    AreLong counts_after sums_after squares_after
-    × ((j : ℕ) → j < width → accumulator_at counts_after sums_after squares_after j ≡ step j (accumulator_at counts sums squares j))
+abbrev pub TileStep : ℕ → (ℕ → Accumulator → Accumulator) → Accumulators → Accumulators → Type 0
+TileStep width step t later = (j : ℕ) → j < width → accumulator_at later j ≡ step j (accumulator_at t j)
 
 -- the values of four animals more, which stand a stride apart
 abbrev pub counted_rows : Format → List Float → ℕ → ℕ → ℕ → Accumulator → Accumulator
@@ -95,16 +99,17 @@ counted_rows f val start stride j a =
     counted_four f a (from val start j) (from val (start + stride) j) (from val (start + stride + stride) j) (from val (start + stride + stride + stride) j)
 
 -- ---- applying in animal order
--- the values of neighbouring markers, standardised by what stands at place j of three lists
-unfoldable pub scaled_at : Format → List Float → List Float → List Float → ℕ → Float → Float
-unfolding scaled_by is_infinite
-scaled_at f means deviations factors j v = scaled_by f (get_or means j nan) (get_or factors j nan) (is_infinite (get_or deviations j nan)) v
+-- what standardises the values of marker j of a tile, and of a marker with the statistics s
+abbrev pub scale_at : Scales → ℕ → Scale
+scale_at t j = record { mean = get_or t.means j nan; factor = get_or t.factors j nan; infinite = is_infinite (get_or t.deviations j nan) }
 
--- a marker's statistics with the reciprocal of the deviation
-pub record IsLoaded (f : Format) (s : Stats) (mean deviation factor : Float) : Type 0 where
-  pub its_mean : mean ≡ s.mean
-  pub its_deviation : deviation ≡ s.deviation
-  pub its_factor : factor ≡ div f one s.deviation
+abbrev pub scale_of : Format → Stats → Scale
+scale_of f s = record { mean = s.mean; factor = div f one s.deviation; infinite = is_infinite s.deviation }
+
+-- a value of marker j of a tile, standardised
+unfoldable pub scaled_at : Format → Scales → ℕ → Float → Float
+unfolding scaled_by
+scaled_at f t j v = scaled_by f (scale_at t j).mean (scale_at t j).factor (scale_at t j).infinite v
 
 -- an animal-order matrix whose markers are all standardised, and one of which only `width` markers from marker `base` on are
 unfoldable pub all_applied : Format → ℕ → ℕ → List Float → List Float → List Float

@@ -1,22 +1,24 @@
 -- What standardising answers and what it leaves in the two lent buffers. Definitions only.
+use Rattle.std.specs.Prelude.{Option, Some, None, Result, Ok, Err}
 use Rattle.std.specs.Prelude.{◌≡◌, Bool, ◌&&◌, List, [], ◌∷◌, ℕ, zero, suc, ◌+◌, ◌*◌, pos, eqb, length, get_or, Float}
 use Rattle.std.proofs.Math.Bool.{true, false, cond}
 use Rattle.std.specs.Float.{nan, Format}
 use Rattle.answer.specs.Answer.{Answer, done, refused, check, check_count, is_done, if_done}
 use Rattle.answer.specs.Matrix.{matrix_place, matrix}
 use Rattle.statistics.specs.declared.MarkerStats.{MarkerStats}
-use Rattle.statistics.specs.declared.MarkerStats.TheVariants.{Lent, Found, NoIndividuals, IllegalSnpMean}
+use Rattle.statistics.specs.declared.Stats.{Stats}
+use Rattle.statistics.specs.declared.MarkerError.{MarkerError}
+use Rattle.statistics.specs.declared.MarkerError.TheVariants.{NoIndividuals, IllegalSnpMean}
 use Rattle.statistics.specs.Statistics.{found_for, stats_per_marker, in_places, stats_at, standardised}
 
 -- "13 and 14 carry the marker's place in the matrix, from 0"
-unfoldable pub marker_answer : ℕ → MarkerStats → Answer
-marker_answer m (Lent s) = done []
-marker_answer m (Found s observed) = done []
-marker_answer m NoIndividuals = refused 13 (pos m ∷ [])
-marker_answer m IllegalSnpMean = refused 14 (pos m ∷ [])
+unfoldable pub marker_answer : ℕ → Result MarkerStats MarkerError → Answer
+marker_answer m (Ok found) = done []
+marker_answer m (Err NoIndividuals) = refused 13 (pos m ∷ [])
+marker_answer m (Err IllegalSnpMean) = refused 14 (pos m ∷ [])
 
 -- "lowest refused marker" of the first n: the lowest of those before, or else the last one
-unfoldable pub markers_answer : (ℕ → MarkerStats) → ℕ → Answer
+unfoldable pub markers_answer : (ℕ → Result MarkerStats MarkerError) → ℕ → Answer
 unfolding if_done marker_answer
 markers_answer found zero = done []
 markers_answer found (suc n) = if_done (markers_answer found n) (marker_answer n (found n)) (markers_answer found n)
@@ -29,21 +31,25 @@ buffer_checks iids sids val stats markers =
     check_count iids
     (check_count sids (check (eqb (iids * sids) (length val)) 15 (check (eqb (stats_per_marker * sids) (length stats)) 17 markers)))
 
--- "At 13 or 14 refused markers keep old statistics, others get new ones", and lent ones stay: what place c of a marker's statistics holds
-unfoldable pub kept_or_new : MarkerStats → ℕ → Float → Float
+-- what place c of a marker's statistics holds where the marker is not refused: lent ones stay, others are new
+unfoldable pub lent_or_new : Stats → Option Float → ℕ → Float → Float
 unfolding in_places
-kept_or_new (Lent s) c old = old
-kept_or_new (Found s observed) c old = get_or (in_places s observed) c nan
-kept_or_new NoIndividuals c old = old
-kept_or_new IllegalSnpMean c old = old
+lent_or_new s None c old = old
+lent_or_new s (Some observed) c old = get_or (in_places s observed) c nan
+
+-- "At 13 or 14 refused markers keep old statistics, others get new ones", and lent ones stay: what place c of a marker's statistics holds
+unfoldable pub kept_or_new : Result MarkerStats MarkerError → ℕ → Float → Float
+unfolding lent_or_new
+kept_or_new (Ok found) c old = lent_or_new found.stats found.observed c old
+kept_or_new (Err NoIndividuals) c old = old
+kept_or_new (Err IllegalSnpMean) c old = old
 
 -- "still applies to every marker not refused": the later value of a marker's value
-unfoldable pub applied : Format → MarkerStats → Float → Float
+unfoldable pub applied : Format → Result MarkerStats MarkerError → Float → Float
 unfolding standardised
-applied f (Lent s) v = standardised f s v
-applied f (Found s observed) v = standardised f s v
-applied f NoIndividuals v = v
-applied f IllegalSnpMean v = v
+applied f (Ok found) v = standardised f found.stats v
+applied f (Err NoIndividuals) v = v
+applied f (Err IllegalSnpMean) v = v
 
 -- the value of animal i at marker m, of a matrix in animal order (true) or marker order (false)
 unfoldable pub value : Bool → ℕ → ℕ → List Float → ℕ → ℕ → Float
@@ -53,7 +59,7 @@ value order iids sids val i m = get_or val (matrix_place order iids sids i m) na
 -- a call
 module _ (f : Format) (order : Bool) (iids sids : ℕ) (val : List Float) (use_stats : Bool) (stats : List Float) where
   -- what there is for marker m
-  unfoldable pub found : ℕ → MarkerStats
+  unfoldable pub found : ℕ → Result MarkerStats MarkerError
   unfolding found_for stats_at value
   found m = found_for f use_stats (stats_at stats m) iids (λ i. value order iids sids val i m)
 

@@ -10,7 +10,7 @@ mod answers;
 mod marker_order;
 mod stats_buffer;
 
-pub use answers::StandardiseAnswer;
+pub use answers::StandardiseError;
 pub use stats_buffer::STATS_PER_MARKER;
 
 // Makes the markers of a matrix zero-mean with unit deviation and puts +0 for missing values. The statistics buffer has the mean, the
@@ -23,22 +23,23 @@ pub fn impute_and_zero_mean_snps_f64(
     apply_in_place: bool,
     use_stats: bool,
     stats: &mut [f64],
-) -> StandardiseAnswer
+) -> Result<(), StandardiseError>
     ensures { Standardises binary64 animal_order iid_count sid_count val.old use_stats stats.old apply_in_place
         (standardise_says result) val.new stats.new }
 {
     if iid_count > answer::COUNT_LIMIT {
-        return StandardiseAnswer::CountTooLarge;
+        return Err(StandardiseError::CountTooLarge);
     }
     if sid_count > answer::COUNT_LIMIT {
-        return StandardiseAnswer::CountTooLarge;
+        return Err(StandardiseError::CountTooLarge);
     }
     if !blocks::product_is(iid_count, sid_count, val.len()) {
-        return StandardiseAnswer::IndexMismatch;
+        return Err(StandardiseError::IndexMismatch);
     }
     if !blocks::product_is(STATS_PER_MARKER, sid_count, stats.len()) {
-        return StandardiseAnswer::StatsMismatch;
+        return Err(StandardiseError::StatsMismatch);
     }
+    // Both orders take the call's own parameters: in a struct, each contract would name its fields in place of them, and be no plainer.
     if animal_order {
         return animal_order::process_all_iids(
             val,

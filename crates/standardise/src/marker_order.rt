@@ -1,78 +1,51 @@
 // A matrix in marker order: each marker in turn, whose values stand together.
 ghost use Rattle.std.specs.Prelude.{◌≡◌, false, ◌+◌, ◌^◌, ◌≤◌, ◌<◌, length};
 ghost use Rattle.std.specs.Float.{binary64};
-ghost use Rattle.statistics.specs.Statistics.{counted, marker_stats, found_for, stats_at, standardised};
+ghost use Rattle.statistics.specs.Statistics.{marker_stats, found_for, stats_at, standardised};
 ghost use Rattle.standardise.specs.Says.{standardise_says};
 ghost use Rattle.standardise.specs.Private.{StatsIn, BuffersFit, from, changed, later_value, stored_stats, Accumulates, Processes};
 
-use crate::answers::StandardiseAnswer;
+use crate::answers::StandardiseError;
 use crate::{answers, stats_buffer};
-use statistics::{Accumulator, MarkerStats, Stats};
+use statistics::{Accumulator, MarkerError, MarkerStats, Stats};
 
-// An accumulator and how many animals it has passed.
-#[derive(Clone, Copy)]
-struct Passed {
-    a: Accumulator,
-    i: usize,
-}
-
-fn add_one(a: Accumulator, i: usize, v: f64) -> Passed
-    requires { i + 1 < 2 ^ 64 }
-    ensures { (result.i ≡ i + 1) × (result.a ≡ counted binary64 a v) }
-{
-    let more = statistics::add_value(a, v);
-    let next = i + 1;
-    Passed { a: more, i: next }
-}
-
-// Four values more where none is a NaN, so that no sum waits for a test; else one more.
-fn add_some(a: Accumulator, i: usize, v0: f64, v1: f64, v2: f64, v3: f64) -> Passed
+// Four values more where none is a NaN, so that no sum waits for a test; else one more, or a NaN passed over. With how many animals are passed then.
+fn add_some(a: Accumulator, i: usize, v0: f64, v1: f64, v2: f64, v3: f64) -> (Accumulator, usize)
     requires { i + 4 < 2 ^ 64 }
-    ensures { Accumulates binary64 a i v0 v1 v2 v3 result.a result.i }
+    ensures { Accumulates binary64 a i v0 v1 v2 v3 result.0 result.1 }
 {
-    if v0 != v0 {
-        return add_one(a, i, v0);
+    if v0.is_nan() {
+        return (a, i + 1);
     }
-    if v1 != v1 {
-        return add_one(a, i, v0);
-    }
-    if v2 != v2 {
-        return add_one(a, i, v0);
-    }
-    if v3 != v3 {
-        return add_one(a, i, v0);
+    if v1.is_nan() || v2.is_nan() || v3.is_nan() {
+        return (a.add_value(v0), i + 1);
     }
     let four = Accumulator {
         count: a.count + 1.0 + 1.0 + 1.0 + 1.0,
         sum: a.sum + v0 + v1 + v2 + v3,
         squares: a.squares + v0 * v0 + v1 * v1 + v2 * v2 + v3 * v3,
     };
-    let next = i + 4;
-    Passed { a: four, i: next }
+    (four, i + 4)
 }
 
 // The statistics of the `iid_count` values from `start` on.
-fn column_stats(val: &[f64], start: usize, iid_count: usize) -> MarkerStats
+fn column_stats(val: &[f64], start: usize, iid_count: usize) -> Result<MarkerStats, MarkerError>
     requires { start + iid_count ≤ length val.now }
     ensures { result ≡ marker_stats binary64 iid_count (from val.now start) }
 {
-    let mut a = Accumulator {
-        count: 0.0,
-        sum: 0.0,
-        squares: 0.0,
-    };
-    let mut i = 0;
-    while iid_count - i > 3 {
-        let at = start + i;
-        let passed = add_some(a, i, val[at], val[at + 1], val[at + 2], val[at + 3]);
-        a = passed.a;
-        i = passed.i;
+    let mut a = Accumulator::default();
+    let mut passed = 0;
+    // A `while`, whose step is one or four: a `for` over fours, which tests each of a four with a NaN, took 1.03 of the time (2 % missing).
+    while iid_count - passed > 3 {
+        let at = start + passed;
+        let some = add_some(a, passed, val[at], val[at + 1], val[at + 2], val[at + 3]);
+        a = some.0;
+        passed = some.1;
     }
-    while i < iid_count {
-        a = statistics::add_value(a, val[start + i]);
-        i += 1;
+    for i in passed..iid_count {
+        a = a.add_value(val[start + i]);
     }
-    statistics::find_stats(a)
+    a.find_stats()
 }
 
 // Standardises the `iid_count` values from `start` on.
@@ -80,15 +53,10 @@ fn apply_column(val: &mut [f64], start: usize, iid_count: usize, s: Stats)
     requires { start + iid_count ≤ length val.old }
     ensures { val.new ≡ changed val.old start iid_count (standardised binary64 s) }
 {
-    let mean = s.mean;
-    let deviation = s.deviation;
-    let factor = statistics::find_factor(deviation);
-    let infinite = statistics::is_infinite(deviation);
-    let mut i = 0;
-    while i < iid_count {
+    let scale = s.scale();
+    for i in 0..iid_count {
         let at = start + i;
-        val[at] = statistics::scaled(val[at], mean, factor, infinite);
-        i += 1;
+        val[at] = scale.scaled(val[at]);
     }
 }
 
@@ -100,12 +68,15 @@ fn marker_stats(
     m: usize,
     use_stats: bool,
     stats: &[f64],
-) -> MarkerStats
+) -> Result<MarkerStats, MarkerError>
     requires { (start + iid_count ≤ length val.now) × StatsIn stats.now m }
     ensures { result ≡ found_for binary64 use_stats (stats_at stats.now m) iid_count (from val.now start) }
 {
     if use_stats {
-        return MarkerStats::Lent(stats_buffer::get_stats(stats, m));
+        return Ok(MarkerStats {
+            stats: stats_buffer::get_stats(stats, m),
+            observed: None,
+        });
     }
     column_stats(val, start, iid_count)
 }
@@ -115,7 +86,7 @@ fn apply_found(
     val: &mut [f64],
     start: usize,
     iid_count: usize,
-    found: MarkerStats,
+    found: Result<MarkerStats, MarkerError>,
     apply_in_place: bool,
 )
     requires { start + iid_count ≤ length val.old }
@@ -124,11 +95,8 @@ fn apply_found(
     if !apply_in_place {
         return;
     }
-    match found {
-        MarkerStats::Lent(s) => apply_column(val, start, iid_count, s),
-        MarkerStats::Found(s, _) => apply_column(val, start, iid_count, s),
-        MarkerStats::NoIndividuals => {}
-        MarkerStats::IllegalSnpMean => {}
+    if let Ok(found) = found {
+        apply_column(val, start, iid_count, found.stats);
     }
 }
 
@@ -141,7 +109,7 @@ fn process_sid(
     apply_in_place: bool,
     use_stats: bool,
     stats: &mut [f64],
-) -> MarkerStats
+) -> Result<MarkerStats, MarkerError>
     requires { (start + iid_count ≤ length val.old) × StatsIn stats.old m }
     ensures { (result ≡ found_for binary64 use_stats (stats_at stats.old m) iid_count (from val.old start))
         × (val.new ≡ changed val.old start iid_count (later_value binary64 apply_in_place result))
@@ -161,18 +129,16 @@ pub(crate) fn process_all_sids(
     apply_in_place: bool,
     use_stats: bool,
     stats: &mut [f64],
-) -> StandardiseAnswer
+) -> Result<(), StandardiseError>
     requires { BuffersFit iid_count sid_count val.old stats.old }
     ensures { Processes binary64 false iid_count sid_count val.old use_stats stats.old apply_in_place
         (standardise_says result) val.new stats.new }
 {
-    let mut answer = StandardiseAnswer::Done;
-    let mut m = 0;
-    while m < sid_count {
+    let mut answer = Ok(());
+    for m in 0..sid_count {
         let start = m * iid_count;
         let found = process_sid(val, start, iid_count, m, apply_in_place, use_stats, stats);
-        answer = answers::first_refusal(answer, answers::marker_answer(m, found));
-        m += 1;
+        answer = answer.and(answers::marker_answer(m, found));
     }
     answer
 }

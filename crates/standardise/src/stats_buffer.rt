@@ -4,7 +4,7 @@ ghost use Rattle.std.specs.Float.{nan};
 ghost use Rattle.statistics.specs.Statistics.{stats_per_marker, in_places, stats_at};
 ghost use Rattle.standardise.specs.Private.{StatsIn, written, stored_stats};
 
-use statistics::{MarkerStats, Stats};
+use statistics::{MarkerError, MarkerStats, Stats};
 
 // How many numbers a marker has in the statistics buffer: mean, deviation, observed count.
 pub const STATS_PER_MARKER: usize = 3;
@@ -32,14 +32,13 @@ fn put_stats(stats: &mut [f64], m: usize, s: Stats, observed: f64)
 }
 
 // Stores what is found for marker m; lent statistics stay, and a refused marker keeps its old ones.
-pub(crate) fn put_found(stats: &mut [f64], m: usize, found: MarkerStats)
+pub(crate) fn put_found(stats: &mut [f64], m: usize, found: Result<MarkerStats, MarkerError>)
     requires { StatsIn stats.old m }
     ensures { stats.new ≡ stored_stats found m stats.old }
 {
-    match found {
-        MarkerStats::Lent(_) => {}
-        MarkerStats::Found(s, observed) => put_stats(stats, m, s, observed),
-        MarkerStats::NoIndividuals => {}
-        MarkerStats::IllegalSnpMean => {}
+    if let Ok(found) = found {
+        if let Some(observed) = found.observed {
+            put_stats(stats, m, found.stats, observed);
+        }
     }
 }

@@ -10,11 +10,13 @@ use lib.Ieee.{Float, nan, inf, fin, Format, binary32, binary64, up, down, round,
 use lib.Ieee.Fits.{down_pos}
 use lib.Ieee.Order.{round_mono}
 use borrow.Author.Tests.{le-ltb}
+use Rattle.std.specs.Prelude.{Option, Some, None, Result, Ok, Err}
 use Rattle.statistics.specs.declared.Accumulator.{Accumulator}
 use Rattle.statistics.specs.declared.Stats.{Stats}
 use Rattle.statistics.specs.declared.MarkerStats.{MarkerStats}
-use Rattle.statistics.specs.declared.MarkerStats.TheVariants.{Lent, Found, NoIndividuals, IllegalSnpMean}
-use Rattle.statistics.specs.Statistics.{plus_zero, one, counted, accumulated, mean, stats_of, no_value, marker_stats, found_for}
+use Rattle.statistics.specs.declared.MarkerError.{MarkerError}
+use Rattle.statistics.specs.declared.MarkerError.TheVariants.{NoIndividuals, IllegalSnpMean}
+use Rattle.statistics.specs.Statistics.{plus_zero, one, counted, accumulated, mean, stats_of, no_value, lent, found_with, marker_stats, found_for}
 use Rattle.statistics.specs.Statistics.{stats_from}
 
 pub one_whole : (f : Format) → round f false 1 1 ≡ one
@@ -89,17 +91,21 @@ pub stats_from_law : (f : Format) (column : ℕ → Float) (n : ℕ) → stats_f
 unfolding stats_from marker_stats
 stats_from_law f column n =
     let a = accumulated f column n in
-    ap (λ (b : Bool). cond b NoIndividuals (cond (is_nan (mean f a)) IllegalSnpMean (Found (stats_of f a) a.count))) (few (no_value column n) a.count (counts f column n))
+    ap (λ (b : Bool). cond b (Err NoIndividuals) (cond (is_nan (mean f a)) (Err IllegalSnpMean) (Ok (found_with (stats_of f a) a.count)))) (few (no_value column n) a.count (counts f column n))
 
 -- what is found is not lent
-pub found_not_lent : (f : Format) (n : ℕ) (column : ℕ → Float) (s : Stats) → marker_stats f n column ≡ Lent s → ⊥
+abbrev observed_of : Result MarkerStats MarkerError → Option Float
+observed_of (Ok found) = found.observed
+observed_of (Err e) = None
+
+pub found_not_lent : (f : Format) (n : ℕ) (column : ℕ → Float) (s : Stats) → marker_stats f n column ≡ Ok (lent s) → ⊥
 unfolding marker_stats
 found_not_lent f n column s = go (no_value column n) (is_nan (mean f (accumulated f column n)))
   where
-    go : (p q : Bool) → cond p NoIndividuals (cond q IllegalSnpMean (Found (stats_of f (accumulated f column n)) (accumulated f column n).count)) ≡ Lent s → ⊥
+    go : (p q : Bool) → cond p (Err NoIndividuals) (cond q (Err IllegalSnpMean) (Ok (found_with (stats_of f (accumulated f column n)) (accumulated f column n).count))) ≡ Ok (lent s) → ⊥
     go true q e = let z : ◌≡◌ {A = ℕ} 0 1 = cc in omega arith
     go false true e = let z : ◌≡◌ {A = ℕ} 0 1 = cc in omega arith
-    go false false e = let z : ◌≡◌ {A = ℕ} 0 1 = cc in omega arith
+    go false false e = let o : Some (accumulated f column n).count ≡ None = ap observed_of e in let z : ◌≡◌ {A = ℕ} 0 1 = cc in omega arith
 
 -- ---- only the values of the animals count
 module _ (f : Format) (c d : ℕ → Float) where
@@ -130,7 +136,7 @@ unfolding accumulated
 accumulated_more f column n {a} {b} e g = e ∙ ap (λ (x : Accumulator). counted f x (column n)) g ∙ ap (accumulated f column) (sym (add-one n))
 
 -- all animals
-pub column_found : (f : Format) (column : ℕ → Float) (n i : ℕ) {a : Accumulator} {r : MarkerStats} → r ≡ stats_from f a → a ≡ accumulated f column i → i ≤ n → n ≤ i
+pub column_found : (f : Format) (column : ℕ → Float) (n i : ℕ) {a : Accumulator} {r : Result MarkerStats MarkerError} → r ≡ stats_from f a → a ≡ accumulated f column i → i ≤ n → n ≤ i
     → r ≡ marker_stats f n column
 column_found f column n i e g h k =
     let z : i ≡ n = omega arith in e ∙ ap (stats_from f) (g ∙ ap (accumulated f column) z) ∙ stats_from_law f column n

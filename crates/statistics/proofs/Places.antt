@@ -5,8 +5,8 @@ use mathlib.Core.List.{◌++◌}
 use lib.ListN.{length, get_or}
 use lib.Ieee.{Float, nan, binary64}
 use Rattle.statistics.specs.declared.Stats.{Stats}
-use Rattle.statistics.specs.declared.MarkerStats.TheVariants.{Lent}
-use Rattle.statistics.specs.Statistics.{found_for, stats_per_marker, in_places, stats_at}
+use Rattle.std.specs.Prelude.{Ok}
+use Rattle.statistics.specs.Statistics.{lent, found_for, stats_per_marker, in_places, stats_at}
 
 module _ (s : Stats) (observed : Float) where
   -- they fill the places
@@ -29,6 +29,6 @@ module _ (s : Stats) (observed : Float) where
   lent_back_behind r other = refl
 
 -- a marker with no value is not refused if statistics are lent
-pub none_but_lent : (s : Stats) → found_for binary64 true s 2 (λ i. nan) ≡ Lent s
+pub none_but_lent : (s : Stats) → found_for binary64 true s 2 (λ i. nan) ≡ Ok (lent s)
 unfolding found_for
 none_but_lent s = refl

@@ -16,7 +16,8 @@ use lib.Ieee.Order.{round_mono}
 use lib.Ieee.Scale.{finite, overflow}
 use borrow.Author.Tests.{ne_eqb}
 use Rattle.statistics.specs.declared.Accumulator.{Accumulator}
-use Rattle.statistics.specs.declared.MarkerStats.TheVariants.{NoIndividuals, IllegalSnpMean}
+use Rattle.std.specs.Prelude.{Err}
+use Rattle.statistics.specs.declared.MarkerError.TheVariants.{NoIndividuals, IllegalSnpMean}
 use Rattle.statistics.specs.Statistics.{plus_zero, one, counted, accumulated, mean, no_value, marker_stats}
 use Rattle.statistics.specs.Calls.{two, IsCall, is_zero, is_one, is_two, is_missing, whole, sum_limit, Calls}
 use Rattle.statistics.proofs.CountLaws.{at_most, not_below, Counts, counts}
@@ -163,10 +164,10 @@ module _ (f : Format) (column : ℕ → Float) where
       (subst (λ (b : Bool). Counts b (accumulated f column n).count) some (counts f column n))
 
   -- and a marker of calls is not refused for 14
-  pub calls_not_14 : (n : ℕ) → Calls column n → marker_stats f n column ≡ IllegalSnpMean → ⊥
+  pub calls_not_14 : (n : ℕ) → Calls column n → marker_stats f n column ≡ Err IllegalSnpMean → ⊥
   unfolding marker_stats
   calls_not_14 n calls =
-      not_second (no_value column n) (is_nan (mean f (accumulated f column n))) NoIndividuals IllegalSnpMean _ (mean_of_calls n calls)
+      not_second (no_value column n) (is_nan (mean f (accumulated f column n))) (Err NoIndividuals) (Err IllegalSnpMean) _ (mean_of_calls n calls)
       (λ e. let z : ◌≡◌ {A = ℕ} 0 1 = cc in omega arith) (λ e. let z : ◌≡◌ {A = ℕ} 0 1 = cc in omega arith)
 
 -- ---- the limit is met: by 2^53 calls of 2 at f64, 2^24 at f32
@@ -227,5 +228,5 @@ sample_mean : is_nan (mean binary64 (accumulated binary64 sample 3)) ≡ false
 unfolding no_value is_nan
 sample_mean = mean_of_calls binary64 sample 3 (sample_calls 3) refl
 
-sample_not_14 : marker_stats binary64 3 sample ≡ IllegalSnpMean → ⊥
+sample_not_14 : marker_stats binary64 3 sample ≡ Err IllegalSnpMean → ⊥
 sample_not_14 = calls_not_14 binary64 sample 3 (sample_calls 3)

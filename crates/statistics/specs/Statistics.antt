@@ -1,12 +1,14 @@
 -- The statistics of a marker, over the format f. A marker's values are a function of the animal's place. Definitions only.
 use Rattle.std.specs.Prelude.{Bool, true, false, ◌&&◌, ◌||◌, cond, List, [], ◌∷◌, ℕ, zero, suc, ◌+◌, ◌*◌, pos, get_or, Float}
+use Rattle.std.specs.Prelude.{Some, None, Result, Ok, Err}
 use Rattle.std.specs.Float.{nan, inf, fin, Format}
 use Rattle.std.specs.Float.Ieee.{add, sub, mul, div, lt, le, is_nan}
 use Rattle.root.specs.Root.{root}
 use Rattle.statistics.specs.declared.Accumulator.{Accumulator}
 use Rattle.statistics.specs.declared.Stats.{Stats}
 use Rattle.statistics.specs.declared.MarkerStats.{MarkerStats}
-use Rattle.statistics.specs.declared.MarkerStats.TheVariants.{Lent, Found, NoIndividuals, IllegalSnpMean}
+use Rattle.statistics.specs.declared.MarkerError.{MarkerError}
+use Rattle.statistics.specs.declared.MarkerError.TheVariants.{NoIndividuals, IllegalSnpMean}
 
 -- +0 and 1
 abbrev pub plus_zero : Float
@@ -53,17 +55,25 @@ unfoldable pub no_value : (ℕ → Float) → ℕ → Bool
 no_value column zero = true
 no_value column (suc n) = no_value column n && is_nan (column n)
 
+-- statistics that are lent, and those that are found, with their "observed count as f64" (02)
+abbrev pub lent : Stats → MarkerStats
+lent s = record { stats = s; observed = None }
+
+abbrev pub found_with : Stats → Float → MarkerStats
+found_with s observed = record { stats = s; observed = Some observed }
+
 -- what is found for a marker with n animals: 13 "has no non-NaN value", else 14 "has a NaN mean", else its pair of mean and deviation, and
--- the count as its "observed count as f64" (02)
-unfoldable pub marker_stats : Format → ℕ → (ℕ → Float) → MarkerStats
+-- the count as its observed count
+unfoldable pub marker_stats : Format → ℕ → (ℕ → Float) → Result MarkerStats MarkerError
 unfolding accumulated mean stats_of no_value
 marker_stats f n column =
-    let a = accumulated f column n in cond (no_value column n) NoIndividuals (cond (is_nan (mean f a)) IllegalSnpMean (Found (stats_of f a) a.count))
+    let a = accumulated f column n in
+    cond (no_value column n) (Err NoIndividuals) (cond (is_nan (mean f a)) (Err IllegalSnpMean) (Ok (found_with (stats_of f a) a.count)))
 
 -- "With lent statistics nothing is recomputed or refused for 13, 14.": what there is for a marker, whose lent statistics are s if some are lent
-unfoldable pub found_for : Format → Bool → Stats → ℕ → (ℕ → Float) → MarkerStats
+unfoldable pub found_for : Format → Bool → Stats → ℕ → (ℕ → Float) → Result MarkerStats MarkerError
 unfolding marker_stats
-found_for f true s n column = Lent s
+found_for f true s n column = Ok (lent s)
 found_for f false s n column = marker_stats f n column
 
 -- how many places a marker has in the statistics buffer, and its numbers in the order of their places:
@@ -91,9 +101,10 @@ standardised f s v = cond (is_nan v || is_infinite s.deviation) plus_zero (mul f
 -- ---- steps of the calculation
 
 -- what an accumulator says of its marker: it has no non-NaN value if its count is below 1
-unfoldable pub stats_from : Format → Accumulator → MarkerStats
+unfoldable pub stats_from : Format → Accumulator → Result MarkerStats MarkerError
 unfolding mean stats_of
-stats_from f a = cond (lt a.count one) NoIndividuals (cond (is_nan (mean f a)) IllegalSnpMean (Found (stats_of f a) a.count))
+stats_from f a =
+    cond (lt a.count one) (Err NoIndividuals) (cond (is_nan (mean f a)) (Err IllegalSnpMean) (Ok (found_with (stats_of f a) a.count)))
 
 -- a value standardised by the reciprocal of the deviation
 unfoldable pub scaled_by : Format → Float → Float → Bool → Float → Float

@@ -1,6 +1,3 @@
-pub mod WordLaws
-pub mod SignedLaws
-pub mod FloatLaws
-pub mod FillLaws
-pub mod SameLaws
-pub mod LineLaws
+pub mod ListLaws
+pub mod TextLaws
+pub mod PartLaws

@@ -1,4 +1,5 @@
 -- What the contracts of this crate cite.
+pub mod Lines
 pub mod Words
 pub mod Buffers
-pub mod Lines
+pub mod WordLaws

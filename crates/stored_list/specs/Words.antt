@@ -1,15 +1,37 @@
--- The words of a line: eleven sections of at most 64 words. Section k has its length at place 65 k, and its words after that.
-use Rattle.std.specs.Prelude.{cond, List, ℕ, ◌+◌, ◌*◌, ltb, get_or}
-use Rattle.stored_list.specs.declared.words.Numbers.{Numbers}
+-- The words of a line that was read.
+use Rattle.std.specs.Prelude.{List, [], ℕ, length, get_or}
+use Rattle.std.specs.Option.{unwrap_or}
+use Rattle.stored_list.specs.declared.line.Line.{Line}
+use Rattle.stored_list.specs.declared.line.Section.{Section}
+use Rattle.stored_list.specs.declared.line.Section.TheVariants.{Head, Bytes, Out, Index, List as Lists, I8s, F64s, Stats, Answer, Later, LaterStats}
+use Rattle.stored_list.specs.Lines.{line_of}
 
--- the length of section k, at most 64
-abbrev pub length_at : List ℕ → ℕ → ℕ
-length_at ws k = cond (ltb k 11) (cond (ltb (get_or ws (65 * k) 0) 64) (get_or ws (65 * k) 0) 64) 0
+-- the sections of a line, each its words
+abbrev pub sections_in : Line → List (List ℕ)
+sections_in line = unwrap_or (line_of line.text.now) []
 
--- word i of section k, or 0 past the places
-abbrev pub word_at : List ℕ → ℕ → ℕ → ℕ
-word_at ws k i = cond (ltb k 11) (cond (ltb i 64) (get_or ws (65 * k + 1 + i) 0) 0) 0
+-- the place of a section in a line
+abbrev pub place_of : Section → ℕ
+place_of Head = 0
+place_of Bytes = 1
+place_of Out = 2
+place_of Index = 3
+place_of Lists = 4
+place_of I8s = 5
+place_of F64s = 6
+place_of Stats = 7
+place_of Answer = 8
+place_of Later = 9
+place_of LaterStats = 10
 
--- the numbers of a call: the words of section 0 after the first two
-abbrev pub numbers_in : List ℕ → Numbers
-numbers_in ws = record { a = get_or ws 3 0; b = get_or ws 4 0; c = get_or ws 5 0; d = get_or ws 6 0; e = get_or ws 7 0; f = get_or ws 8 0 }
+-- the words of a section
+abbrev pub words_at : Line → Section → List ℕ
+words_at line section = get_or (sections_in line) (place_of section) []
+
+-- how many words a section has
+abbrev pub length_at : Line → Section → ℕ
+length_at line section = length (words_at line section)
+
+-- word i of a section, or 0 past its end
+abbrev pub word_at : Line → Section → ℕ → ℕ
+word_at line section i = get_or (words_at line section) i 0

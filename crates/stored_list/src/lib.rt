@@ -1,7 +1,7 @@
-// The stored list of answers: a line is read byte by byte into words, and its buffers are taken from the words and compared with them.
-// tools/differential/README.md has the form of a line. Section k of a line has its length at place 65 k, and its words after that.
+// The stored list of answers: a line is read from text into its sections, and values are taken from a section and compared with one.
+// tools/differential/README.md has the form of a line.
 #![tactic(auto)]
 
-pub mod buffers;
 pub mod line;
-pub mod words;
+pub mod stored;
+pub mod text;

@@ -1,190 +1,110 @@
-// A line, read byte by byte.
-ghost use Rattle.std.specs.Prelude.{◌≡◌};
-ghost use Rattle.stored_list.specs.Lines.{new_line, broken, digit_of, digit_read, word_ended, word_stored, last_word, last_stored};
-ghost use Rattle.stored_list.specs.Lines.{closed, closed_words, hashed, line_after, words_after};
+// A line, and what stands in its sections.
+ghost use Rattle.std.specs.Prelude.{◌≡◌, true, is_some};
+ghost use Rattle.stored_list.specs.Lines.{line_of};
 
-// How far a line was read: the sections before, the words of this section, the word so far; whether it is a comment, and whether it breaks the form.
-#[derive(Clone, Copy)]
-pub struct Line {
-    pub sections: usize,
-    pub count: usize,
-    pub word: usize,
-    pub is_word: bool,
-    pub is_comment: bool,
-    pub is_bad: bool,
+use crate::stored::Stored;
+use crate::text::{BadForm, is_section, word};
+
+// How many sections a line has.
+pub const SECTION_COUNT: usize = 11;
+
+// The sections, in the order of a line.
+#[derive(Clone, Copy, Debug, PartialEq, Eq)]
+pub enum Section {
+    // Whose answer it is, the call, and its six numbers.
+    Head,
+    Bytes,
+    Out,
+    Index,
+    List,
+    I8s,
+    F64s,
+    Stats,
+    Answer,
+    // The buffers that may be written, as they are after the call.
+    Later,
+    LaterStats,
 }
 
-// A line of which nothing was read.
-pub fn start() -> Line
-    ensures { result ≡ new_line }
-{
-    Line {
-        sections: 0,
-        count: 0,
-        word: 0,
-        is_word: false,
-        is_comment: false,
-        is_bad: false,
-    }
+// A text that has the form of a line. Its words are read where they are asked for.
+#[derive(Clone, Copy, Debug)]
+pub struct Line<'a> {
+    text: &'a str,
+    ghost has_form: { is_some (line_of text.now) ≡ true },
 }
 
-fn bad(line: Line) -> Line
-    ensures { result ≡ broken line }
-{
-    Line {
-        sections: line.sections,
-        count: line.count,
-        word: line.word,
-        is_word: line.is_word,
-        is_comment: line.is_comment,
-        is_bad: true,
-    }
-}
+impl<'a> Line<'a> {
+    ghost use Rattle.std.specs.Prelude.{◌≡◌, ◌+◌, ◌≤◌, length, Some, option_map};
+    ghost use Rattle.std.specs.Result.{result_ok};
+    ghost use Rattle.stored_list.specs.Lines.{line_of, words_of};
+    ghost use Rattle.stored_list.specs.Words.{sections_in, words_at, length_at, word_at};
+    ghost use Rattle.stored_list.specs.Buffers.{buffer_at, same_at};
 
-// The value of a hexadecimal digit, or 16.
-fn digit(byte: u8) -> usize
-    ensures { result ≡ digit_of byte }
-{
-    if byte < 48 {
-        return 16;
+    pub fn parse(text: &'a str) -> Result<Line<'a>, BadForm>
+        ensures { option_map sections_in (result_ok result) ≡ line_of text.now }
+    {
+        if text.split('|').count() == SECTION_COUNT && text.split('|').all(is_section) {
+            Ok(Line { text })
+        } else {
+            Err(BadForm)
+        }
     }
-    if byte < 58 {
-        return (byte - 48) as usize;
-    }
-    if byte < 97 {
-        return 16;
-    }
-    if byte < 103 {
-        return (byte - 87) as usize;
-    }
-    16
-}
 
-// One digit more.
-fn digit_read(line: Line, byte: u8) -> Line
-    ensures { result ≡ digit_read line byte }
-{
-    let digit = digit(byte);
-    let word = line.word;
-    if digit > 15 {
-        return bad(line);
+    // The text of a section.
+    fn section(&self, section: Section) -> &'a str
+        ensures { words_of result.now ≡ Some (words_at self.now section) }
+    {
+        self.text.split('|').nth(section as usize).unwrap_or("")
     }
-    if word >= 1152921504606846976 {
-        return bad(line);
-    }
-    Line {
-        sections: line.sections,
-        count: line.count,
-        word: word * 16 + digit,
-        is_word: true,
-        is_comment: line.is_comment,
-        is_bad: line.is_bad,
-    }
-}
 
-// The end of a word: it is stored.
-fn word_ended(line: Line, words: &mut [usize; 715]) -> Line
-    ensures { (result ≡ word_ended line) × (words.new ≡ word_stored line words.old) }
-{
-    let sections = line.sections;
-    let count = line.count;
-    if !line.is_word {
-        return bad(line);
+    // How many words a section has, at most 64.
+    pub fn len(&self, section: Section) -> usize
+        ensures { (result ≡ length_at self.now section) × (result ≤ 64) }
+    {
+        let text = self.section(section);
+        if text.is_empty() {
+            0
+        } else {
+            text.split(' ').count()
+        }
     }
-    if sections > 10 {
-        return bad(line);
-    }
-    if count > 63 {
-        return bad(line);
-    }
-    let at = 65 * sections + 1 + count;
-    words[at] = line.word;
-    Line {
-        sections,
-        count: count + 1,
-        word: 0,
-        is_word: false,
-        is_comment: line.is_comment,
-        is_bad: line.is_bad,
-    }
-}
 
-// The last word of a section that is not empty.
-fn last_word(line: Line, words: &mut [usize; 715]) -> Line
-    ensures { (result ≡ last_word line) × (words.new ≡ last_stored line words.old) }
-{
-    if line.is_word {
-        return word_ended(line, words);
+    // A word of a section, or 0 past its end.
+    pub fn word(&self, section: Section, i: usize) -> u64
+        ensures { result ≡ word_at self.now section i }
+    {
+        self.section(section)
+            .split(' ')
+            .nth(i)
+            .and_then(word)
+            .unwrap_or(0)
     }
-    if line.count > 0 {
-        return bad(line);
-    }
-    line
-}
 
-// The length of a section is stored.
-fn close(line: Line, words: &mut [usize; 715]) -> Line
-    ensures { (result ≡ closed line) × (words.new ≡ closed_words line words.old) }
-{
-    let sections = line.sections;
-    if sections > 10 {
-        return bad(line);
+    // Number i of the call: the words of the head after whose answer it is and the call.
+    pub fn number<T: Stored>(&self, i: u8) -> T
+        ensures { result ≡ T.value (word_at self.now Section.Head (i + 2)) }
+    {
+        T::from_word(self.word(Section::Head, usize::from(i) + 2))
     }
-    let at = 65 * sections;
-    words[at] = line.count;
-    Line {
-        sections: sections + 1,
-        count: 0,
-        word: 0,
-        is_word: false,
-        is_comment: false,
-        is_bad: line.is_bad,
-    }
-}
 
-// A line that begins with # is a comment.
-fn hash(line: Line) -> Line
-    ensures { result ≡ hashed line }
-{
-    if line.sections > 0 {
-        return bad(line);
+    // Fills a buffer with what each word of a section stands for, and with what 0 stands for past the section's end.
+    pub fn buffer_at<T: Stored>(&self, section: Section, buffer: &mut [T])
+        ensures { buffer.new ≡ buffer_at T.value self.now section (length buffer.old) }
+    {
+        let mut words = self.section(section).split(' ');
+        for place in buffer.iter_mut() {
+            *place = T::from_word(words.next().and_then(word).unwrap_or(0));
+        }
     }
-    if line.count > 0 {
-        return bad(line);
-    }
-    if line.is_word {
-        return bad(line);
-    }
-    Line {
-        sections: 0,
-        count: 0,
-        word: 0,
-        is_word: false,
-        is_comment: true,
-        is_bad: false,
-    }
-}
 
-// Reads one byte: a digit, a space after a word, or | or a line feed after a section.
-pub fn step(line: Line, byte: u8, words: &mut [usize; 715]) -> Line
-    ensures { (result ≡ line_after line byte) × (words.new ≡ words_after line byte words.old) }
-{
-    if line.is_comment {
-        return line;
+    // Whether a section has a list: its length, and the word of each element.
+    pub fn same_at<T: Stored>(&self, section: Section, got: &[T]) -> bool
+        ensures { result ≡ same_at T.word T.read self.now section got.now }
+    {
+        if got.len() != self.len(section) {
+            return false;
+        }
+        let mut pairs = got.iter().zip(self.section(section).split(' '));
+        pairs.all(|(x, part)| word(part).is_some_and(|bits| x.has_word(bits)))
     }
-    if byte == 35 {
-        return hash(line);
-    }
-    if byte == 32 {
-        return word_ended(line, words);
-    }
-    if byte == 124 {
-        let last = last_word(line, words);
-        return close(last, words);
-    }
-    if byte == 10 {
-        let last = last_word(line, words);
-        return close(last, words);
-    }
-    digit_read(line, byte)
 }

@@ -1,11 +1,7 @@
--- `clip`, by its test.
-use mathlib.Core.Path.{sym, ap}
-use lib.IntN.{pos}
-use Rattle.bed_answer.proofs.AnswerLaws.{clip_above, held_below}
+-- `clip`, by whether a signed number holds it.
+use Rattle.std.proofs.Common.{ℤ, ap, ◌∙◌, w64, to_z, of_z}
+use Rattle.bed_answer.proofs.AnswerLaws.{clip_held}
 use Rattle.bed_answer.proofs.clip.Goals as goal
 
-pub returns-then-n-lt9223372036854775808 : goal.returns-then-n-lt9223372036854775808
-returns-then-n-lt9223372036854775808 c = held_below c.args.n c.if-n-lt9223372036854775808.true
-
-pub returns-else-n-lt9223372036854775808 : goal.returns-else-n-lt9223372036854775808
-returns-else-n-lt9223372036854775808 c = ap pos (sym (clip_above c.args.n c.if-n-lt9223372036854775808.false))
+pub returns : goal.returns
+returns c = ap (λ (z : ℤ). to_z w64 (of_z w64 z)) c.unwrap_or.ensures ∙ clip_held c.args.n _ c.try_from.ensures

@@ -30,7 +30,7 @@ returns-then-shape c = c.keep_blocks.ensures
 
 pub turn_blocks-requires : goal.turn_blocks-requires
 turn_blocks-requires c =
-    (begun c.args.file.now c.args.shape _ c.requires.1 c.args.out.now c.requires.2 c.requires.0, c.if-shape.false, c.requires.3)
+    (begun c.args.file.now c.args.shape _ c.requires.1 c.args.out.now c.requires.2 c.requires.0, c.if-shape.false)
 
 pub shape_of-out : goal.shape_of-out
 shape_of-out c =

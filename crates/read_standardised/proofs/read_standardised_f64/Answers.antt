@@ -5,7 +5,11 @@ use native.Mathlib.Omega.{arith}
 use lib.Ieee.{binary64, of_bits, div}
 use lib.ListN.{length}
 use borrow.Author.Tests.{not-true, not-false}
-use Rattle.answer.specs.Answer.{refused}
+use mathlib.Core.Bool.{true, false}
+use Rattle.answer.specs.Answer.{done, refused}
+use Rattle.answer.proofs.AnswerLaws.{error_said}
+use Rattle.bed_read.proofs.ReadLaws.{error_refuses}
+use Rattle.read_standardised.specs.Says.{joined_says}
 use Rattle.read_standardised.proofs.JoinLaws.{iids_too_large, sids_too_large, values_mismatch, stats_mismatch, call_refused, standardised_after, refused_after}
 use Rattle.read_standardised.proofs.Never14.{never_14_after}
 use Rattle.read_standardised.proofs.read_standardised_f64.Goals as goal
@@ -29,25 +33,21 @@ returns-then-not-product_is-2 c =
 pub of_standardising-requires : goal.of_standardising-requires
 unfolding of_bits div
 of_standardising-requires c =
-    let t = c in
-    let s = t in
-    never_14_after binary64 s.args.file.now s.args.iid_count s.args.sid_count s.args.is_a1_counted s.args.iid_index.now s.args.sid_index.now s.args.animal_order s.args.val.now s.args.stats.now
-    _ _ _ refl (t.of_reading-read.ensures ∙ t.read_no_alloc_f64.ensures.0) t.read_no_alloc_f64.ensures.1
-    _ t.is_done.ensures t.if-is_done.true _ c.impute_and_zero_mean_snps_f64.ensures.0
-
-pub returns-then-is_done : goal.returns-then-is_done
-unfolding of_bits div
-returns-then-is_done c =
-    let t = c in
-    let s = t in
-    standardised_after binary64 s.args.file.now s.args.iid_count s.args.sid_count s.args.is_a1_counted s.args.iid_index.now s.args.sid_index.now s.args.animal_order s.args.val.now s.args.stats.now (omega (arith, s.well_formed.1.1.1.1.0.1)) (omega (arith, s.well_formed.1.1.1.1.1.0.1)) (sym t.product_is-2.ensures ∙ not-false _ t.if-not-product_is-2.false-raw)
-    _ _ _ refl (t.of_reading-read.ensures ∙ t.read_no_alloc_f64.ensures.0) t.read_no_alloc_f64.ensures.1
-    _ t.is_done.ensures t.if-is_done.true _ _ _ _ c.of_standardising.ensures c.impute_and_zero_mean_snps_f64.ensures
+    let read = c.in_ok-read_no_alloc.ensures in
+    never_14_after binary64 c.args.file.now c.args.iid_count c.args.sid_count c.args.is_a1_counted c.args.iid_index.now c.args.sid_index.now c.args.animal_order c.args.val.now c.args.stats.now
+    (done []) _ _ refl read.0 read.1 true refl refl _ c.impute_and_zero_mean_snps_f64.ensures.0
 
 pub returns : goal.returns
 unfolding of_bits div
 returns c =
-    let s = c in
-    refused_after binary64 s.args.file.now s.args.iid_count s.args.sid_count s.args.is_a1_counted s.args.iid_index.now s.args.sid_index.now s.args.animal_order s.args.val.now s.args.stats.now (omega (arith, s.well_formed.1.1.1.1.0.1)) (omega (arith, s.well_formed.1.1.1.1.1.0.1)) (sym c.product_is-2.ensures ∙ not-false _ c.if-not-product_is-2.false-raw)
-    _ _ _ refl (c.of_reading-read.ensures ∙ c.read_no_alloc_f64.ensures.0) c.read_no_alloc_f64.ensures.1
-    _ c.is_done.ensures c.if-is_done.false
+    let read = c.in_ok-read_no_alloc.ensures in
+    standardised_after binary64 c.args.file.now c.args.iid_count c.args.sid_count c.args.is_a1_counted c.args.iid_index.now c.args.sid_index.now c.args.animal_order c.args.val.now c.args.stats.now (omega (arith, c.well_formed.1.1.1.1.0.1)) (omega (arith, c.well_formed.1.1.1.1.1.0.1)) (sym c.product_is-2.ensures ∙ not-false _ c.if-not-product_is-2.false-raw)
+    (done []) _ _ refl read.0 read.1 true refl refl _ _ _ _ c.of_standardising.ensures c.impute_and_zero_mean_snps_f64.ensures
+
+pub returns-in_err-read_no_alloc : goal.returns-in_err-read_no_alloc
+unfolding of_bits div
+returns-in_err-read_no_alloc c =
+    let read = c.in_err-read_no_alloc.ensures in
+    let kept = refused_after binary64 c.args.file.now c.args.iid_count c.args.sid_count c.args.is_a1_counted c.args.iid_index.now c.args.sid_index.now c.args.animal_order c.args.val.now c.args.stats.now (omega (arith, c.well_formed.1.1.1.1.0.1)) (omega (arith, c.well_formed.1.1.1.1.1.0.1)) (sym c.product_is-2.ensures ∙ not-false _ c.if-not-product_is-2.false-raw)
+    _ _ _ refl read.0 read.1 false (sym (error_refuses _)) refl in
+    (error_said joined_says _ _ c.from_residual.ensures.1 ∙ kept.0, kept.1, kept.2)

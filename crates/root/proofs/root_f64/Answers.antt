@@ -5,7 +5,7 @@ use lib.Ieee.{binary64, fits, of_bits, div}
 use lib.Ieee.Bits.{of_bits-to_bits}
 use Rattle.root.specs.Root.{root}
 use Rattle.root.proofs.PatternLaws.{pattern_pos}
-use Rattle.root.proofs.CaseLaws.{equals_zero, above_number, above_positive, above_all, neither, below_number}
+use Rattle.root.proofs.CaseLaws.{equals_zero, above_positive, above_all, neither, below_number}
 use Rattle.root.proofs.root_f64.Goals as goal
 use Rattle.root.proofs.root_f64.Goals.{Start}
 
@@ -16,10 +16,6 @@ held c = subst T (sym c.well_formed.0.1) tt
 pub returns-then-variance : goal.returns-then-variance
 unfolding of_bits
 returns-then-variance c = equals_zero binary64 c.args.variance c.if-variance.true
-
-pub float_to_bits-bits : goal.float_to_bits-bits
-unfolding of_bits
-float_to_bits-bits c = above_number c.args.variance c.if-variance-2.true
 
 pub root_bits-requires : goal.root_bits-requires
 unfolding of_bits

@@ -1,12 +1,13 @@
 -- `is_infinite` is `is_infinite`.
-use lib.Ieee.{of_bits, div, neg}
+use Rattle.std.proofs.Common.{◌∙◌}
+use lib.Ieee.{of_bits}
 use Rattle.statistics.proofs.FloatLaws.{infinity_above, infinity_below}
 use Rattle.statistics.proofs.is_infinite.Goals as goal
 
 pub returns-then-x : goal.returns-then-x
-unfolding of_bits div neg
-returns-then-x c = infinity_above _ c.if-x.true
+unfolding of_bits
+returns-then-x c = c.if-x.true ∙ infinity_above _ c.if-x.true
 
-pub returns : goal.returns
-unfolding of_bits div neg
-returns c = infinity_below _ c.if-x.false
+pub returns-else-x : goal.returns-else-x
+unfolding of_bits
+returns-else-x c = infinity_below _ c.if-x.false

@@ -1,58 +1,30 @@
-use mathlib.Core.Path.{◌≡◌, refl, ap, ◌∙◌}
-use Prim.Native.Nat.{ℕ, ◌*◌}
-use native.Mathlib.Omega.{arith}
-use Rattle.call_counts.specs.Private.{total_items, low_bit, high_bit, both_bits}
+use Rattle.std.proofs.Common.{refl}
+use Rattle.call_counts.specs.Private.{low_bit, high_bit, both_bits}
 use Rattle.call_counts.proofs.BitLaws.{is_low, is_high, is_both, row_none, row_more_law, row_room}
 use Rattle.call_counts.proofs.bits.count_row.Goals as goal
 
 pub loop-j-init : goal.loop-j-init
 loop-j-init c =
     let a = c.args in
-    (omega arith, row_none low_bit a.file.now a.at, row_none high_bit a.file.now a.at, row_none both_bits a.file.now a.at)
-
-pub overflow_add-x : goal.overflow_add-x
-overflow_add-x c = omega arith
-
-pub bounds-file-at : goal.bounds-file-at
-bounds-file-at c = omega arith
+    (row_none low_bit a.file.now a.at, row_none high_bit a.file.now a.at, row_none both_bits a.file.now a.at)
 
 pub overflow_add-low : goal.overflow_add-low
 overflow_add-low c =
-    let a = c.args in
-    record { fits = row_room low_bit a.file.now a.at c.loop-j.j _ _ _ is_low c.loop-j.invariant.1 c.low_bits-low.ensures refl (omega arith) }
+    record { fits = row_room low_bit c.args.file.now c.args.at c.loop-j.j _ _ _ is_low c.loop-j.invariant.0 c.low_bits-low.ensures refl c.loop-j-test.true }
 
 pub overflow_add-high : goal.overflow_add-high
 overflow_add-high c =
-    let a = c.args in
-    record { fits = row_room high_bit a.file.now a.at c.loop-j.j _ _ _ is_high c.loop-j.invariant.2 c.high_bits-high.ensures refl (omega arith) }
+    record { fits = row_room high_bit c.args.file.now c.args.at c.loop-j.j _ _ _ is_high c.loop-j.invariant.1 c.high_bits-high.ensures refl c.loop-j-test.true }
 
 pub overflow_add-both : goal.overflow_add-both
 overflow_add-both c =
-    let a = c.args in
-    record { fits = row_room both_bits a.file.now a.at c.loop-j.j _ _ _ is_both c.loop-j.invariant.3 c.both_bits-both.ensures refl (omega arith) }
-
-pub overflow_add-j : goal.overflow_add-j
-overflow_add-j c = omega arith
-
-pub loop-j-smaller : goal.loop-j-smaller
-loop-j-smaller c = omega arith
+    record { fits = row_room both_bits c.args.file.now c.args.at c.loop-j.j _ _ _ is_both c.loop-j.invariant.2 c.both_bits-both.ensures refl c.loop-j-test.true }
 
 pub loop-j-preserved : goal.loop-j-preserved
 loop-j-preserved c =
     let a = c.args in
     let i = c.loop-j.invariant in (
-      omega arith,
-      row_more_law low_bit a.file.now a.at c.loop-j.j _ _ _ is_low i.1 c.low_bits-low.ensures refl,
-      row_more_law high_bit a.file.now a.at c.loop-j.j _ _ _ is_high i.2 c.high_bits-high.ensures refl,
-      row_more_law both_bits a.file.now a.at c.loop-j.j _ _ _ is_both i.3 c.both_bits-both.ensures refl,
+      row_more_law low_bit a.file.now a.at c.loop-j.j _ _ _ is_low i.0 c.low_bits-low.ensures refl,
+      row_more_law high_bit a.file.now a.at c.loop-j.j _ _ _ is_high i.1 c.high_bits-high.ensures refl,
+      row_more_law both_bits a.file.now a.at c.loop-j.j _ _ _ is_both i.2 c.both_bits-both.ensures refl,
     )
-
-pub returns : goal.returns
-returns c =
-    let a = c.args in
-    let e : c.loop-j.j ≡ 16 = (let h = c.loop-j-test.false in let b = c.loop-j.invariant.0 in omega arith) in
-    record {
-      low_is = c.wide.ensures ∙ c.loop-j.invariant.1 ∙ ap (λ (k : ℕ). total_items low_bit a.file.now a.at (4 * k)) e;
-      high_is = c.wide-2.ensures ∙ c.loop-j.invariant.2 ∙ ap (λ (k : ℕ). total_items high_bit a.file.now a.at (4 * k)) e;
-      both_is = c.wide-3.ensures ∙ c.loop-j.invariant.3 ∙ ap (λ (k : ℕ). total_items both_bits a.file.now a.at (4 * k)) e;
-    }

@@ -1,13 +1,9 @@
 -- `count_three_rows`: the bits of the first j bytes of each row.
-use mathlib.Core.Path.{◌≡◌}
-use Prim.Native.Nat.{◌-◌, ◌≤◌}
+use Rattle.std.proofs.Common.{◌≡◌}
 use Rattle.call_counts.specs.Private.{low_bit, high_bit, both_bits}
 use Rattle.call_counts.proofs.BitLaws.{in_rows}
 use Rattle.call_counts.proofs.bits.count_three_rows.Given as goal
 
 abbrev pub invariant-loop-j : goal.invariant-loop-j
 invariant-loop-j l =
-    (l.j ≤ 16) × (l.low ≡ in_rows low_bit l.file l.at l.j) × (l.high ≡ in_rows high_bit l.file l.at l.j) × (l.both ≡ in_rows both_bits l.file l.at l.j)
-
-abbrev pub decreases-loop-j : goal.decreases-loop-j
-decreases-loop-j l = 16 - l.j
+    (l.low ≡ in_rows low_bit l.file l.at l.j) × (l.high ≡ in_rows high_bit l.file l.at l.j) × (l.both ≡ in_rows both_bits l.file l.at l.j)

@@ -1,10 +1,8 @@
-use mathlib.Core.Path.{◌≡◌, sym, ◌∙◌}
+use mathlib.Core.Path.{◌≡◌}
 use Prim.Native.Nat.{ℕ, ◌+◌, ◌*◌, ◌<◌, ◌≤◌}
 use native.Mathlib.Nat.{mul_comm, mul-le-mul_right, le_of_lt}
 use native.Mathlib.Omega.{arith}
 use lib.ListN.{length}
-use Rattle.canonical.specs.Canonical.{canonical_file}
-use Rattle.bed_write.proofs.RowLaws.{tile_starts, tile_done}
 use Rattle.canonical.proofs.KeptLaws.{kept_start, found_inside, found_is}
 use Rattle.canonical.proofs.WholeLaws.{starts, whole_long, place_there, animal_there, block_place_in, block_byte_written, whole_written}
 use Rattle.canonical.proofs.kept.keep_blocks.Goals as goal
@@ -42,54 +40,32 @@ overflow_mul-at c = omega (arith, at_in _ _ _ _ c.requires.0 c.loop-m.m c.loop-m
 pub overflow_add-at : goal.overflow_add-at
 overflow_add-at c = omega (arith, at_in _ _ _ _ c.requires.0 c.loop-m.m c.loop-m-test.true)
 
-pub loop-b-init : goal.loop-b-init
-loop-b-init c = tile_starts _ _ _ _ _ _ _ _ c.loop-m.invariant _ (omega (arith, c.loop-m-test.true))
+pub overflow_add-start : goal.overflow_add-start
+overflow_add-start c = omega (arith, from_in _ _ _ _ c.requires.0 c.loop-m.m c.loop-b.b c.loop-m-test.true c.loop-b-test.true c.requires.1 c.part_of-start.result.byte (omega arith) (omega arith) c.part_of-start.ensures.byte_is)
 
-pub overflow_add-from : goal.overflow_add-from
-overflow_add-from c = omega (arith, from_in _ _ _ _ c.requires.0 c.loop-m.m c.loop-b.b c.loop-m-test.true c.loop-b-test.true c.requires.1 c.sid_part-start.result.byte (omega arith) (omega arith) c.sid_part-start.ensures.byte_is)
+pub overflow_add-out : goal.overflow_add-out
+overflow_add-out c = omega (arith, place_there c.args.file.now c.args.shape c.args.out_width c.requires.0.width_is c.args.out.now c.requires.0 c.loop-m.m c.loop-b.b c.loop-m-test.true c.loop-b-test.true)
 
-pub overflow_add-to : goal.overflow_add-to
-overflow_add-to c = omega (arith, place_there c.args.file.now c.args.shape c.args.out_width c.requires.0.width_is c.args.out.now c.requires.0 c.loop-m.m c.loop-b.b c.loop-m-test.true c.loop-b-test.true)
-
-pub bounds-file-from : goal.bounds-file-from
-bounds-file-from c = from_in _ _ _ _ c.requires.0 c.loop-m.m c.loop-b.b c.loop-m-test.true c.loop-b-test.true c.requires.1 c.sid_part-start.result.byte (omega arith) (omega arith) c.sid_part-start.ensures.byte_is
+pub bounds-file-start : goal.bounds-file-start
+bounds-file-start c = from_in _ _ _ _ c.requires.0 c.loop-m.m c.loop-b.b c.loop-m-test.true c.loop-b-test.true c.requires.1 c.part_of-start.result.byte (omega arith) (omega arith) c.part_of-start.ensures.byte_is
 
 pub overflow_mul-b : goal.overflow_mul-b
 overflow_mul-b c = omega (arith, animal_in _ _ _ _ c.requires.0 c.loop-m.m c.loop-b.b c.loop-m-test.true c.loop-b-test.true)
 
-pub overflow_sub-iid_count : goal.overflow_sub-iid_count
-overflow_sub-iid_count c = omega (arith, animal_in _ _ _ _ c.requires.0 c.loop-m.m c.loop-b.b c.loop-m-test.true c.loop-b-test.true)
+pub overflow_sub-shape : goal.overflow_sub-shape
+overflow_sub-shape c = omega (arith, animal_in _ _ _ _ c.requires.0 c.loop-m.m c.loop-b.b c.loop-m-test.true c.loop-b-test.true)
 
 pub kept_byte-requires : goal.kept_byte-requires
 kept_byte-requires c = omega (arith, animal_in _ _ _ _ c.requires.0 c.loop-m.m c.loop-b.b c.loop-m-test.true c.loop-b-test.true)
 
-pub bounds-out-to : goal.bounds-out-to
-bounds-out-to c = block_place_in c.args.file.now c.args.shape _ c.requires.0.width_is c.loop-b.out c.loop-b.b c.loop-m.m c.loop-b.invariant c.loop-m-test.true c.loop-b-test.true
-
-pub overflow_add-b : goal.overflow_add-b
-overflow_add-b c = omega (arith, c.loop-b-test.true)
-
-pub loop-b-smaller : goal.loop-b-smaller
-loop-b-smaller c = omega (arith, c.loop-b-test.true)
+pub bounds-out-at : goal.bounds-out-at
+bounds-out-at c = block_place_in c.args.file.now c.args.shape _ c.requires.0.width_is c.loop-b.out c.loop-b.b c.loop-m.m c.loop-b.invariant c.loop-m-test.true c.loop-b-test.true
 
 pub loop-b-preserved : goal.loop-b-preserved
 loop-b-preserved c =
     block_byte_written c.args.file.now c.args.shape c.args.out_width c.requires.0.width_is c.loop-b.out c.loop-b.b c.loop-m.m c.loop-b.invariant c.loop-m-test.true c.loop-b-test.true _
-    (found_is c.args.file.now c.args.shape c.requires.0.shaped c.requires.1 c.loop-m.m c.loop-b.b c.loop-m-test.true (animal_in _ _ _ _ c.requires.0 c.loop-m.m c.loop-b.b c.loop-m-test.true c.loop-b-test.true) c.sid_part-start.result.byte
-    (start_is _ _ _ _ c.requires.0 c.loop-m.m c.loop-b.b c.loop-m-test.true c.loop-b-test.true c.requires.1 c.sid_part-start.result.byte (omega arith) (omega arith) c.sid_part-start.ensures.byte_is) _ (let f = c.type_inv.file (c.sid_part-start.result.byte + c.loop-b.b) in omega arith) c.kept_byte.ensures)
-
-pub overflow_add-m : goal.overflow_add-m
-overflow_add-m c = omega (arith, c.loop-m-test.true)
-
-pub loop-m-smaller : goal.loop-m-smaller
-loop-m-smaller c = omega (arith, c.loop-m-test.true)
-
-pub loop-m-preserved : goal.loop-m-preserved
-loop-m-preserved c = tile_done _ _ _ _ _ _ _ _ c.loop-b.invariant c.loop-b-test.false
-
-pub shape_of-out : goal.shape_of-out
-unfolding canonical_file
-shape_of-out c = c.loop-m.invariant.long ∙ sym c.requires.0.long
+    (found_is c.args.file.now c.args.shape c.requires.0.shaped c.requires.1 c.loop-m.m c.loop-b.b c.loop-m-test.true (animal_in _ _ _ _ c.requires.0 c.loop-m.m c.loop-b.b c.loop-m-test.true c.loop-b-test.true) c.part_of-start.result.byte
+    (start_is _ _ _ _ c.requires.0 c.loop-m.m c.loop-b.b c.loop-m-test.true c.loop-b-test.true c.requires.1 c.part_of-start.result.byte (omega arith) (omega arith) c.part_of-start.ensures.byte_is) _ (let f = c.type_inv.file (c.part_of-start.result.byte + c.loop-b.b) in omega arith) c.kept_byte.ensures)
 
 pub returns : goal.returns
 returns c = whole_written c.args.file.now c.args.shape c.args.out_width c.requires.0.width_is _ _ _ _ _ c.loop-m.invariant c.loop-m-test.false

@@ -1,16 +1,10 @@
 -- `keep_blocks`: the blocks so far are written, and of the next one the bytes so far.
-use Prim.Native.Nat.{◌+◌, ◌-◌}
+use Rattle.std.proofs.Common.{◌+◌}
 use Rattle.canonical.proofs.WholeLaws.{Written}
 use Rattle.canonical.proofs.kept.keep_blocks.Given as goal
 
 abbrev pub invariant-loop-b : goal.invariant-loop-b
 invariant-loop-b l = Written l.file l.shape l.out_width l.out l.m (l.m + 1) l.b 0
 
-abbrev pub decreases-loop-b : goal.decreases-loop-b
-decreases-loop-b l = l.out_width - l.b
-
 abbrev pub invariant-loop-m : goal.invariant-loop-m
 invariant-loop-m l = Written l.file l.shape l.out_width l.out l.m l.m 0 0
-
-abbrev pub decreases-loop-m : goal.decreases-loop-m
-decreases-loop-m l = l.sid_count - l.m

@@ -1,15 +1,20 @@
 -- `kept_byte`: by how many items are left.
-use Rattle.canonical.proofs.KeptLaws.{kept_whole, kept_three, kept_two, kept_one}
+use Rattle.std.proofs.Common.{ℕ, sym, ap, arith}
+use Rattle.canonical.specs.Private.{kept_byte}
+use Rattle.canonical.proofs.KeptLaws.{kept_whole}
 use Rattle.canonical.proofs.kept.kept_byte.Goals as goal
 
-pub returns-then-left-gt3 : goal.returns-then-left-gt3
-returns-then-left-gt3 c = kept_whole _ _ c.if-left-gt3.true
+pub returns-in-1 : goal.returns-in-1
+unfolding kept_byte
+returns-in-1 c = ap (λ (n : ℕ). kept_byte n c.args.byte) (sym c.in-1.is)
 
-pub returns-then-left-eq3 : goal.returns-then-left-eq3
-returns-then-left-eq3 c = kept_three _ _ c.if-left-eq3.true
+pub returns-in-2 : goal.returns-in-2
+unfolding kept_byte
+returns-in-2 c = ap (λ (n : ℕ). kept_byte n c.args.byte) (sym c.in-2.is)
 
-pub returns-then-left-eq2 : goal.returns-then-left-eq2
-returns-then-left-eq2 c = kept_two _ _ c.if-left-eq2.true
+pub returns-in-3 : goal.returns-in-3
+unfolding kept_byte
+returns-in-3 c = ap (λ (n : ℕ). kept_byte n c.args.byte) (sym c.in-3.is)
 
-pub returns : goal.returns
-returns c = kept_one _ _ c.requires c.if-left-gt3.false c.if-left-eq3.false c.if-left-eq2.false
+pub returns-in_default : goal.returns-in_default
+returns-in_default c = kept_whole _ _ (omega arith)

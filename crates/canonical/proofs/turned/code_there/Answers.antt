@@ -1,8 +1,9 @@
 -- `code_there`: the table has the code at the item's byte and place.
-use Rattle.canonical.proofs.TurnLaws.{code_found}
+use Rattle.std.proofs.Common.{◌∙◌, ap, arith}
+use Rattle.codes.specs.Code.{code_at}
+use Rattle.canonical.specs.Private.{code_there}
 use Rattle.canonical.proofs.turned.code_there.Goals as goal
 
 pub returns : goal.returns
-returns c =
-    let x = c.wide.ensures in
-    code_found c.args.codes.now c.args.file.now c.args.start _ c.args.item c.requires.2 x.0 x.1 c.requires.1
+unfolding code_there
+returns c = c.code_of_item.ensures ∙ ap (code_at _) (omega (arith, c.requires.1))

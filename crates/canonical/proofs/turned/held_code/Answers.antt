@@ -5,7 +5,7 @@ use Rattle.bed_write.proofs.GroupLaws.{held_there, held_pad}
 use Rattle.canonical.proofs.turned.held_code.Goals as goal
 
 pub code_there-requires : goal.code_there-requires
-code_there-requires c = (c.requires.0 c.if-k-left.true, c.requires.1, c.requires.2)
+code_there-requires c = (c.requires.0 c.if-k-left.true, c.requires.1)
 
 pub returns-then-k-left : goal.returns-then-k-left
 returns-then-k-left c =

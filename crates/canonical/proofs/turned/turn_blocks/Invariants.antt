@@ -1,22 +1,16 @@
 -- `turn_blocks`: tile by tile, every byte is the canonical file's.
-use Prim.Native.Nat.{◌-◌}
+use Rattle.std.proofs.Common.{◌-◌}
 use Rattle.canonical.proofs.WholeLaws.{Written}
 use Rattle.canonical.proofs.turned.turn_blocks.Given as goal
 
 abbrev pub invariant-loop-m : goal.invariant-loop-m
 invariant-loop-m l = Written l.file l.shape l.out_width l.out l.from l.until l.b l.m
 
-abbrev pub decreases-loop-m : goal.decreases-loop-m
-decreases-loop-m l = l.until - l.m
-
 abbrev pub invariant-loop-b : goal.invariant-loop-b
 invariant-loop-b l = Written l.file l.shape l.out_width l.out l.from l.until l.b 0
-
-abbrev pub decreases-loop-b : goal.decreases-loop-b
-decreases-loop-b l = l.out_width - l.b
 
 abbrev pub invariant-loop-from : goal.invariant-loop-from
 invariant-loop-from l = Written l.file l.shape l.out_width l.out l.from l.from 0 0
 
 abbrev pub decreases-loop-from : goal.decreases-loop-from
-decreases-loop-from l = l.sid_count - l.from
+decreases-loop-from l = l.shape.sids - l.from

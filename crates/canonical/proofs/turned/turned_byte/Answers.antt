@@ -9,19 +9,19 @@ use Rattle.canonical.proofs.turned.turned_byte.Goals as goal
 
 pub code_there-c0-requires : goal.code_there-c0-requires
 code_there-c0-requires c =
-    (c.requires.0.byte_in 0 (omega arith) (omega (arith, c.if-left-gt3.true)), c.requires.1, c.requires.2)
+    (c.requires.0.byte_in 0 (omega arith) (omega (arith, c.if-left-gt3.true)), c.requires.1)
 
 pub code_there-c1-requires : goal.code_there-c1-requires
 code_there-c1-requires c =
-    (c.requires.0.byte_in 1 (omega arith) (omega (arith, c.if-left-gt3.true)), c.requires.1, c.requires.2)
+    (c.requires.0.byte_in 1 (omega arith) (omega (arith, c.if-left-gt3.true)), c.requires.1)
 
 pub code_there-c2-requires : goal.code_there-c2-requires
 code_there-c2-requires c =
-    (c.requires.0.byte_in 2 (omega arith) (omega (arith, c.if-left-gt3.true)), c.requires.1, c.requires.2)
+    (c.requires.0.byte_in 2 (omega arith) (omega (arith, c.if-left-gt3.true)), c.requires.1)
 
 pub code_there-c3-requires : goal.code_there-c3-requires
 code_there-c3-requires c =
-    (c.requires.0.byte_in 3 (omega arith) (omega (arith, c.if-left-gt3.true)), c.requires.1, c.requires.2)
+    (c.requires.0.byte_in 3 (omega arith) (omega (arith, c.if-left-gt3.true)), c.requires.1)
 
 pub returns-then-left-gt3 : goal.returns-then-left-gt3
 returns-then-left-gt3 c =
@@ -32,15 +32,15 @@ returns-then-left-gt3 c =
 
 pub held_code-c0-requires : goal.held_code-c0-requires
 held_code-c0-requires c =
-    (λ h. c.requires.0.byte_in 0 (omega arith) h, c.requires.1, c.requires.2)
+    (λ h. c.requires.0.byte_in 0 (omega arith) h, c.requires.1)
 
 pub held_code-c1-requires : goal.held_code-c1-requires
 held_code-c1-requires c =
-    (λ h. c.requires.0.byte_in 1 (omega arith) h, c.requires.1, c.requires.2)
+    (λ h. c.requires.0.byte_in 1 (omega arith) h, c.requires.1)
 
 pub held_code-c2-requires : goal.held_code-c2-requires
 held_code-c2-requires c =
-    (λ h. c.requires.0.byte_in 2 (omega arith) h, c.requires.1, c.requires.2)
+    (λ h. c.requires.0.byte_in 2 (omega arith) h, c.requires.1)
 
 pub returns : goal.returns
 unfolding in_group

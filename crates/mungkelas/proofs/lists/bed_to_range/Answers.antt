@@ -1,9 +1,9 @@
 -- `bed_to_range`: what the core answers, told.
-use mathlib.Core.Path.{ap, ◌∙◌}
-use Rattle.bed_answer.proofs.AnswerLaws.{as_fits}
-use Rattle.bed_answer.proofs.FitLaws.{range_fits}
+use Rattle.std.proofs.Common.{ap, ◌∙◌}
 use Rattle.index.specs.Checks.{range_answer}
+use Rattle.bed_answer.proofs.FitLaws.{range_fits}
+use Rattle.bed_answer.proofs.AnswerLaws.{as_fits}
 use Rattle.mungkelas.proofs.lists.bed_to_range.Goals as goal
 
 pub returns : goal.returns
-returns c = as_fits _ c.of_range.ensures (c.to_range-answer.ensures ∙ ap (λ r. range_answer r c.args.count) c.range_of-range.ensures) (range_fits _ _)
+returns c = as_fits _ c.from.ensures (c.to_range.ensures ∙ ap (λ r. range_answer r c.args.count) c.range_of.ensures) (range_fits _ _)

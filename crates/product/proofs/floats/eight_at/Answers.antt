@@ -1,8 +1,8 @@
-use Rattle.product.proofs.ByteLaws.{bytes_join}
-use borrow.Author.Rules.{rules}
+use Rattle.std.proofs.Common.{rules, arith}
+use Rattle.product.proofs.ByteLaws.{eight_bytes}
 use Rattle.product.proofs.floats.eight_at.Goals as goal
 
 pub returns : goal.returns
 returns c =
     let a = c.args in
-    (bytes_join 4 4 a.at _ _ a.bytes.now (search rules) c.four_at.ensures.0 c.four_at-2.ensures.0, search rules)
+    (omega (arith, eight_bytes a.bytes.now a.at c.requires), search rules)

@@ -1,15 +1,12 @@
 -- `add_four`: the sums before place j have their products.
 use mathlib.Core.Path.{◌≡◌}
-use Prim.Native.Nat.{◌+◌, ◌-◌, ◌≤◌}
-use lib.ListN.{length}
+use Prim.Native.Nat.{◌+◌}
 use lib.Ieee.{binary64}
-use Rattle.product.specs.Private.{spaced_value, tile_value}
+use Rattle.product.specs.Private.{tile_value}
+use Rattle.product.specs.Lent.{value_at}
 use Rattle.product.proofs.InPlaceLaws.{filled}
 use Rattle.product.proofs.RowLaws.{by_four}
 use Rattle.product.proofs.sums.add_four.Given as goal
 
 abbrev pub invariant-loop-j : goal.invariant-loop-j
-invariant-loop-j l = (l.j ≤ length l.initial.sums) × (length l.sums ≡ length l.initial.sums) × (l.sums ≡ filled (by_four binary64 (λ j t. tile_value l.x l.g j (l.i + t)) (λ t. spaced_value l.bytes l.at l.step (l.i + t)) l.initial.sums) l.j l.initial.sums)
-
-abbrev pub decreases-loop-j : goal.decreases-loop-j
-decreases-loop-j l = length l.initial.sums - l.j
+invariant-loop-j l = l.sums ≡ filled (by_four binary64 (λ j t. tile_value l.x l.g j (l.i + t)) (λ t. value_at l.line (l.i + t)) l.initial.sums) l.j l.initial.sums

@@ -1,20 +1,13 @@
--- `add_many`: what is left to add to the sums.
+-- `add_many`: the terms so far are in each sum.
 use mathlib.Core.Path.{◌≡◌}
-use Prim.Native.Nat.{◌-◌, ◌≤◌}
-use lib.ListN.{length}
+use Prim.Native.Nat.{◌*◌}
 use lib.Ieee.{binary64}
-use Rattle.product.specs.Private.{spaced_value, tile_value}
-use Rattle.product.proofs.RowLaws.{rest}
+use Rattle.product.specs.Private.{row_more, tile_value}
+use Rattle.product.specs.Lent.{value_at}
 use Rattle.product.proofs.sums.add_many.Given as goal
 
+abbrev pub invariant-loop-q : goal.invariant-loop-q
+invariant-loop-q l = l.sums ≡ row_more binary64 (tile_value l.x l.g) (value_at l.line) (4 * l.q) l.initial.sums
+
 abbrev pub invariant-loop-i : goal.invariant-loop-i
-invariant-loop-i l = (l.i ≤ l.n) × (length l.sums ≡ length l.initial.sums) × (rest binary64 (tile_value l.x l.g) (spaced_value l.bytes l.at l.step) l.n l.sums l.i ≡ rest binary64 (tile_value l.x l.g) (spaced_value l.bytes l.at l.step) l.n l.initial.sums l.initial.i)
-
-abbrev pub decreases-loop-i : goal.decreases-loop-i
-decreases-loop-i l = l.n - l.i
-
-abbrev pub invariant-loop-i-2 : goal.invariant-loop-i-2
-invariant-loop-i-2 l = (l.i ≤ l.n) × (length l.sums ≡ length l.initial.sums) × (rest binary64 (tile_value l.x l.g) (spaced_value l.bytes l.at l.step) l.n l.sums l.i ≡ rest binary64 (tile_value l.x l.g) (spaced_value l.bytes l.at l.step) l.n l.initial.sums l.initial.i)
-
-abbrev pub decreases-loop-i-2 : goal.decreases-loop-i-2
-decreases-loop-i-2 l = l.n - l.i
+invariant-loop-i l = l.sums ≡ row_more binary64 (tile_value l.x l.g) (value_at l.line) l.i l.fn.sums

@@ -1,20 +1,24 @@
--- `marker_answer`, case by case.
-use mathlib.Core.Path.{sym, ap}
+-- `marker_answer` is `marker_answer`, case by case.
+use Rattle.std.proofs.Common.{◌≡◌, sym, ap, ◌∙◌}
+use Rattle.std.specs.Prelude.{Err}
+use Rattle.statistics.specs.declared.MarkerError.TheVariants.{NoIndividuals, IllegalSnpMean}
 use Rattle.standardise.specs.Standardised.{marker_answer}
 use Rattle.standardise.proofs.answers.marker_answer.Goals as goal
 
-pub returns-in-Lent : goal.returns-in-Lent
+pub returns-in-Ok : goal.returns-in-Ok
 unfolding marker_answer
-returns-in-Lent c = sym (ap (marker_answer c.args.m) c.in-Lent.is)
+returns-in-Ok c = sym (ap (marker_answer c.args.m) c.in-Ok.is)
 
-pub returns-in-Found : goal.returns-in-Found
+pub returns-in-Err-NoIndividuals : goal.returns-in-Err-NoIndividuals
 unfolding marker_answer
-returns-in-Found c = sym (ap (marker_answer c.args.m) c.in-Found.is)
+returns-in-Err-NoIndividuals c =
+    let w = c.in-Err-NoIndividuals in
+    let e : w.field-0 ≡ NoIndividuals = rw w.is at w.field-0-is in
+    sym (ap (marker_answer c.args.m) (w.is ∙ ap Err e))
 
-pub returns-in-NoIndividuals : goal.returns-in-NoIndividuals
+pub returns-in-Err-IllegalSnpMean : goal.returns-in-Err-IllegalSnpMean
 unfolding marker_answer
-returns-in-NoIndividuals c = sym (ap (marker_answer c.args.m) c.in-NoIndividuals.is)
-
-pub returns-in-IllegalSnpMean : goal.returns-in-IllegalSnpMean
-unfolding marker_answer
-returns-in-IllegalSnpMean c = sym (ap (marker_answer c.args.m) c.in-IllegalSnpMean.is)
+returns-in-Err-IllegalSnpMean c =
+    let w = c.in-Err-IllegalSnpMean in
+    let e : w.field-0 ≡ IllegalSnpMean = rw w.is at w.field-0-is in
+    sym (ap (marker_answer c.args.m) (w.is ∙ ap Err e))

@@ -1,19 +1,15 @@
 -- `column_stats`: the accumulator is that of the animals passed.
-use Prim.Native.Nat.{◌-◌, ◌≤◌}
-use Rattle.standardise.specs.Private.{from}
-use Rattle.statistics.specs.Statistics.{accumulated}
+use Rattle.std.proofs.Common.{◌≡◌, ◌-◌, ◌≤◌}
 use lib.Ieee.{binary64}
-use mathlib.Core.Path.{◌≡◌}
+use Rattle.statistics.specs.Statistics.{accumulated}
+use Rattle.standardise.specs.Private.{from}
 use Rattle.standardise.proofs.marker_order.column_stats.Given as goal
 
+abbrev pub invariant-loop-passed : goal.invariant-loop-passed
+invariant-loop-passed l = (l.passed ≤ l.iid_count) × (l.a ≡ accumulated binary64 (from l.val l.start) l.passed)
+
+abbrev pub decreases-loop-passed : goal.decreases-loop-passed
+decreases-loop-passed l = l.iid_count - l.passed
+
 abbrev pub invariant-loop-i : goal.invariant-loop-i
-invariant-loop-i l = (l.i ≤ l.iid_count) × (l.a ≡ accumulated binary64 (from l.val l.start) l.i)
-
-abbrev pub decreases-loop-i : goal.decreases-loop-i
-decreases-loop-i l = l.iid_count - l.i
-
-abbrev pub invariant-loop-i-2 : goal.invariant-loop-i-2
-invariant-loop-i-2 l = (l.i ≤ l.iid_count) × (l.a ≡ accumulated binary64 (from l.val l.start) l.i)
-
-abbrev pub decreases-loop-i-2 : goal.decreases-loop-i-2
-decreases-loop-i-2 l = l.iid_count - l.i
+invariant-loop-i l = l.a ≡ accumulated binary64 (from l.val l.start) l.i

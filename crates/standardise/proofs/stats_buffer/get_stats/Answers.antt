@@ -1,5 +1,5 @@
 -- `get_stats` reads the places of marker m.
-use mathlib.Core.Path.{refl}
+use Rattle.std.proofs.Common.{refl}
 use Rattle.statistics.specs.Statistics.{stats_at}
 use Rattle.standardise.proofs.stats_buffer.get_stats.Goals as goal
 

@@ -1,16 +1,13 @@
 -- `put_found`, by what is found.
-use mathlib.Core.Path.{◌∙◌}
-use Rattle.standardise.proofs.ChoiceLaws.{lent_kept, found_stored, kept_at_13, kept_at_14}
+use Rattle.std.proofs.Common.{◌∙◌}
+use Rattle.standardise.proofs.ChoiceLaws.{lent_kept, found_stored, refused_stays}
 use Rattle.standardise.proofs.stats_buffer.put_found.Goals as goal
 
-pub returns-in-Lent : goal.returns-in-Lent
-returns-in-Lent c = lent_kept _ _ _ _ c.in-Lent.is
+pub returns-in-Some : goal.returns-in-Some
+returns-in-Some c = c.put_stats.ensures ∙ found_stored _ _ _ _ _ c.in-Ok.is c.in-Some.is
 
-pub returns-in-Found : goal.returns-in-Found
-returns-in-Found c = c.put_stats.ensures ∙ found_stored _ _ _ _ _ c.in-Found.is
+pub returns-in_default-observed : goal.returns-in_default-observed
+returns-in_default-observed c = lent_kept _ _ _ _ c.in-Ok.is c.in_default-observed.is
 
-pub returns-in-NoIndividuals : goal.returns-in-NoIndividuals
-returns-in-NoIndividuals c = kept_at_13 _ _ _ c.in-NoIndividuals.is
-
-pub returns-in-IllegalSnpMean : goal.returns-in-IllegalSnpMean
-returns-in-IllegalSnpMean c = kept_at_14 _ _ _ c.in-IllegalSnpMean.is
+pub returns-in_default : goal.returns-in_default
+returns-in_default c = refused_stays _ _ _ _ c.in_default.is

@@ -8,13 +8,13 @@ pub returns-then-count-gt-COUNT_LIMIT : goal.returns-then-count-gt-COUNT_LIMIT
 returns-then-count-gt-COUNT_LIMIT c = sym (range_count _ _ c.if-count-gt-COUNT_LIMIT.true)
 
 pub returns-then-start-gt-COUNT_LIMIT : goal.returns-then-start-gt-COUNT_LIMIT
-returns-then-start-gt-COUNT_LIMIT c = sym (range_start _ _ c.if-count-gt-COUNT_LIMIT.false _ c.bound_or-start.ensures c.if-start-gt-COUNT_LIMIT.true)
+returns-then-start-gt-COUNT_LIMIT c = sym (range_start _ _ c.if-count-gt-COUNT_LIMIT.false _ c.unwrap_or-start.ensures c.if-start-gt-COUNT_LIMIT.true)
 
 pub returns-then-end-gt-COUNT_LIMIT : goal.returns-then-end-gt-COUNT_LIMIT
-returns-then-end-gt-COUNT_LIMIT c = sym (range_end _ _ (search rules) _ c.bound_or-start.ensures (search rules) _ c.bound_or-end.ensures c.if-end-gt-COUNT_LIMIT.true)
+returns-then-end-gt-COUNT_LIMIT c = sym (range_end _ _ (search rules) _ c.unwrap_or-start.ensures (search rules) _ c.unwrap_or-end.ensures c.if-end-gt-COUNT_LIMIT.true)
 
 pub returns-then-start-end : goal.returns-then-start-end
-returns-then-start-end c = sym (range_above _ _ (search rules) _ c.bound_or-start.ensures (search rules) _ c.bound_or-end.ensures (search rules) c.if-start-end.true)
+returns-then-start-end c = sym (range_above _ _ (search rules) _ c.unwrap_or-start.ensures (search rules) _ c.unwrap_or-end.ensures (search rules) c.if-start-end.true)
 
 pub returns : goal.returns
-returns c = sym (range_is _ _ (search rules) _ c.bound_or-start.ensures (search rules) _ c.bound_or-end.ensures (search rules) c.if-start-end.false)
+returns c = sym (range_is _ _ (search rules) _ c.unwrap_or-start.ensures (search rules) _ c.unwrap_or-end.ensures (search rules) c.if-start-end.false)

@@ -1,0 +1,57 @@
+// The value of every code.
+ghost use Rattle.std.specs.Prelude.{◌≡◌, map, ◌<◌, length};
+ghost use Rattle.codes.specs.Code.{code_at, code_table};
+ghost use Rattle.codes.specs.Value.{value_of};
+ghost use Rattle.bed_read.specs.Private.{value_in, ByCode, place_value};
+
+use codes::{BedVal, CodeTable};
+use std::alloc::AllocError;
+
+// Fills a table with the value, by a flag and a missing value, of the code of every byte and place: place p of byte b at 4 × b + p.
+// The table is a slice: an array of a type parameter owes a bound on its size wherever it is passed, also in a struct.
+pub(crate) fn fill_table<T: BedVal>(is_a1_counted: bool, missing_value: T, table: &mut [T])
+    requires { length table.old ≡ 1024 }
+    ensures { table.new ≡ map (value_of T.width is_a1_counted missing_value) code_table }
+{
+    let codes = CodeTable::new();
+    let of_code = codes::set_up_two_bits_to_value(is_a1_counted, missing_value);
+    for byte in 0..256 {
+        for place in 0..4 {
+            let code = codes.code_of_item(byte as u8, place);
+            table[4 * byte + place] = of_code[usize::from(code)];
+        }
+    }
+}
+
+// A table that has one value for each code. Passed by value, so that the table's address costs no load for each value.
+#[derive(Drop)]
+pub(crate) struct Values<'a, T: BedVal> {
+    pub table: &'a [T],
+    ghost by_code: { ByCode table.now T.width.zero },
+}
+
+impl<'a, T: BedVal> Copy for Values<'a, T> {}
+
+impl<'a, T: BedVal> Clone for Values<'a, T> {
+    fn clone(&self) -> Result<Self, AllocError> {
+        Ok(Values { table: self.table })
+    }
+}
+
+impl<'a, T: BedVal> Values<'a, T> {
+    // The value at a place of a byte of the file.
+    pub(crate) fn call_value(self, file: &[u8], byte: usize, place: usize) -> T
+        requires { (byte < length file.now) × (place < 4) }
+        ensures { result ≡ place_value (value_in self.entry.table.now T.width.zero) file.now byte place }
+    {
+        value_at(self.table, file[byte], place)
+    }
+}
+
+// The value at a place of a byte. A function of its own: of a slice in a struct the check does not know that its offsets fit a word.
+fn value_at<T: BedVal>(table: &[T], byte: u8, place: usize) -> T
+    requires { (place < 4) × ByCode table.now T.width.zero }
+    ensures { result ≡ value_in table.now T.width.zero (code_at byte place) }
+{
+    table[usize::from(byte) * 4 + place]
+}

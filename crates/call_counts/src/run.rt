@@ -1,0 +1,8 @@
+// The runs that an animal list is counted in.
+
+// What the entries of a run add to the byte and to the place in it. Two arrays, and not one of parts: a place takes one byte, so that both stay at hand.
+#[derive(Drop)]
+pub(crate) struct RunParts {
+    pub places: [u8; 2048],
+    pub bytes: [usize; 2048],
+}

@@ -1,6 +1,0 @@
--- `iid_of` is `means`.
-use Rattle.entries.proofs.EntryLaws.{means_back}
-use Rattle.entries.proofs.iid_of.Goals as goal
-
-pub returns : goal.returns
-returns c = means_back _ _ c.ranges.entry _ c.number.ensures

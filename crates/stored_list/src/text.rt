@@ -1,0 +1,44 @@
+// The parts of a line's text: words of hexadecimal digits, and sections of words.
+ghost use Rattle.std.specs.Prelude.{◌≡◌};
+ghost use Rattle.std.specs.Option.{is_some};
+ghost use Rattle.stored_list.specs.Lines.{is_comment, is_digit, word_of, words_of};
+
+// The most words of a section.
+pub const WORD_LIMIT: usize = 64;
+
+// That a text breaks the form of a line.
+#[derive(Clone, Copy, Debug, PartialEq, Eq)]
+pub struct BadForm;
+
+// Whether a line is a comment.
+pub fn is_comment(text: &str) -> bool
+    ensures { result ≡ is_comment text.now }
+{
+    text.starts_with('#')
+}
+
+fn is_digit(byte: u8) -> bool
+    ensures { result ≡ is_digit byte }
+{
+    matches!(byte, b'0'..=b'9' | b'a'..=b'f')
+}
+
+// The number that a word writes.
+pub fn word(text: &str) -> Option<u64>
+    ensures { result ≡ word_of text.now }
+{
+    if text.bytes().all(is_digit) {
+        u64::from_str_radix(text, 16).ok()
+    } else {
+        None
+    }
+}
+
+// Whether a text is a section: words with a space between two, or none.
+pub(crate) fn is_section(text: &str) -> bool
+    ensures { result ≡ is_some (words_of text.now) }
+{
+    text.is_empty()
+        || (text.split(' ').count() <= WORD_LIMIT
+            && text.split(' ').all(|part| word(part).is_some()))
+}
