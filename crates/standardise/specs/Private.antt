@@ -41,7 +41,11 @@ unfoldable pub written : List Float → (ℕ → ℕ) → (ℕ → Float) → �
 written xs place value zero = xs
 written xs place value (suc k) = set (written xs place value k) (place k) (value k)
 
--- the values from a place on, and a list whose n values from a place on are changed
+-- the values of a list by their places
+abbrev pub nth : List Float → ℕ → Float
+nth xs i = get_or xs i nan
+
+-- those from a place on, and a list whose n values from a place on are changed
 abbrev pub from : List Float → ℕ → ℕ → Float
 from xs start i = get_or xs (start + i) nan
 
