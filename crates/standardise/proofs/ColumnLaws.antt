@@ -9,15 +9,22 @@ use lib.ListN.{length, get_or, set, take, drop, take-append-drop, length-drop}
 use lib.Seq.{length-take-le, get_or-take, get_or-drop}
 use lib.Ieee.{Float, nan, Format}
 use borrow.Rule.Slice.PartMut.{put_mid}
-use Rattle.std.proofs.lemmas.List.{get_or_default, get_or-append_right, set-append_right, length-map}
+use Rattle.std.proofs.lemmas.List.{take_rest, get_or_default, get_or-append_right, set-append_right, length-map}
 use Rattle.std.proofs.lemmas.List.Edits.{map_over_more}
 use Rattle.statistics.specs.declared.Stats.{Stats}
 use Rattle.statistics.specs.Statistics.{found_for}
 use Rattle.statistics.proofs.CountLaws.{found_for_ext}
 use Rattle.standardise.specs.Private.{nth, from, written, changed}
 
+-- the values from a place on
 module _ (xs : List Float) (a : ℕ) where
-  -- its statistics
+  pub length_rest : length (take (length xs - a) (drop a xs)) ≡ length xs - a
+  length_rest = ap length (take_rest xs a) ∙ length-drop a xs
+
+  pub in_rest : (i : ℕ) → get_or (take (length xs - a) (drop a xs)) i nan ≡ nth xs (a + i)
+  in_rest i = ap (λ (ys : List Float). get_or ys i nan) (take_rest xs a) ∙ get_or-drop a xs i nan
+
+  -- a marker's statistics
   pub part_found : (f : Format) (use_stats : Bool) (s : Stats) (n k : ℕ) → k ≡ n → a + n ≤ length xs
       → found_for f use_stats s (length (take k (drop a xs))) (nth (take k (drop a xs))) ≡ found_for f use_stats s n (from xs a)
   part_found f use_stats s n k e h =
@@ -53,7 +60,7 @@ module _ (xs : List Float) (a : ℕ) where
         ∙ ap (λ (ys : List Float). take a xs ++ ys) (map_over_more g (drop a xs) (first n) n x (omega (arith, d)) refl (sym (there ∙ get_or_default (drop a xs) n x nan (omega (arith, d)))))
         ∙ ap (λ (j : ℕ). take a xs ++ first j) (add-one n))
 
-    -- its values, when they are put back
+    -- a marker's values, when they are put back
     pub part_changed : (n k : ℕ) (ys : List Float) → k ≡ n → a + n ≤ length xs → ys ≡ map g (take k (drop a xs)) → put_mid a k xs ys ≡ changed xs a n g
     unfolding first
     part_changed n k ys e h y =

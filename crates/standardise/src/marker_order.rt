@@ -47,8 +47,8 @@ fn column_stats(column: &[f64]) -> Result<MarkerStats, MarkerError>
         a = some.0;
         passed = some.1;
     }
-    for i in passed..column.len() {
-        a = a.add_value(column[i]);
+    for &v in &column[passed..] {
+        a = a.add_value(v);
     }
     a.find_stats()
 }

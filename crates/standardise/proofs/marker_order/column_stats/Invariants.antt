@@ -1,5 +1,5 @@
 -- `column_stats`: the accumulator is that of the animals passed.
-use Rattle.std.proofs.Common.{◌≡◌, ◌-◌, ◌≤◌, length}
+use Rattle.std.proofs.Common.{◌≡◌, ◌+◌, ◌-◌, ◌≤◌, length}
 use lib.Ieee.{binary64}
 use Rattle.statistics.specs.Statistics.{accumulated}
 use Rattle.standardise.specs.Private.{nth}
@@ -11,5 +11,5 @@ invariant-loop-passed l = (l.passed ≤ length l.column) × (l.a ≡ accumulated
 abbrev pub decreases-loop-passed : goal.decreases-loop-passed
 decreases-loop-passed l = length l.column - l.passed
 
-abbrev pub invariant-loop-i : goal.invariant-loop-i
-invariant-loop-i l = l.a ≡ accumulated binary64 (nth l.column) l.i
+abbrev pub invariant-loop-v : goal.invariant-loop-v
+invariant-loop-v l = l.a ≡ accumulated binary64 (nth l.column) (l.passed + l.v-index)
