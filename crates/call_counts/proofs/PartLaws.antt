@@ -62,20 +62,5 @@ module _ (file : List ℕ) (shape : Shape) (sh : Shaped file shape) (fits : leng
         ∙ ap (code_at (get_or file (pair_byte file shape sh (animal k) m (animal_below k h) hm) 0)) (place_there k h)
         ∙ pair_code file shape sh (animal k) m (animal_below k h) hm)
 
-    parts_tally : tally_parts file part run n ≡ tally_named file shape.iids shape.sids il m from n
-    parts_tally = sym (total_ext weight _ _ n parts_code)
-
-  -- ---- by whole bytes, or by resolved entries
-  module _ (along : Bool) (whole : from % 4 ≡ 0) (a : along ≡ true → Along shape il) (p : along ≡ false → EntryParts shape il from n run × (n ≤ 2048)) where
-    pub run_block : along ≡ true → n ≤ 4 * (length file - (part.byte + from / 4))
-    run_block t = block_inside file shape sh il gi (a t).0 (a t).1 m from n part.byte hm l whole fits pm.byte_is small
-
-    pub run_parts : along ≡ false → Inside file part run n × (n ≤ 2048)
-    run_parts f = (parts_inside (p f).0, (p f).1)
-
-    pub run_tally :
-        (r : ℕ) → r ≡ cond along (tally_items file (part.byte + from / 4) n) (tally_parts file part run n)
-        → r ≡ tally_named file shape.iids shape.sids il m from n
-    run_tally r e = by_test along
-        (λ t. block_tally file shape sh il gi (a t).0 (a t).1 m from n part.byte hm l whole fits pm.byte_is small r (e ∙ if_true along _ _ t))
-        (λ f. e ∙ if_false along _ _ f ∙ parts_tally (p f).0)
+    pub parts_tally : (t : ℕ) → t ≡ tally_parts file part run n → t ≡ tally_named file shape.iids shape.sids il m from n
+    parts_tally t e = e ∙ sym (total_ext weight _ _ n parts_code)
