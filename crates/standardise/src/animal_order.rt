@@ -158,6 +158,8 @@ impl Scales {
 }
 
 // The statistics of all markers in animal order.
+// `BuffersFit` is required here and in six functions more. A struct that holds both buffers, with it for a ghost field, would lend both of
+// them to write, and each contract would say in its place which buffer stays, which `&[f64]` says now.
 fn all_stats(
     val: &[f64],
     iid_count: usize,
