@@ -1,5 +1,5 @@
 -- `count_resolved`: the entries so far are counted at every marker.
-use Rattle.std.proofs.Common.{◌≡◌, ◌*◌, ◌≤◌, length}
+use Rattle.std.proofs.Common.{◌≤◌, length}
 use Rattle.call_counts.specs.Private.{EntriesCounted}
 use Rattle.call_counts.proofs.count_resolved.Given as goal
 
