@@ -1,13 +1,12 @@
 -- Laws of resolved entries: what they add to where a call stands, and their tally at a marker.
 use mathlib.Core.Path.{◌≡◌, sym, ap, subst, ◌∙◌}
-use mathlib.Core.Bool.{Bool, true, false, cond}
+use mathlib.Core.Bool.{Bool, true, false}
 use mathlib.Core.List.{List}
 use Rattle.std.specs.Prelude.{None}
-use Prim.Native.Nat.{ℕ, ◌+◌, ◌-◌, ◌*◌, ◌/◌, ◌%◌, ◌^◌, ◌<◌, ◌≤◌}
+use Prim.Native.Nat.{ℕ, ◌+◌, ◌^◌, ◌<◌, ◌≤◌}
 use native.Mathlib.Omega.{arith}
 use lib.IntN.{ℤ, pos}
 use lib.ListN.{length, get_or}
-use Rattle.answer.proofs.Tests.{by_test}
 use Rattle.entries.specs.Entry.{first_bad, means}
 use Rattle.entries.proofs.EntryLaws.{means_below, all_good}
 use Rattle.codes.specs.Code.{code_at}
@@ -17,9 +16,8 @@ use Rattle.calls.specs.Places.{Shaped, IsPart, is_block, part_place}
 use Rattle.calls.proofs.PlaceLaws.{iid_byte_law, sid_byte_law, pair_byte, pair_place, pair_inside, pair_code}
 use Rattle.call_counts.specs.declared.run.RunParts.{RunParts}
 use Rattle.call_counts.specs.Counts.{code_named}
-use Rattle.call_counts.specs.Private.{Along, EntryParts, Inside, weight, tally_items, tally_parts, tally_named}
-use Rattle.call_counts.proofs.TallyLaws.{if_true, if_false, total_ext}
-use Rattle.call_counts.proofs.BlockLaws.{block_tally, block_inside}
+use Rattle.call_counts.specs.Private.{EntryParts, Inside, weight, tally_parts, tally_named}
+use Rattle.call_counts.proofs.TallyLaws.{total_ext}
 
 -- one of an animal and a marker is a block, which adds no place
 one_adds : (b : Bool) (x y : ℕ) → part_place (is_block b true) x + part_place (is_block b false) y < 4

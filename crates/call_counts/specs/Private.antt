@@ -1,12 +1,12 @@
 -- What only private functions speak in.
-use Rattle.std.specs.Prelude.{◌≡◌, true, false, List, [], ◌∷◌, ℕ, zero, suc, ◌+◌, ◌*◌, ◌/◌, ◌%◌, ◌<◌, ◌≤◌, ℤ, pos, length, get_or}
+use Rattle.std.specs.Prelude.{◌≡◌, true, List, [], ◌∷◌, ℕ, zero, suc, ◌+◌, ◌*◌, ◌/◌, ◌%◌, ◌<◌, ◌≤◌, ℤ, pos, length, get_or}
 use Rattle.std.specs.Prelude.{None}
 use Rattle.answer.specs.Lists.{tabulate, how_many}
 use Rattle.entries.specs.Entry.{first_bad, means}
 use Rattle.codes.specs.Code.{copies, code_at}
 use Rattle.calls.specs.declared.Shape.{Shape}
 use Rattle.calls.specs.declared.Part.{Part}
-use Rattle.calls.specs.Places.{Shaped, IsPart, is_block, part_byte, part_place, in_word}
+use Rattle.calls.specs.Places.{Shaped, is_block, part_byte, part_place, in_word}
 use Rattle.call_counts.specs.declared.run.RunParts.{RunParts}
 use Rattle.call_counts.specs.Counts.{same_copies, code_named, counted}
 
@@ -65,13 +65,6 @@ tally = total weight
 -- the tally of n entries of the animal list, from `from` on, at marker m
 abbrev pub tally_named : List ℕ → ℕ → ℕ → List ℤ → ℕ → ℕ → ℕ → ℕ
 tally_named file iids sids iid_list m from n = tally (λ k. code_named file iids sids iid_list m (from + k)) n
-
--- a function may be called with what a marker adds to where a call stands, and returns the tally of n entries of the animal list, from `from` on, at that marker
-pub record TalliesRun (file : List ℕ) (shape : Shape) (iid_list : List ℤ) (from n : ℕ) (pre : Part → Type 0) (post : Part → ℕ → Type 0) : Type 0 where
-  pub callable : (m : ℕ) (part : Part) → m < shape.sids → IsPart (is_block shape.mode1 false) shape.width m part → pre part
-  pub tally_is :
-      (m : ℕ) (part : Part) (t : ℕ) → m < shape.sids → IsPart (is_block shape.mode1 false) shape.width m part → post part t
-      → t ≡ tally_named file shape.iids shape.sids iid_list m from n
 
 -- the weights of the four codes
 abbrev pub code_weights : List ℕ
@@ -143,7 +136,3 @@ count_at file iids sids iid_list sid_list n p =
 pub record CountedTo (g : ℕ → ℕ → ℕ) (size n : ℕ) (counts : List ℕ) : Type 0 where
   pub long : length counts ≡ size
   pub holds : (p : ℕ) → p < size → get_or counts p 0 ≡ g n p
-
--- the counts of every marker named, over the first n entries
-abbrev pub EntriesCounted : List ℕ → Shape → List ℤ → List ℤ → ℕ → List ℕ → Type 0
-EntriesCounted file shape iid_list sid_list n counts = CountedTo (count_at file shape.iids shape.sids iid_list sid_list) (4 * length sid_list) n counts

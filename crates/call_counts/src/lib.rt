@@ -3,7 +3,8 @@
 
 ghost use Rattle.std.specs.Prelude.{◌≡◌, true, ◌+◌, ◌*◌, ◌<◌, ◌≤◌, length};
 ghost use Rattle.call_counts.specs.Counts.{CountsCalls};
-ghost use Rattle.call_counts.specs.Private.{InOrder, Along, EntryParts, TalliesRun, EntriesCounted};
+ghost use Rattle.call_counts.specs.Private.{InOrder, Along, EntryParts};
+ghost use Rattle.call_counts.specs.Runs.{TalliesRun, EntriesCounted};
 ghost use Rattle.bed_read.specs.Says.{read_says};
 
 mod bits;
@@ -39,7 +40,8 @@ fn is_along(lists: &Lists) -> bool
     lists.shape.mode1 && is_in_order(lists.shape.iids, lists.iid_index)
 }
 
-// What n entries of the animal list, from `from` on, add to where a call stands.
+// What n entries of the animal list, from `from` on, add to where a call stands. Not inlined, so that the loop has the registers for itself.
+#[inline(never)]
 fn resolve(lists: &Lists, from: usize, n: usize, run: &mut RunParts)
     requires { (from + n ≤ length lists.now.iid_index.now) × (n ≤ 2048) }
     ensures { EntryParts lists.now.shape lists.now.iid_index.now from n run.new }
@@ -57,10 +59,10 @@ fn resolve(lists: &Lists, from: usize, n: usize, run: &mut RunParts)
 
 // Counts the n entries of the animal list from `from` on, at every marker named, by their tally at each.
 fn count_run<F: Fn(Part) -> u64>(lists: &Lists, from: usize, n: usize, tally: F, counts: &mut [u64])
-    requires { TalliesRun lists.now.file.now lists.now.shape lists.now.iid_index.now from n (F.pre tally) (F.post tally)
+    requires { TalliesRun lists.now from n (F.pre tally) (F.post tally)
         × (from + n ≤ length lists.now.iid_index.now) × (n < 65536)
-        × EntriesCounted lists.now.file.now lists.now.shape lists.now.iid_index.now lists.now.sid_index.now from counts.old }
-    ensures { EntriesCounted lists.now.file.now lists.now.shape lists.now.iid_index.now lists.now.sid_index.now (from + n) counts.new }
+        × EntriesCounted lists.now from counts.old }
+    ensures { EntriesCounted lists.now (from + n) counts.new }
 {
     for m in 0..lists.sid_index.len() {
         let sid: SidIndex = entries::item_of(lists.shape.sids, lists.sid_index[m]);
@@ -72,9 +74,8 @@ fn count_run<F: Fn(Part) -> u64>(lists: &Lists, from: usize, n: usize, tally: F,
 // Counts an animal list in order by whole bytes: as many entries together as a tally holds.
 fn count_along(lists: &Lists, counts: &mut [u64])
     requires { Along lists.now.shape lists.now.iid_index.now
-        × EntriesCounted lists.now.file.now lists.now.shape lists.now.iid_index.now lists.now.sid_index.now 0 counts.old }
-    ensures { EntriesCounted lists.now.file.now lists.now.shape lists.now.iid_index.now lists.now.sid_index.now
-        (length lists.now.iid_index.now) counts.new }
+        × EntriesCounted lists.now 0 counts.old }
+    ensures { EntriesCounted lists.now (length lists.now.iid_index.now) counts.new }
 {
     let table = TallyTable::new();
     let len = lists.iid_index.len();
@@ -92,9 +93,8 @@ fn count_along(lists: &Lists, counts: &mut [u64])
 
 // Counts any animal list: as many entries together as are resolved, fewer where each is a block.
 fn count_resolved(lists: &Lists, counts: &mut [u64])
-    requires { EntriesCounted lists.now.file.now lists.now.shape lists.now.iid_index.now lists.now.sid_index.now 0 counts.old }
-    ensures { EntriesCounted lists.now.file.now lists.now.shape lists.now.iid_index.now lists.now.sid_index.now
-        (length lists.now.iid_index.now) counts.new }
+    requires { EntriesCounted lists.now 0 counts.old }
+    ensures { EntriesCounted lists.now (length lists.now.iid_index.now) counts.new }
 {
     let table = TallyTable::new();
     let mut run = RunParts {
@@ -119,8 +119,7 @@ fn count_resolved(lists: &Lists, counts: &mut [u64])
 // Counts the whole animal list at every marker named.
 fn count_all(lists: &Lists, counts: &mut [u64])
     requires { length counts.old ≡ 4 * length lists.now.sid_index.now }
-    ensures { EntriesCounted lists.now.file.now lists.now.shape lists.now.iid_index.now lists.now.sid_index.now
-        (length lists.now.iid_index.now) counts.new }
+    ensures { EntriesCounted lists.now (length lists.now.iid_index.now) counts.new }
 {
     counts.fill(0);
     if is_along(lists) {

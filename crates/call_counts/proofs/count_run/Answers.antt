@@ -1,5 +1,6 @@
 use Rattle.std.proofs.Common.{rules, arith, ◌+◌, ◌*◌, ◌≤◌, length}
 use Rattle.bed_read.proofs.PartLaws.{meant, meant_below}
+use Rattle.call_counts.specs.Private.{count_at}
 use Rattle.call_counts.proofs.CountLaws.{run_more, count_more, count_room}
 use Rattle.call_counts.proofs.count_run.Goals as goal
 
@@ -23,6 +24,6 @@ loop-m-preserved g c =
     let lists = c.args.lists.now in
     let below = meant_below lists.shape.sids lists.sid_index.now c.loop-m.m _ (search rules) c.item_of-sid.ensures lists.ready.sids_good c.loop-m-test.true in
     let there : 4 * c.loop-m.m + 4 ≤ 4 * length lists.sid_index.now = let h = c.loop-m-test.true in omega arith in
-    run_more _ _ _ _ _ _ _ _ c.loop-m.invariant there c.add_tally.ensures
+    run_more (count_at lists.file.now lists.shape.iids lists.shape.sids lists.iid_index.now lists.sid_index.now) _ _ _ _ _ _ _ c.loop-m.invariant there c.add_tally.ensures
     (count_more lists.file.now lists.shape.iids lists.shape.sids lists.iid_index.now lists.sid_index.now _ _ _ _ _ c.requires.2
     (meant lists.shape.sids lists.sid_index.now c.loop-m.m _ (search rules) c.item_of-sid.ensures) (c.requires.0.tally_is _ _ _ below c.part_of.ensures c.tally-packed.ensures))
