@@ -158,8 +158,8 @@ impl Scales {
 }
 
 // The statistics of all markers in animal order.
-// `BuffersFit` is required here and in six functions more. A struct that holds both buffers, with it for a ghost field, would lend both of
-// them to write, and each contract would say in its place which buffer stays, which `&[f64]` says now.
+// `BuffersFit` is required here and in six functions more. In a struct that holds both buffers it can be a ghost field (tried, it proves),
+// but each method would borrow both to write, and its contract would say in place of this line which buffer and that the counts stay.
 fn all_stats(
     val: &[f64],
     iid_count: usize,
