@@ -19,10 +19,6 @@ use Rattle.call_counts.specs.Private.{tally_named, in_tally, Added, count_at, Co
 use Rattle.answer.proofs.HowMany.{many_most, many_add}
 use Rattle.call_counts.proofs.TallyLaws.{in_tally_law}
 
--- runs begin at whole bytes
-pub next_whole : (from n len : ℕ) → from % 4 ≡ 0 → (from + n < len → n % 4 ≡ 0) → from + n < len → (from + n) % 4 ≡ 0
-next_whole from n len e f h = let g = f h in omega arith
-
 -- ---- the counts buffer, marker by marker, over any counts g n p of n entries at place p
 -- the first m markers are counted up to the entry `until`, and the others up to `from`
 pub record RunTo (g : ℕ → ℕ → ℕ) (size from until m : ℕ) (counts : List ℕ) : Type 0 where
@@ -31,9 +27,6 @@ pub record RunTo (g : ℕ → ℕ → ℕ) (size from until m : ℕ) (counts : L
   pub waiting : (p : ℕ) → 4 * m ≤ p → p < size → get_or counts p 0 ≡ g from p
 
 module _ (g : ℕ → ℕ → ℕ) (size from until : ℕ) where
-  pub run_none : (counts : List ℕ) → CountedTo g size from counts → RunTo g size from until 0 counts
-  run_none counts t = record { long = t.long; counted_to = λ p h. absurd (omega arith); waiting = λ p a b. t.holds p b }
-
   pub run_more :
       (m packed : ℕ) (old new : List ℕ) → RunTo g size from until m old → 4 * m + 4 ≤ size → Added old (4 * m) packed new
       → ((j : ℕ) → j < 4 → g until (4 * m + j) ≡ g from (4 * m + j) + in_tally packed j) → RunTo g size from until (m + 1) new
@@ -55,9 +48,6 @@ module _ (g : ℕ → ℕ → ℕ) (size from until : ℕ) where
       here p b c =
           let q : 4 * m + (p - 4 * m) ≡ p = omega arith in
           subst (λ (x : ℕ). get_or new x 0 ≡ g until x) q (place (p - 4 * m) (omega arith))
-
-  pub run_all : (m : ℕ) (counts : List ℕ) → RunTo g size from until m counts → size ≤ 4 * m → CountedTo g size until counts
-  run_all m counts r h = record { long = r.long; holds = λ p b. r.counted_to p (omega arith) }
 
 -- ---- what belongs there
 module _ (file : List ℕ) (iids sids : ℕ) (il sl : List ℤ) where

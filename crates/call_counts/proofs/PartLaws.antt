@@ -1,13 +1,12 @@
 -- Laws of resolved entries: what they add to where a call stands, and their tally at a marker.
 use mathlib.Core.Path.{◌≡◌, sym, ap, subst, ◌∙◌}
-use mathlib.Core.Bool.{Bool, true, false, cond}
+use mathlib.Core.Bool.{Bool, true, false}
 use mathlib.Core.List.{List}
 use Rattle.std.specs.Prelude.{None}
-use Prim.Native.Nat.{ℕ, ◌+◌, ◌-◌, ◌*◌, ◌/◌, ◌%◌, ◌^◌, ◌<◌, ◌≤◌}
+use Prim.Native.Nat.{ℕ, ◌+◌, ◌^◌, ◌<◌, ◌≤◌}
 use native.Mathlib.Omega.{arith}
 use lib.IntN.{ℤ, pos}
 use lib.ListN.{length, get_or}
-use Rattle.answer.proofs.Tests.{by_test}
 use Rattle.entries.specs.Entry.{first_bad, means}
 use Rattle.entries.proofs.EntryLaws.{means_below, all_good}
 use Rattle.codes.specs.Code.{code_at}
@@ -17,9 +16,8 @@ use Rattle.calls.specs.Places.{Shaped, IsPart, is_block, part_place}
 use Rattle.calls.proofs.PlaceLaws.{iid_byte_law, sid_byte_law, pair_byte, pair_place, pair_inside, pair_code}
 use Rattle.call_counts.specs.declared.run.RunParts.{RunParts}
 use Rattle.call_counts.specs.Counts.{code_named}
-use Rattle.call_counts.specs.Private.{Along, EntryParts, Inside, weight, tally_items, tally_parts, tally_named}
-use Rattle.call_counts.proofs.TallyLaws.{if_true, if_false, total_ext}
-use Rattle.call_counts.proofs.BlockLaws.{block_tally, block_inside}
+use Rattle.call_counts.specs.Private.{EntryParts, Inside, weight, tally_parts, tally_named}
+use Rattle.call_counts.proofs.TallyLaws.{total_ext}
 
 -- one of an animal and a marker is a block, which adds no place
 one_adds : (b : Bool) (x y : ℕ) → part_place (is_block b true) x + part_place (is_block b false) y < 4
@@ -62,20 +60,5 @@ module _ (file : List ℕ) (shape : Shape) (sh : Shaped file shape) (fits : leng
         ∙ ap (code_at (get_or file (pair_byte file shape sh (animal k) m (animal_below k h) hm) 0)) (place_there k h)
         ∙ pair_code file shape sh (animal k) m (animal_below k h) hm)
 
-    parts_tally : tally_parts file part run n ≡ tally_named file shape.iids shape.sids il m from n
-    parts_tally = sym (total_ext weight _ _ n parts_code)
-
-  -- ---- by whole bytes, or by resolved entries
-  module _ (along : Bool) (whole : from % 4 ≡ 0) (a : along ≡ true → Along shape il) (p : along ≡ false → EntryParts shape il from n run × (n ≤ 2048)) where
-    pub run_block : along ≡ true → n ≤ 4 * (length file - (part.byte + from / 4))
-    run_block t = block_inside file shape sh il gi (a t).0 (a t).1 m from n part.byte hm l whole fits pm.byte_is small
-
-    pub run_parts : along ≡ false → Inside file part run n × (n ≤ 2048)
-    run_parts f = (parts_inside (p f).0, (p f).1)
-
-    pub run_tally :
-        (r : ℕ) → r ≡ cond along (tally_items file (part.byte + from / 4) n) (tally_parts file part run n)
-        → r ≡ tally_named file shape.iids shape.sids il m from n
-    run_tally r e = by_test along
-        (λ t. block_tally file shape sh il gi (a t).0 (a t).1 m from n part.byte hm l whole fits pm.byte_is small r (e ∙ if_true along _ _ t))
-        (λ f. e ∙ if_false along _ _ f ∙ parts_tally (p f).0)
+    pub parts_tally : (t : ℕ) → t ≡ tally_parts file part run n → t ≡ tally_named file shape.iids shape.sids il m from n
+    parts_tally t e = e ∙ sym (total_ext weight _ _ n parts_code)

@@ -1,6 +1,6 @@
 -- Laws of counts and of tallies, over plain numbers and lists.
 use mathlib.Core.Path.{◌≡◌, refl, sym, ap, subst, ◌∙◌}
-use mathlib.Core.Bool.{Bool, true, false, cond}
+use mathlib.Core.Bool.{cond}
 use mathlib.Core.List.{List}
 use Prim.Native.Nat.{ℕ, zero, suc, ◌+◌, ◌*◌, ◌/◌, ◌%◌, ◌^◌, ◌<◌, ◌≤◌}
 use native.Mathlib.Nat.{add-zero}
@@ -9,7 +9,6 @@ use native.Mathlib.Omega.{arith}
 use lib.ListN.{length, get_or, set, length-set}
 use lib.Seq.{get_or-set_same, get_or-set_other}
 use Rattle.answer.specs.Lists.{how_many}
-use Rattle.answer.proofs.Tests.{by_lt}
 use Rattle.codes.specs.Code.{copies, code_at}
 use Rattle.call_counts.specs.Counts.{same_copies, counted}
 use Rattle.call_counts.specs.Private.{total, weight, code_weights, tally, in_tally, Added}
@@ -27,13 +26,6 @@ pub weight_there :
 unfolding code_at
 weight_there weights x byte place e f =
     ap (λ (l : List ℕ). get_or l (x % 4) 0) e ∙ four_weights (x % 4) (omega arith) ∙ ap (λ (y : ℕ). weight (y % 4)) f
-
--- ---- one of two numbers, by a test
-pub if_true : (b : Bool) (x y : ℕ) → b ≡ true → cond b x y ≡ x
-if_true b x y e = ap (λ (t : Bool). cond t x y) e
-
-pub if_false : (b : Bool) (x y : ℕ) → b ≡ false → cond b x y ≡ y
-if_false b x y e = ap (λ (t : Bool). cond t x y) e
 
 -- ---- how many codes are counted where
 -- how many of n codes are counted at place j
@@ -228,10 +220,3 @@ module _ (old : List ℕ) (at v0 v1 v2 v3 : ℕ) (h : at + 4 ≤ length old) whe
           there = summed;
           after_same = λ p b. others p (λ x. omega arith) (λ x. omega arith) (λ x. omega arith) (λ x. omega arith);
         }
-
--- ---- zeros so far
-pub zero_more :
-    (counts : List ℕ) (i : ℕ) → i < length counts → ((p : ℕ) → p < i → get_or counts p 0 ≡ 0) → (p : ℕ) → p < i + 1 → get_or (set counts i 0) p 0 ≡ 0
-zero_more counts i h z p b =
-    by_lt p i (λ c. get_or-set_other counts i p 0 0 (λ x. omega arith) ∙ z p c)
-    (λ c. let q : i ≡ p = omega arith in subst (λ (x : ℕ). get_or (set counts i 0) x 0 ≡ 0) q (get_or-set_same counts i 0 0 h))

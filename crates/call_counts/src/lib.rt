@@ -1,19 +1,22 @@
 // How many calls of each marker are 0, 1, 2 and missing.
 #![tactic(auto)]
 
-ghost use Rattle.std.specs.Prelude.{◌≡◌, true, false, ℕ, ◌+◌, ◌*◌, ◌%◌, ◌<◌, ◌≤◌, length, get_or};
+ghost use Rattle.std.specs.Prelude.{◌≡◌, true, ◌+◌, ◌*◌, ◌<◌, ◌≤◌, length};
 ghost use Rattle.call_counts.specs.Counts.{CountsCalls};
-ghost use Rattle.call_counts.specs.Private.{Ready, InOrder, Along, EntryParts, count_at, CountedTo};
+ghost use Rattle.call_counts.specs.Private.{InOrder, Along, EntryParts};
+ghost use Rattle.call_counts.specs.Runs.{TalliesRun, EntriesCounted};
 ghost use Rattle.bed_read.specs.Says.{read_says};
 
 mod bits;
+mod lists;
 mod run;
 mod table;
 mod tallies;
 
 use bed_read::ReadError;
-use calls::Shape;
+use calls::Part;
 use entries::{IidIndex, SidIndex};
+use lists::Lists;
 use run::RunParts;
 use table::TallyTable;
 
@@ -31,38 +34,22 @@ fn is_in_order(iid_count: usize, iid_index: &[i64]) -> bool
 }
 
 // Whether a marker is a block and the entries are its items, in order.
-fn is_along(shape: Shape, iid_index: &[i64]) -> bool
-    ensures { result ≡ true → Along shape iid_index.now }
+fn is_along(lists: &Lists) -> bool
+    ensures { result ≡ true → Along lists.now.shape lists.now.iid_index.now }
 {
-    shape.mode1 && is_in_order(shape.iids, iid_index)
-}
-
-// How many entries are tallied together: in order what a tally holds, in whole bytes, else as many as are resolved, fewer where each is a block.
-fn run_limit(mode_1: bool, along: bool) -> usize
-    ensures { (0 < result) × (result < 65536) × (result % 4 ≡ 0) × (along ≡ false → result ≤ 2048) }
-{
-    if along {
-        return 65532;
-    }
-    if mode_1 {
-        return 2048;
-    }
-    128
-}
-
-// How many from `from` on: as many as may be, or what is left.
-fn run_length(from: usize, len: usize, limit: usize) -> usize
-    requires { (from < len) × (0 < limit) }
-    ensures { (0 < result) × (from + result ≤ len) × (result ≤ limit) × (from + result < len → result ≡ limit) }
-{
-    limit.min(len - from)
+    lists.shape.mode1 && is_in_order(lists.shape.iids, lists.iid_index)
 }
 
 // What n entries of the animal list, from `from` on, add to where a call stands.
-fn resolve(shape: Shape, iid_index: &[i64], from: usize, n: usize, run: &mut RunParts)
-    requires { (from + n ≤ length iid_index.now) × (n ≤ 2048) }
-    ensures { EntryParts shape iid_index.now from n run.new }
+// Not inlined: inlined, one marker of a mode 0 file was measured to take 1.24 times as long.
+#[inline(never)]
+fn resolve(lists: &Lists, from: usize, n: usize, run: &mut RunParts)
+    requires { (from + n ≤ length lists.now.iid_index.now) × (n ≤ 2048) }
+    ensures { EntryParts lists.now.shape lists.now.iid_index.now from n run.new }
 {
+    // Copied, so that a store costs no load of them again.
+    let shape = lists.shape;
+    let iid_index = lists.iid_index;
     for k in 0..n {
         let iid: IidIndex = entries::item_of(shape.iids, iid_index[from + k]);
         let part = calls::part_of(shape, iid);
@@ -71,74 +58,75 @@ fn resolve(shape: Shape, iid_index: &[i64], from: usize, n: usize, run: &mut Run
     }
 }
 
-// The same, if the run is not tallied by whole bytes.
-fn resolve_run(
-    shape: Shape,
-    iid_index: &[i64],
-    along: bool,
-    from: usize,
-    n: usize,
-    run: &mut RunParts,
-)
-    requires { (from + n ≤ length iid_index.now) × (along ≡ false → n ≤ 2048) }
-    ensures { along ≡ false → EntryParts shape iid_index.now from n run.new }
+// Counts the n entries of the animal list from `from` on, at every marker named, by their tally at each.
+fn count_run<F: Fn(Part) -> u64>(lists: &Lists, from: usize, n: usize, tally: F, counts: &mut [u64])
+    requires { TalliesRun lists.now from n (F.pre tally) (F.post tally)
+        × (from + n ≤ length lists.now.iid_index.now) × (n < 65536)
+        × EntriesCounted lists.now from counts.old }
+    ensures { EntriesCounted lists.now (from + n) counts.new }
 {
-    if along {
-        return;
-    }
-    resolve(shape, iid_index, from, n, run);
-}
-
-// Counts the n entries of the animal list from `from` on, at every marker named.
-fn count_run(
-    file: &[u8],
-    shape: Shape,
-    iid_index: &[i64],
-    sid_index: &[i64],
-    along: bool,
-    from: usize,
-    run: &RunParts,
-    n: usize,
-    table: &TallyTable,
-    counts: &mut [u64],
-)
-    requires { Ready file.now shape iid_index.now sid_index.now
-        × (from + n ≤ length iid_index.now) × (from % 4 ≡ 0) × (0 < n) × (n < 65536)
-        × (along ≡ true → Along shape iid_index.now)
-        × (along ≡ false → EntryParts shape iid_index.now from n run.now × (n ≤ 2048))
-        × CountedTo (count_at file.now shape.iids shape.sids iid_index.now sid_index.now) (4 * length sid_index.now) from counts.old }
-    ensures { CountedTo (count_at file.now shape.iids shape.sids iid_index.now sid_index.now)
-        (4 * length sid_index.now) (from + n) counts.new }
-{
-    let first = from / 4;
-    for m in 0..sid_index.len() {
-        let sid: SidIndex = entries::item_of(shape.sids, sid_index[m]);
-        let part = calls::part_of(shape, sid);
-        let packed = tallies::tally_run(file, part, along, first, run, n, table);
+    for m in 0..lists.sid_index.len() {
+        let sid: SidIndex = entries::item_of(lists.shape.sids, lists.sid_index[m]);
+        let packed = tally(calls::part_of(lists.shape, sid));
         tallies::add_tally(counts, 4 * m, packed);
     }
 }
 
-// Counts the whole animal list, run by run, at every marker named.
-fn count_all(file: &[u8], shape: Shape, iid_index: &[i64], sid_index: &[i64], counts: &mut [u64])
-    requires { Ready file.now shape iid_index.now sid_index.now × (length counts.old ≡ 4 * length sid_index.now) }
-    ensures { CountedTo (count_at file.now shape.iids shape.sids iid_index.now sid_index.now)
-        (4 * length sid_index.now) (length iid_index.now) counts.new }
+// Counts an animal list in order by whole bytes: as many entries together as a tally holds.
+fn count_along(lists: &Lists, counts: &mut [u64])
+    requires { Along lists.now.shape lists.now.iid_index.now
+        × EntriesCounted lists.now 0 counts.old }
+    ensures { EntriesCounted lists.now (length lists.now.iid_index.now) counts.new }
 {
     let table = TallyTable::new();
-    let along = is_along(shape, iid_index);
-    let limit = run_limit(shape.mode1, along);
+    let len = lists.iid_index.len();
+    for from in (0..len).step_by(65532) {
+        let n = (len - from).min(65532);
+        count_run(
+            lists,
+            from,
+            n,
+            |part| tallies::tally_block(lists.file, part.byte + from / 4, n, &table),
+            counts,
+        );
+    }
+}
+
+// Counts any animal list: as many entries together as are resolved, fewer where each is a block.
+fn count_resolved(lists: &Lists, counts: &mut [u64])
+    requires { EntriesCounted lists.now 0 counts.old }
+    ensures { EntriesCounted lists.now (length lists.now.iid_index.now) counts.new }
+{
+    let table = TallyTable::new();
     let mut run = RunParts {
         bytes: [0; 2048],
         places: [0; 2048],
     };
-    counts.fill(0);
-    for from in (0..iid_index.len()).step_by(limit) {
-        let n = run_length(from, iid_index.len(), limit);
-        resolve_run(shape, iid_index, along, from, n, &mut run);
+    let len = lists.iid_index.len();
+    let limit = if lists.shape.mode1 { 2048 } else { 128 };
+    for from in (0..len).step_by(limit) {
+        let n = (len - from).min(limit);
+        resolve(lists, from, n, &mut run);
         count_run(
-            file, shape, iid_index, sid_index, along, from, &run, n, &table, counts,
+            lists,
+            from,
+            n,
+            |part| tallies::tally_parts(lists.file, part, &run, n, &table),
+            counts,
         );
+    }
+}
+
+// Counts the whole animal list at every marker named.
+fn count_all(lists: &Lists, counts: &mut [u64])
+    requires { length counts.old ≡ 4 * length lists.now.sid_index.now }
+    ensures { EntriesCounted lists.now (length lists.now.iid_index.now) counts.new }
+{
+    counts.fill(0);
+    if is_along(lists) {
+        count_along(lists, counts);
+    } else {
+        count_resolved(lists, counts);
     }
 }
 
@@ -164,6 +152,12 @@ pub fn count_calls(
         counts.len(),
     )?;
     let shape = calls::shape_of(file, iid_count, sid_count);
-    count_all(file, shape, iid_index, sid_index, counts);
+    let lists = Lists {
+        file,
+        shape,
+        iid_index,
+        sid_index,
+    };
+    count_all(&lists, counts);
     Ok(())
 }

@@ -1,5 +1,5 @@
 // Tallies: the counts of a marker over a part of the animal list, in one number.
-ghost use Rattle.std.specs.Prelude.{◌≡◌, true, false, cond, ℕ, ◌+◌, ◌-◌, ◌*◌, ◌^◌, ◌<◌, ◌≤◌, length, get_or};
+ghost use Rattle.std.specs.Prelude.{◌≡◌, ℕ, ◌+◌, ◌-◌, ◌*◌, ◌^◌, ◌<◌, ◌≤◌, length, get_or};
 ghost use Rattle.call_counts.specs.Private.{Inside, tally_items, tally_parts, in_tally, Added};
 
 use crate::bits;
@@ -8,7 +8,7 @@ use crate::table::TallyTable;
 use calls::Part;
 
 // The tally of the first n items of the block that starts at a byte: by rows of 16 bytes, then byte by byte, then the items of the last one; pads are not counted.
-fn tally_block(file: &[u8], start: usize, n: usize, table: &TallyTable) -> u64
+pub(crate) fn tally_block(file: &[u8], start: usize, n: usize, table: &TallyTable) -> u64
     requires { (n ≤ 4 * (length file.now - start)) × (n < 65536) }
     ensures { result ≡ tally_items file.now start n }
 {
@@ -25,7 +25,13 @@ fn tally_block(file: &[u8], start: usize, n: usize, table: &TallyTable) -> u64
 }
 
 // The tally of n resolved entries at a marker.
-fn tally_parts(file: &[u8], part: Part, run: &RunParts, n: usize, table: &TallyTable) -> u64
+pub(crate) fn tally_parts(
+    file: &[u8],
+    part: Part,
+    run: &RunParts,
+    n: usize,
+    table: &TallyTable,
+) -> u64
     requires { Inside file.now part run.now n × (n ≤ 2048) }
     ensures { result ≡ tally_parts file.now part run.now n }
 {
@@ -35,28 +41,6 @@ fn tally_parts(file: &[u8], part: Part, run: &RunParts, n: usize, table: &TallyT
         sum = sum + table.weight_at(byte, part.place + usize::from(run.places[k]));
     }
     sum
-}
-
-// The tally of a run at a marker: of n items from byte `first` of its block on, or of n resolved entries.
-pub(crate) fn tally_run(
-    file: &[u8],
-    part: Part,
-    along: bool,
-    first: usize,
-    run: &RunParts,
-    n: usize,
-    table: &TallyTable,
-) -> u64
-    requires { (along ≡ true → n ≤ 4 * (length file.now - (part.byte + first)))
-        × (along ≡ false → Inside file.now part run.now n × (n ≤ 2048))
-        × (0 < n) × (n < 65536) }
-    ensures { result ≡ cond along (tally_items file.now (part.byte + first) n)
-        (tally_parts file.now part run.now n) }
-{
-    if along {
-        return tally_block(file, part.byte + first, n, table);
-    }
-    tally_parts(file, part, run, n, table)
 }
 
 // Adds the four counts of a tally to those from place `at` on.

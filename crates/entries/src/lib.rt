@@ -25,6 +25,7 @@ pub trait Item: Copy {
     fn is_animal() -> bool
         ensures { result ≡ is_animal };
 
+    // A member, and not `From<usize>`: its clause is in the words of this trait.
     fn from_number(n: usize) -> Self
         ensures { number result ≡ n };
 

@@ -23,7 +23,7 @@ pub fn bed_byte_span(count: usize, index: &[i64]) -> BedAnswer
     BedAnswer::from(entries::byte_span(count, index))
 }
 
-// A bound's number is not looked at where it is absent.
+// A bound's number is not looked at where it is absent. The flags beside the numbers are the C interface's parameters.
 fn range_of(has_start: bool, start: usize, has_end: bool, end: usize) -> RangeAny
     ensures { result ≡ range_of has_start start has_end end }
 {

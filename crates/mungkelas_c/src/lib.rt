@@ -1,4 +1,5 @@
 // The C interface: what include/mungkelas.h declares. Each call is the one of its name in mungkelas, under the name that C has.
+// An export has no type parameter, and C passes a bound that may be absent as a flag and a number: hence a call for each type, and the flags.
 #![tactic(auto)]
 
 ghost use Rattle.std.specs.Prelude.{◌≡◌};

@@ -6,11 +6,13 @@ use std::alloc::{AllocError, Global};
 use stored_list::line::{Line, Section};
 use stored_list::stored::Stored;
 
-// Whether a call answered what the line has.
-fn same_answer(line: &Line, answer: BedAnswer) -> bool {
-    answer.number.has_word(line.word(Section::Answer, 0))
-        && answer.first.has_word(line.word(Section::Answer, 1))
-        && answer.second.has_word(line.word(Section::Answer, 2))
+// What the line says that the call answered.
+fn answer_of(line: &Line) -> BedAnswer {
+    BedAnswer {
+        number: line.word(Section::Answer, 0),
+        first: i64::from_word(line.word(Section::Answer, 1)),
+        second: i64::from_word(line.word(Section::Answer, 2)),
+    }
 }
 
 // The buffer that has what each word of a section stands for.
@@ -35,7 +37,7 @@ fn writes<T: Stored, F: FnOnce(&mut [T]) -> BedAnswer>(
 {
     let mut buffer = buffer_at(alloc, line, section)?;
     let answer = call(buffer.as_mut_slice());
-    Ok(same_answer(line, answer) && line.same_at(Section::Later, buffer.as_slice()))
+    Ok(answer == answer_of(line) && line.same_at(Section::Later, buffer.as_slice()))
 }
 
 // A call that writes values and their statistics.
@@ -50,7 +52,7 @@ fn writes_stats<F: FnOnce(&mut [f64], &mut [f64]) -> BedAnswer>(
     let mut stats = buffer_at(alloc, line, Section::Stats)?;
     let answer = call(val.as_mut_slice(), stats.as_mut_slice());
     Ok(
-        same_answer(line, answer)
+        answer == answer_of(line)
             && line.same_at(Section::Later, val.as_slice())
             && line.same_at(Section::LaterStats, stats.as_slice()),
     )
@@ -59,21 +61,21 @@ fn writes_stats<F: FnOnce(&mut [f64], &mut [f64]) -> BedAnswer>(
 fn open_and_check(alloc: Global, line: &Line) -> Result<bool, AllocError> {
     let file = buffer_at(alloc, line, Section::Bytes)?;
     let answer = mungkelas::bed_open_and_check(file.as_slice());
-    Ok(same_answer(line, answer))
+    Ok(answer == answer_of(line))
 }
 
 fn try_div_4(line: &Line) -> bool {
     let in_iid_count = line.number(0);
     let in_sid_count = line.number(1);
     let answer = mungkelas::bed_try_div_4(in_iid_count, in_sid_count);
-    same_answer(line, answer)
+    answer == answer_of(line)
 }
 
 fn byte_span(alloc: Global, line: &Line) -> Result<bool, AllocError> {
     let count = line.number(0);
     let index = buffer_at(alloc, line, Section::Index)?;
     let answer = mungkelas::bed_byte_span(count, index.as_slice());
-    Ok(same_answer(line, answer))
+    Ok(answer == answer_of(line))
 }
 
 fn to_range(line: &Line) -> bool {
@@ -83,7 +85,7 @@ fn to_range(line: &Line) -> bool {
     let has_end = line.number(3);
     let end = line.number(4);
     let answer = mungkelas::bed_to_range(count, has_start, start, has_end, end);
-    same_answer(line, answer)
+    answer == answer_of(line)
 }
 
 fn read<T: Value>(alloc: Global, line: &Line) -> Result<bool, AllocError> {
@@ -274,7 +276,7 @@ where
         width,
         piece.as_mut_slice(),
     );
-    Ok(same_answer(line, answer) && line.same_at(Section::Later, piece.as_slice()))
+    Ok(answer == answer_of(line) && line.same_at(Section::Later, piece.as_slice()))
 }
 
 // The root's bits stand in the place of the first number.

@@ -1,11 +1,11 @@
 -- What is found, stored and changed, by what there is for a marker.
 use mathlib.Core.Path.{◌≡◌, refl, sym, ap, ◌∙◌}
 use mathlib.Core.Bool.{Bool, true, false, cond}
-use mathlib.Core.List.{List}
-use Prim.Native.Nat.{ℕ, ◌+◌, ◌*◌, ◌≤◌}
+use mathlib.Core.List.{List, map}
+use Prim.Native.Nat.{ℕ, ◌+◌, ◌*◌}
 use native.Mathlib.Nat.{add-zero}
-use native.Mathlib.Omega.{arith}
 use lib.ListN.{get_or, set}
+use Rattle.std.proofs.lemmas.List.{map-id}
 use lib.Ieee.{Float, nan, Format, div}
 use Rattle.statistics.specs.declared.Stats.{Stats}
 use Rattle.std.specs.Prelude.{Option, Some, None, Result, Ok, Err}
@@ -14,9 +14,9 @@ use Rattle.statistics.specs.declared.MarkerError.{MarkerError}
 use Rattle.statistics.specs.declared.MarkerError.TheVariants.{NoIndividuals, IllegalSnpMean}
 use Rattle.statistics.specs.Statistics.{lent, one, is_infinite, standardised, in_places, stats_per_marker, marker_stats, found_for}
 use Rattle.standardise.specs.Standardised.{lent_or_new, kept_or_new, applied}
-use Rattle.standardise.specs.Private.{later_value, written, changed, stored_stats}
+use Rattle.standardise.specs.Private.{later_value, written, stored_stats}
 use Rattle.statistics.specs.Statistics.{scaled_by}
-use Rattle.standardise.proofs.StoreLaws.{written_ext, written_same, changed_ext}
+use Rattle.standardise.proofs.StoreLaws.{written_ext, written_same}
 
 -- ---- the reciprocal, worked out once, gives the standardised value
 module _ (f : Format) (s : Stats) (factor : Float) (infinite : Bool) (p : factor ≡ div f one s.deviation) (q : infinite ≡ is_infinite s.deviation) where
@@ -24,35 +24,22 @@ module _ (f : Format) (s : Stats) (factor : Float) (infinite : Bool) (p : factor
   unfolding scaled_by standardised
   scaled_standardised v = simp (p, q)
 
-  pub all_scaled : (xs : List Float) (start n i : ℕ) (ys : List Float) → ys ≡ changed xs start i (scaled_by f s.mean factor infinite) → i ≤ n → n ≤ i
-      → ys ≡ changed xs start n (standardised f s)
-  all_scaled xs start n i ys e h k =
-      let z : i ≡ n = omega arith in
-      e ∙ ap (λ (j : ℕ). changed xs start j (scaled_by f s.mean factor infinite)) z
-      ∙ changed_ext xs start n (scaled_by f s.mean factor infinite) (standardised f s) scaled_standardised
-
 -- ---- values by the choice to apply and by what is found
-module _ (f : Format) (xs : List Float) (start n : ℕ) where
-  unchanged : (g : Float → Float) → ((v : Float) → v ≡ g v) → xs ≡ changed xs start n g
-  unchanged g e = sym (written_same xs (λ i. start + i) n) ∙ changed_ext xs start n (λ v. v) g e
+module _ (f : Format) (xs : List Float) where
+  unchanged : (g : Float → Float) → ((v : Float) → v ≡ g v) → xs ≡ map g xs
+  unchanged g e = sym (map-id xs) ∙ (λ i. map (λ v. e v i) xs)
 
-  pub not_applied : (apply : Bool) (found : Result MarkerStats MarkerError) → apply ≡ false → xs ≡ changed xs start n (later_value f apply found)
+  pub not_applied : (apply : Bool) (found : Result MarkerStats MarkerError) → apply ≡ false → xs ≡ map (later_value f apply found) xs
   unfolding later_value
   not_applied apply found e = unchanged (later_value f apply found) (λ v. sym (ap (λ (b : Bool). cond b (applied f found v) v) e))
 
-  applied_by : (apply : Bool) (found x : Result MarkerStats MarkerError) (s : Stats) → apply ≡ true → found ≡ x → ((v : Float) → applied f x v ≡ standardised f s v)
-      → changed xs start n (standardised f s) ≡ changed xs start n (later_value f apply found)
-  unfolding later_value
-  applied_by apply found x s e g h =
-      changed_ext xs start n (standardised f s) (later_value f apply found)
-      (λ v. sym (ap (λ (b : Bool). later_value f b found v) e ∙ ap (λ (y : Result MarkerStats MarkerError). later_value f true y v) g ∙ h v))
-
   pub applied_found : (apply : Bool) (found : Result MarkerStats MarkerError) (x : MarkerStats) → apply ≡ true → found ≡ Ok x
-      → changed xs start n (standardised f x.stats) ≡ changed xs start n (later_value f apply found)
-  unfolding applied
-  applied_found apply found x e g = applied_by apply found (Ok x) x.stats e g (λ v. refl)
+      → map (standardised f x.stats) xs ≡ map (later_value f apply found) xs
+  unfolding later_value applied
+  applied_found apply found x e g =
+      sym (ap (λ (b : Bool). map (later_value f b found) xs) e ∙ ap (λ (y : Result MarkerStats MarkerError). map (later_value f true y) xs) g)
 
-  pub refused_kept : (apply : Bool) (found : Result MarkerStats MarkerError) (e : MarkerError) → found ≡ Err e → xs ≡ changed xs start n (later_value f apply found)
+  pub refused_kept : (apply : Bool) (found : Result MarkerStats MarkerError) (e : MarkerError) → found ≡ Err e → xs ≡ map (later_value f apply found) xs
   unfolding later_value applied
   refused_kept apply found e g = unchanged (later_value f apply found) (λ v. sym (ap (λ (x : Result MarkerStats MarkerError). later_value f apply x v) g ∙ kept apply e v))
     where

@@ -1,17 +1,14 @@
 -- Four values more at once.
 use mathlib.Core.Path.{◌≡◌, refl, sym, ap, ◌∙◌}
 use mathlib.Core.Bool.{false}
-use mathlib.Core.List.{List}
 use Prim.Native.Nat.{ℕ, ◌+◌}
-use native.Mathlib.Nat.{add_assoc}
 use native.Mathlib.Omega.{arith}
-use lib.ListN.{get_or}
-use lib.Ieee.{Float, nan, Format, add, mul, is_nan}
+use lib.Ieee.{Float, Format, add, mul, is_nan}
 use Rattle.statistics.specs.declared.Accumulator.{Accumulator}
 use Rattle.statistics.specs.Statistics.{one, counted, accumulated}
 use Rattle.statistics.proofs.CountLaws.{accumulated_more}
 use Rattle.statistics.proofs.FloatLaws.{number_counted}
-use Rattle.standardise.specs.Private.{from, counted_four, Accumulates}
+use Rattle.standardise.specs.Private.{counted_four, Accumulates}
 
 -- one after the other
 pub each_counted :
@@ -70,7 +67,3 @@ module _ (f : Format) (a : Accumulator) (i : ℕ) (v0 v1 v2 v3 : Float) where
         ∙ ap (λ (x : Float). counted_four f a (column i) (column (i + 1)) (column (i + 2)) x) e3)
         s,
   )
-
--- a place of a column
-pub column_place : (val : List Float) (start i j : ℕ) → get_or val (start + i + j) nan ≡ from val start (i + j)
-column_place val start i j = ap (λ (x : ℕ). get_or val x nan) (add_assoc start i j)

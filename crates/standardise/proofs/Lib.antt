@@ -3,6 +3,7 @@ pub mod CellLaws
 pub mod ChoiceLaws
 pub mod PassLaws
 pub mod FourLaws
+pub mod ColumnLaws
 pub mod TileLaws
 pub mod ApplyLaws
 pub mod CallLaws

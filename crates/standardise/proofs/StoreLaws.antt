@@ -10,7 +10,7 @@ use lib.Seq.{get_or-set_same, get_or-set_other, set-get_or}
 use lib.Ieee.{Float, nan}
 use borrow.Author.Tests.{eqb-true, eqb-false}
 use Rattle.answer.proofs.Tests.{by_test}
-use Rattle.standardise.specs.Private.{written, from, changed}
+use Rattle.standardise.specs.Private.{written, from}
 
 module _ (xs : List Float) (place : ℕ → ℕ) where
   pub length_written : (v : ℕ → Float) (k : ℕ) → length (written xs place v k) ≡ length xs
@@ -81,10 +81,3 @@ row_changed_more xs start change n ys w e g =
     written_more xs (λ i. start + i) (λ i. change i (from xs start i)) n ys w e
     (g ∙ ap (λ (l : List Float). change n (get_or l (start + n) nan)) e
     ∙ ap (change n) (unwritten xs (λ i. start + i) (λ i. change i (from xs start i)) n (start + n) (λ j h p. let q : start + j ≡ start + n = p in omega arith)))
-
-pub changed_more : (xs : List Float) (start : ℕ) (change : Float → Float) (n : ℕ) (ys : List Float) (w : Float) → ys ≡ changed xs start n change
-    → w ≡ change (get_or ys (start + n) nan) → set ys (start + n) w ≡ changed xs start (n + 1) change
-changed_more xs start change n ys w e g = row_changed_more xs start (λ i. change) n ys w e g
-
-pub changed_ext : (xs : List Float) (start n : ℕ) (g h : Float → Float) → ((v : Float) → g v ≡ h v) → changed xs start n g ≡ changed xs start n h
-changed_ext xs start n g h e = written_ext xs (λ i. start + i) (λ i. g (from xs start i)) (λ i. h (from xs start i)) n (λ j l. e (from xs start j))

@@ -2,8 +2,9 @@
 use mathlib.Core.Path.{◌≡◌, refl, sym, ap, subst, ◌∙◌}
 use mathlib.Core.Bool.{true, false}
 use mathlib.Core.List.{List}
-use Prim.Native.Nat.{ℕ, suc, ◌+◌, ◌*◌, ◌<◌, ◌≤◌}
+use Prim.Native.Nat.{ℕ, zero, suc, ◌+◌, ◌*◌, ◌<◌, ◌≤◌}
 use native.Mathlib.Nat.{suc-mul, mul-le-mul_right, add_assoc, add-zero, add-mul}
+use native.Mathlib.Numerals.{add-one}
 use native.Mathlib.Omega.{arith}
 use lib.Dec.{eqb}
 use lib.ListN.{length, get_or, replicate, get_or-replicate}
@@ -20,10 +21,9 @@ use Rattle.statistics.specs.declared.MarkerStats.{MarkerStats}
 use Rattle.statistics.specs.declared.MarkerError.{MarkerError}
 use Rattle.statistics.specs.Statistics.{plus_zero, start, counted, accumulated, found_for}
 use Rattle.standardise.specs.Standardised.{value, found, marker_answer}
-use Rattle.standardise.specs.Private.{from, counted_four, accumulator_at, accumulators_set, AreLong, tile_width, stored_stats}
+use Rattle.standardise.specs.Private.{from, counted_rows, accumulator_at, accumulators_set, AreLong, tile_width, stored_stats}
 use Rattle.statistics.specs.Statistics.{stats_from}
 use Rattle.statistics.proofs.CountLaws.{accumulated_more, stats_from_law}
-use Rattle.standardise.proofs.FourLaws.{accumulated_four}
 use Rattle.standardise.proofs.PassLaws.{StatsPassed, stats_passed_more}
 
 triple : Float → Float → Float → Accumulator
@@ -43,7 +43,7 @@ module _ (t : Accumulators) (j : ℕ) (a : Accumulator) where
   unfolding triple
   at_other k n = λ i. triple (get_or-set_other t.counts j k a.count nan n i) (get_or-set_other t.sums j k a.sum nan n i) (get_or-set_other t.squares j k a.squares nan n i)
 
--- ---- one animal, or four: the accumulators of the first j markers have made their step
+-- ---- some animals: the accumulators of the first j markers have made their step
 module _ (step : ℕ → Accumulator → Accumulator) (before : Accumulators) where
   pub record RowCounted (j : ℕ) (t : Accumulators) : Type 0 where
     pub passed : (k : ℕ) → k < j → accumulator_at t k ≡ step k (accumulator_at before k)
@@ -67,19 +67,28 @@ module _ (step : ℕ → Accumulator → Accumulator) (before : Accumulators) wh
           ∙ ap (step j) (p.left j (omega arith))
           ∙ ap (λ (x : ℕ). step x (accumulator_at before x)) (sym q)
 
+-- a value more of a marker
+pub counted_more :
+    (f : Format) (val : List Float) (at stride k : ℕ) (s : Accumulator) {a b : Accumulator}
+    → b ≡ counted f a (from val at (k * stride)) → a ≡ counted_rows f val at stride k s → b ≡ counted_rows f val at stride (k + 1) s
+unfolding counted_rows
+counted_more f val at stride k s {a} {b} e h =
+    e
+    ∙ ap (λ (x : Accumulator). counted f x (from val at (k * stride))) h
+    ∙ ap (λ (x : ℕ). counted_rows f val at stride x s) (sym (add-one k))
+
 -- ---- a part of a row of a matrix in animal order
 module _ (iids sids base width i : ℕ) (h : i < iids) (k : base + width ≤ sids) where
   pub row_inside : i * sids + base + width ≤ iids * sids
   row_inside = let d : suc i * sids ≤ iids * sids = mul-le-mul_right sids h in let e : suc i * sids ≡ i * sids + sids = suc-mul i sids in omega arith
 
--- four neighbouring rows
-module _ (iids sids base width i : ℕ) (h : i + 4 ≤ iids) (k : base + width ≤ sids) where
-  pub rows_inside : i * sids + base + sids + sids + sids + width ≤ iids * sids
-  rows_inside =
-      let r : i + 3 < iids = omega arith in
-      let d : (i + 3) * sids + base + width ≤ iids * sids = row_inside iids sids base width (i + 3) r k in
-      let e : (i + 3) * sids ≡ i * sids + (sids + sids + sids) = add-mul i 3 sids ∙ ap (λ (x : ℕ). i * sids + x) (omega arith) in
-      omega arith
+-- some neighbouring rows
+pub rows_inside : (iids sids base width i k : ℕ) → i + k ≤ iids → base + width ≤ sids → (r : ℕ) → r < k → i * sids + base + r * sids + width ≤ iids * sids
+rows_inside iids sids base width i k h b r l =
+    let n : i + r < iids = omega arith in
+    let d : (i + r) * sids + base + width ≤ iids * sids = row_inside iids sids base width (i + r) n b in
+    let e : (i + r) * sids ≡ i * sids + r * sids = add-mul i r sids in
+    omega arith
 
 -- ---- all animals below i are counted
 module _ (f : Format) (iids sids base width : ℕ) (val : List Float) where
@@ -91,40 +100,23 @@ module _ (f : Format) (iids sids base width : ℕ) (val : List Float) where
   unfolding accumulated
   tile_none t e = record { within = omega arith; each = e }
 
-  pub tile_more : (i : ℕ) (t t' : Accumulators) → i < iids → TileCounted i t
-      → ((j : ℕ) → j < width → accumulator_at t' j ≡ counted f (accumulator_at t j) (from val (i * sids + base) j))
-      → TileCounted (i + 1) t'
-  unfolding value matrix_place
-  tile_more i t t' h p e = record {
-    within = omega arith;
-    each = λ j k. accumulated_more f (λ a. get_or val (a * sids + (base + j)) nan) i
-        (e j k ∙ ap (λ (x : ℕ). counted f (accumulator_at t j) (get_or val x nan)) (add_assoc (i * sids) base j)) (p.each j k);
-  }
+  rows_counted : (j i k : ℕ) (a : Accumulator) → a ≡ accumulated f (λ x. value true iids sids val x (base + j)) i
+      → counted_rows f val (i * sids + base + j) sids k a ≡ accumulated f (λ x. value true iids sids val x (base + j)) (i + k)
+  unfolding value matrix_place counted_rows
+  rows_counted j i zero a e = e ∙ ap (accumulated f (λ x. get_or val (x * sids + (base + j)) nan)) (sym (add-zero i))
+  rows_counted j i (suc k) a e =
+      let m : (i + k) * sids ≡ i * sids + k * sids = add-mul i k sids in
+      let q : i * sids + base + j + k * sids ≡ (i + k) * sids + (base + j) = omega arith in
+      let n : i + k + 1 ≡ i + suc k = omega arith in
+      accumulated_more f (λ x. get_or val (x * sids + (base + j)) nan) (i + k)
+      (ap (λ (x : ℕ). counted f (counted_rows f val (i * sids + base + j) sids k a) (get_or val x nan)) q) (rows_counted j i k a e)
+      ∙ ap (accumulated f (λ x. get_or val (x * sids + (base + j)) nan)) n
 
-  -- four animals more
-  pub tile_four : (i : ℕ) (t t' : Accumulators) → i + 4 ≤ iids → TileCounted i t
-      → ((j : ℕ) → j < width → accumulator_at t' j ≡ counted_four f (accumulator_at t j) (from val (i * sids + base) j)
-      (from val (i * sids + base + sids) j) (from val (i * sids + base + sids + sids) j) (from val (i * sids + base + sids + sids + sids) j))
-      → TileCounted (i + 4) t'
-  unfolding value matrix_place
-  tile_four i t t' h p e = record {
-    within = omega arith;
-    each = λ j k.
-        let m1 : (i + 1) * sids ≡ i * sids + sids = add-mul i 1 sids ∙ ap (λ (x : ℕ). i * sids + x) (omega arith) in
-        let m2 : (i + 2) * sids ≡ i * sids + (sids + sids) = add-mul i 2 sids ∙ ap (λ (x : ℕ). i * sids + x) (omega arith) in
-        let m3 : (i + 3) * sids ≡ i * sids + (sids + sids + sids) = add-mul i 3 sids ∙ ap (λ (x : ℕ). i * sids + x) (omega arith) in
-        let p0 : i * sids + base + j ≡ i * sids + (base + j) = omega arith in
-        let p1 : i * sids + base + sids + j ≡ (i + 1) * sids + (base + j) = omega arith in
-        let p2 : i * sids + base + sids + sids + j ≡ (i + 2) * sids + (base + j) = omega arith in
-        let p3 : i * sids + base + sids + sids + sids + j ≡ (i + 3) * sids + (base + j) = omega arith in
-        accumulated_four f (λ a. get_or val (a * sids + (base + j)) nan) i
-        (e j k
-        ∙ ap (λ (x : ℕ). counted_four f (accumulator_at t j) (get_or val x nan) (from val (i * sids + base + sids) j) (from val (i * sids + base + sids + sids) j) (from val (i * sids + base + sids + sids + sids) j)) p0
-        ∙ ap (λ (x : ℕ). counted_four f (accumulator_at t j) (get_or val (i * sids + (base + j)) nan) (get_or val x nan) (from val (i * sids + base + sids + sids) j) (from val (i * sids + base + sids + sids + sids) j)) p1
-        ∙ ap (λ (x : ℕ). counted_four f (accumulator_at t j) (get_or val (i * sids + (base + j)) nan) (get_or val ((i + 1) * sids + (base + j)) nan) (get_or val x nan) (from val (i * sids + base + sids + sids + sids) j)) p2
-        ∙ ap (λ (x : ℕ). counted_four f (accumulator_at t j) (get_or val (i * sids + (base + j)) nan) (get_or val ((i + 1) * sids + (base + j)) nan) (get_or val ((i + 2) * sids + (base + j)) nan) (get_or val x nan)) p3)
-        (p.each j k);
-  }
+  -- some animals more
+  pub tile_more : (i k : ℕ) (t t' : Accumulators) → i + k ≤ iids → TileCounted i t
+      → ((j : ℕ) → j < width → accumulator_at t' j ≡ counted_rows f val (i * sids + base + j) sids k (accumulator_at t j))
+      → TileCounted (i + k) t'
+  tile_more i k t t' h p e = record { within = h; each = λ j b. e j b ∙ rows_counted j i k (accumulator_at t j) (p.each j b) }
 
   pub tile_all : (i : ℕ) (t : Accumulators) → TileCounted i t → iids ≤ i
       → (j : ℕ) → j < width → accumulator_at t j ≡ accumulated f (λ a. value true iids sids val a (base + j)) iids

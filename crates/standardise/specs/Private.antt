@@ -41,7 +41,11 @@ unfoldable pub written : List Float → (ℕ → ℕ) → (ℕ → Float) → �
 written xs place value zero = xs
 written xs place value (suc k) = set (written xs place value k) (place k) (value k)
 
--- the values from a place on, and a list whose n values from a place on are changed
+-- the values of a list by their places
+abbrev pub nth : List Float → ℕ → Float
+nth xs i = get_or xs i nan
+
+-- those from a place on, and a list whose n values from a place on are changed
 abbrev pub from : List Float → ℕ → ℕ → Float
 from xs start i = get_or xs (start + i) nan
 
@@ -93,10 +97,10 @@ pub record AreLong (t : Accumulators) : Type 0 where
 abbrev pub TileStep : ℕ → (ℕ → Accumulator → Accumulator) → Accumulators → Accumulators → Type 0
 TileStep width step t later = (j : ℕ) → j < width → accumulator_at later j ≡ step j (accumulator_at t j)
 
--- the values of four animals more, which stand a stride apart
-abbrev pub counted_rows : Format → List Float → ℕ → ℕ → ℕ → Accumulator → Accumulator
-counted_rows f val start stride j a =
-    counted_four f a (from val start j) (from val (start + stride) j) (from val (start + stride + stride) j) (from val (start + stride + stride + stride) j)
+-- the values of some animals more, which stand a stride apart
+unfoldable pub counted_rows : Format → List Float → ℕ → ℕ → ℕ → Accumulator → Accumulator
+counted_rows f val at stride zero a = a
+counted_rows f val at stride (suc k) a = counted f (counted_rows f val at stride k a) (from val at (k * stride))
 
 -- ---- applying in animal order
 -- what standardises the values of marker j of a tile, and of a marker with the statistics s

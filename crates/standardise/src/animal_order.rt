@@ -2,10 +2,10 @@
 ghost use Rattle.std.specs.Prelude.{◌≡◌, true, false, ◌&&◌, cond, ℕ, ◌+◌, ◌*◌, ◌≤◌, ◌<◌, length};
 ghost use Rattle.std.specs.Float.{binary64};
 ghost use Rattle.answer.specs.Answer.{is_done};
-ghost use Rattle.statistics.specs.Statistics.{start, counted, accumulated, stats_per_marker, stats_at};
+ghost use Rattle.statistics.specs.Statistics.{start, accumulated, stats_per_marker, stats_at};
 ghost use Rattle.standardise.specs.Standardised.{value};
 ghost use Rattle.standardise.specs.Says.{standardise_says};
-ghost use Rattle.standardise.specs.Private.{BuffersFit, from, written, Processes, FindsStats, counted_four, counted_rows, accumulator_at};
+ghost use Rattle.standardise.specs.Private.{BuffersFit, from, written, Processes, FindsStats, counted_rows, accumulator_at};
 ghost use Rattle.standardise.specs.Private.{tile_width, accumulators_set, AreLong, TileStep, scale_at, scale_of, scaled_at, markers_applied, all_applied};
 
 use crate::answers::StandardiseError;
@@ -16,6 +16,7 @@ use statistics::{Accumulator, Scale};
 const TILE: usize = 1024;
 
 // The accumulators of the markers of a tile: three arrays, each walked from front to back.
+// With one array of structs the loop over four animals took 1.13 of the time (the same loops in C, clang 14 -O3, 2 % missing).
 #[derive(Drop)]
 struct Accumulators {
     counts: [f64; TILE],
@@ -24,18 +25,12 @@ struct Accumulators {
 }
 
 // The statistics of the markers of a tile, with the reciprocals of the deviations: three arrays, each walked from front to back.
+// With one array of structs the loop over a row took 1.22 of the time (the same loops in C, clang 14 -O3, 2 % missing).
 #[derive(Drop)]
 struct Scales {
     means: [f64; TILE],
     deviations: [f64; TILE],
     factors: [f64; TILE],
-}
-
-// Four values more, each with its test.
-fn add_each(a: Accumulator, v0: f64, v1: f64, v2: f64, v3: f64) -> Accumulator
-    ensures { result ≡ counted_four binary64 a v0 v1 v2 v3 }
-{
-    a.add_value(v0).add_value(v1).add_value(v2).add_value(v3)
 }
 
 impl Accumulators {
@@ -71,33 +66,23 @@ impl Accumulators {
         self.squares[j] = a.squares;
     }
 
-    // Counts `width` neighbouring values of one animal, from `start` on, each into its marker's accumulator.
-    fn count_row(&mut self, val: &[f64], start: usize, width: usize)
-        requires { (start + width ≤ length val.now) × (width ≤ tile_width) }
-        ensures { TileStep width (λ j a. counted binary64 a (from val.now start j)) self.old self.new }
+    // Counts `width` neighbouring values of each of ROWS neighbouring animals, whose values stand `stride` apart, the first ones from `start`
+    // on, each into its marker's accumulator.
+    fn count_rows<const ROWS: usize>(
+        &mut self,
+        val: &[f64],
+        start: usize,
+        stride: usize,
+        width: usize,
+    )
+        requires { ((r : ℕ) → r < ROWS → start + r * stride + width ≤ length val.now) × (width ≤ tile_width) }
+        ensures { TileStep width (λ j. counted_rows binary64 val.now (start + j) stride ROWS) self.old self.new }
     {
         for j in 0..width {
-            let a = self.at(j).add_value(val[start + j]);
-            self.put(j, a);
-        }
-    }
-
-    // The same of four neighbouring animals, whose values stand `stride` apart.
-    fn count_four_rows(&mut self, val: &[f64], start: usize, stride: usize, width: usize)
-        requires { (start + stride + stride + stride + width ≤ length val.now) × (width ≤ tile_width) }
-        ensures { TileStep width (counted_rows binary64 val.now start stride) self.old self.new }
-    {
-        let start1 = start + stride;
-        let start2 = start1 + stride;
-        let start3 = start2 + stride;
-        for j in 0..width {
-            let a = add_each(
-                self.at(j),
-                val[start + j],
-                val[start1 + j],
-                val[start2 + j],
-                val[start3 + j],
-            );
+            let mut a = self.at(j);
+            for r in 0..ROWS {
+                a = a.add_value(val[start + j + r * stride]);
+            }
             self.put(j, a);
         }
     }
@@ -117,10 +102,10 @@ impl Accumulators {
             ≡ accumulated binary64 (λ i. value true iid_count sid_count val.now i (base + j)) iid_count }
     {
         for four in 0..iid_count / 4 {
-            self.count_four_rows(val, four * 4 * sid_count + base, sid_count, width);
+            self.count_rows::<4>(val, four * 4 * sid_count + base, sid_count, width);
         }
         for i in iid_count / 4 * 4..iid_count {
-            self.count_row(val, i * sid_count + base, width);
+            self.count_rows::<1>(val, i * sid_count + base, sid_count, width);
         }
     }
 }
@@ -173,6 +158,8 @@ impl Scales {
 }
 
 // The statistics of all markers in animal order.
+// `BuffersFit` is required here and in six functions more. In a struct that holds both buffers it can be a ghost field (tried, it proves),
+// but each method would borrow both to write, and its contract would say in place of this line which buffer and that the counts stay.
 fn all_stats(
     val: &[f64],
     iid_count: usize,

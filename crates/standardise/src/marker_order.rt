@@ -1,9 +1,9 @@
 // A matrix in marker order: each marker in turn, whose values stand together.
-ghost use Rattle.std.specs.Prelude.{◌≡◌, false, ◌+◌, ◌^◌, ◌≤◌, ◌<◌, length};
+ghost use Rattle.std.specs.Prelude.{◌≡◌, false, ◌+◌, ◌^◌, ◌<◌, length, map};
 ghost use Rattle.std.specs.Float.{binary64};
 ghost use Rattle.statistics.specs.Statistics.{marker_stats, found_for, stats_at, standardised};
 ghost use Rattle.standardise.specs.Says.{standardise_says};
-ghost use Rattle.standardise.specs.Private.{StatsIn, BuffersFit, from, changed, later_value, stored_stats, Accumulates, Processes};
+ghost use Rattle.standardise.specs.Private.{StatsIn, BuffersFit, nth, later_value, stored_stats, Accumulates, Processes};
 
 use crate::answers::StandardiseError;
 use crate::{answers, stats_buffer};
@@ -28,49 +28,50 @@ fn add_some(a: Accumulator, i: usize, v0: f64, v1: f64, v2: f64, v3: f64) -> (Ac
     (four, i + 4)
 }
 
-// The statistics of the `iid_count` values from `start` on.
-fn column_stats(val: &[f64], start: usize, iid_count: usize) -> Result<MarkerStats, MarkerError>
-    requires { start + iid_count ≤ length val.now }
-    ensures { result ≡ marker_stats binary64 iid_count (from val.now start) }
+// The statistics of a marker, from its values.
+fn column_stats(column: &[f64]) -> Result<MarkerStats, MarkerError>
+    ensures { result ≡ marker_stats binary64 (length column.now) (nth column.now) }
 {
     let mut a = Accumulator::default();
     let mut passed = 0;
     // A `while`, whose step is one or four: a `for` over fours, which tests each of a four with a NaN, took 1.03 of the time (2 % missing).
-    while iid_count - passed > 3 {
-        let at = start + passed;
-        let some = add_some(a, passed, val[at], val[at + 1], val[at + 2], val[at + 3]);
+    while column.len() - passed > 3 {
+        let some = add_some(
+            a,
+            passed,
+            column[passed],
+            column[passed + 1],
+            column[passed + 2],
+            column[passed + 3],
+        );
         a = some.0;
         passed = some.1;
     }
-    for i in passed..iid_count {
-        a = a.add_value(val[start + i]);
+    for &v in &column[passed..] {
+        a = a.add_value(v);
     }
     a.find_stats()
 }
 
-// Standardises the `iid_count` values from `start` on.
-fn apply_column(val: &mut [f64], start: usize, iid_count: usize, s: Stats)
-    requires { start + iid_count ≤ length val.old }
-    ensures { val.new ≡ changed val.old start iid_count (standardised binary64 s) }
+// Standardises a marker's values.
+fn apply_column(column: &mut [f64], s: Stats)
+    ensures { column.new ≡ map (standardised binary64 s) column.old }
 {
     let scale = s.scale();
-    for i in 0..iid_count {
-        let at = start + i;
-        val[at] = scale.scaled(val[at]);
+    for v in column.iter_mut() {
+        *v = scale.scaled(*v);
     }
 }
 
 // What there is for marker m: its lent statistics, or those of its values.
 fn marker_stats(
-    val: &[f64],
-    start: usize,
-    iid_count: usize,
+    column: &[f64],
     m: usize,
     use_stats: bool,
     stats: &[f64],
 ) -> Result<MarkerStats, MarkerError>
-    requires { (start + iid_count ≤ length val.now) × StatsIn stats.now m }
-    ensures { result ≡ found_for binary64 use_stats (stats_at stats.now m) iid_count (from val.now start) }
+    requires { StatsIn stats.now m }
+    ensures { result ≡ found_for binary64 use_stats (stats_at stats.now m) (length column.now) (nth column.now) }
 {
     if use_stats {
         return Ok(MarkerStats {
@@ -78,46 +79,37 @@ fn marker_stats(
             observed: None,
         });
     }
-    column_stats(val, start, iid_count)
+    column_stats(column)
 }
 
 // Standardises a marker's values, if they are to be changed and the marker is not refused.
-fn apply_found(
-    val: &mut [f64],
-    start: usize,
-    iid_count: usize,
-    found: Result<MarkerStats, MarkerError>,
-    apply_in_place: bool,
-)
-    requires { start + iid_count ≤ length val.old }
-    ensures { val.new ≡ changed val.old start iid_count (later_value binary64 apply_in_place found) }
+fn apply_found(column: &mut [f64], found: Result<MarkerStats, MarkerError>, apply_in_place: bool)
+    ensures { column.new ≡ map (later_value binary64 apply_in_place found) column.old }
 {
     if !apply_in_place {
         return;
     }
     if let Ok(found) = found {
-        apply_column(val, start, iid_count, found.stats);
+        apply_column(column, found.stats);
     }
 }
 
-// One marker, whose values are the `iid_count` from `start` on.
+// Marker m, whose values are the column.
 fn process_sid(
-    val: &mut [f64],
-    start: usize,
-    iid_count: usize,
+    column: &mut [f64],
     m: usize,
     apply_in_place: bool,
     use_stats: bool,
     stats: &mut [f64],
 ) -> Result<MarkerStats, MarkerError>
-    requires { (start + iid_count ≤ length val.old) × StatsIn stats.old m }
-    ensures { (result ≡ found_for binary64 use_stats (stats_at stats.old m) iid_count (from val.old start))
-        × (val.new ≡ changed val.old start iid_count (later_value binary64 apply_in_place result))
+    requires { StatsIn stats.old m }
+    ensures { (result ≡ found_for binary64 use_stats (stats_at stats.old m) (length column.old) (nth column.old))
+        × (column.new ≡ map (later_value binary64 apply_in_place result) column.old)
         × (stats.new ≡ stored_stats result m stats.old) }
 {
-    let found = marker_stats(val, start, iid_count, m, use_stats, stats);
+    let found = marker_stats(column, m, use_stats, stats);
     stats_buffer::put_found(stats, m, found);
-    apply_found(val, start, iid_count, found, apply_in_place);
+    apply_found(column, found, apply_in_place);
     found
 }
 
@@ -137,7 +129,8 @@ pub(crate) fn process_all_sids(
     let mut answer = Ok(());
     for m in 0..sid_count {
         let start = m * iid_count;
-        let found = process_sid(val, start, iid_count, m, apply_in_place, use_stats, stats);
+        let column = &mut val[start..start + iid_count];
+        let found = process_sid(column, m, apply_in_place, use_stats, stats);
         answer = answer.and(answers::marker_answer(m, found));
     }
     answer

@@ -11,6 +11,7 @@ use entries::{IidIndex, SidIndex};
 use show::{Bytes, Code, Dosages, Floats, Said};
 use std::io;
 
+// The number of document 01, by which this program alone prints what packing a block answers.
 fn pack_number(answer: Result<(), PackError>) -> u64 {
     match answer {
         Ok(()) => 0,
@@ -21,6 +22,7 @@ fn pack_number(answer: Result<(), PackError>) -> u64 {
     }
 }
 
+// The same of decoding one.
 fn decode_number(answer: Result<(), DecodeError>) -> u64 {
     match answer {
         Ok(()) => 0,

@@ -1,8 +1,9 @@
-use Rattle.std.proofs.Common.{refl, ◌∙◌, rules, arith}
+use Rattle.std.proofs.Common.{◌∙◌, rules}
 use Rattle.call_counts.proofs.CountLaws.{counted_none}
 use Rattle.call_counts.proofs.count_all.Goals as goal
 
-pub loop-from-init : goal.loop-from-init
-loop-from-init c =
-    let z = c.fill.ensures in
-    (omega arith, refl, counted_none _ _ _ _ _ _ _ (z.len ∙ c.requires.1) (λ p h. search rules))
+pub count_along-requires : goal.count_along-requires
+count_along-requires c = (c.is_along.ensures c.if-is_along.true, counted_none _ _ _ _ _ _ _ (c.fill.ensures.len ∙ c.requires) (λ p h. search rules))
+
+pub count_resolved-requires : goal.count_resolved-requires
+count_resolved-requires c = counted_none _ _ _ _ _ _ _ (c.fill.ensures.len ∙ c.requires) (λ p h. search rules)

@@ -1,5 +1,5 @@
 -- `count_calls`: the checks, then all counts.
-use Rattle.std.proofs.Common.{sym, ap, ◌∙◌}
+use Rattle.std.proofs.Common.{sym, ap, arith, ◌∙◌}
 use Rattle.answer.specs.Answer.{is_done}
 use Rattle.answer.proofs.AnswerLaws.{same_error}
 use Rattle.bed_read.proofs.ReadLaws.{error_refuses}
@@ -18,7 +18,12 @@ pub count_all-requires : goal.count_all-requires
 unfolding counts_answer
 count_all-requires c =
     let f = countable c.args.file.now c.args.iid_count c.args.sid_count c.args.iid_index.now c.args.sid_index.now _ (sym (ap is_done c.in_ok-check_read.ensures)) in
-    (ready _ _ _ _ _ _ _ f c.shape_of-shape.ensures, sym f.size_is)
+    sym f.size_is
+
+pub invariant_of-lists : goal.invariant_of-lists
+unfolding counts_answer
+invariant_of-lists c =
+    record { words = (let i = c.shape_of-shape.ensures.iids_are in omega arith, let s = c.shape_of-shape.ensures.sids_are in omega arith); ready = ready _ _ _ _ _ _ _ (countable c.args.file.now c.args.iid_count c.args.sid_count c.args.iid_index.now c.args.sid_index.now _ (sym (ap is_done c.in_ok-check_read.ensures))) c.shape_of-shape.ensures }
 
 pub returns : goal.returns
 unfolding counts_answer

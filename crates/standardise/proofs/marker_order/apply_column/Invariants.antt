@@ -1,9 +1,8 @@
 -- `apply_column`: the values passed are standardised.
-use Rattle.std.proofs.Common.{◌≡◌}
+use Rattle.std.proofs.Common.{◌≡◌, ◌++◌, map, take, drop}
 use lib.Ieee.{binary64}
 use Rattle.statistics.specs.Statistics.{standardised}
-use Rattle.standardise.specs.Private.{changed}
 use Rattle.standardise.proofs.marker_order.apply_column.Given as goal
 
-abbrev pub invariant-loop-i : goal.invariant-loop-i
-invariant-loop-i l = l.val ≡ changed l.initial.val l.start l.i (standardised binary64 l.fn.s)
+abbrev pub invariant-loop-v : goal.invariant-loop-v
+invariant-loop-v l = l.column ≡ map (standardised binary64 l.fn.s) (take l.v-index l.initial.column) ++ drop l.v-index l.initial.column
