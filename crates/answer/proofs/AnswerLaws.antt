@@ -8,7 +8,9 @@ use native.Mathlib.Omega.{arith}
 use borrow.Author.Tests.{leb-true, le-leb, lt-leb}
 use lib.Dec.{leb}
 use lib.IntN.{ℤ}
-use Rattle.answer.specs.Answer.{Answer, done, refused, check, check_entry, check_count, count_limit, is_done, if_done}
+use mathlib.Core.Logic.{◌⊎◌, inl, inr}
+use Rattle.std.proofs.lemmas.Bool.{and_parts, and_cases, both_ways}
+use Rattle.answer.specs.Answer.{Answer, done, refused, check, check_entry, check_count, count_limit, counts_fit, is_done, if_done}
 
 -- ---- a check that finds nothing, and one that refuses
 pub check_passes : (b : Bool) (n : ℕ) (later : Answer) → b ≡ true → check b n later ≡ later
@@ -34,6 +36,22 @@ count_passes n later h = check_passes (leb n count_limit) 18 later (le-leb n cou
 pub count_refuses : (n : ℕ) (later : Answer) → count_limit < n → check_count n later ≡ refused 18 []
 unfolding check_count
 count_refuses n later h = check_refuses (leb n count_limit) 18 later (lt-leb n count_limit h)
+
+-- ---- the checks of two counts, by one test
+pub both_fit : (a b : ℕ) → counts_fit a b ≡ true → (a ≤ count_limit) × (b ≤ count_limit)
+both_fit a b e = let parts = and_parts (leb a count_limit) (leb b count_limit) e in (leb-true a count_limit parts.0, leb-true b count_limit parts.1)
+
+pub counts_refuse : (a b : ℕ) (later : Answer) → counts_fit a b ≡ false → check_count a (check_count b later) ≡ refused 18 []
+unfolding check_count check
+counts_refuse a b later e = by_first (leb a count_limit) refl
+  where
+    by_first : (t : Bool) → leb a count_limit ≡ t → check_count a (check_count b later) ≡ refused 18 []
+    by_first false first = rw first
+    by_first true first = simp (first, second (and_cases _ _ e))
+      where
+        second : (leb a count_limit ≡ false) ⊎ (leb b count_limit ≡ false) → leb b count_limit ≡ false
+        second (inr o) = o
+        second (inl o) = absurd (both_ways _ o first)
 
 -- ---- what a list's check found
 unfoldable carried : Answer → Option ℤ

@@ -1,5 +1,5 @@
 -- What a call answers, and its checks in order.
-use Rattle.std.specs.Prelude.{◌≡◌, Bool, true, false, cond, List, [], ◌∷◌, ℕ, ◌^◌, ◌-◌, ℤ, leb}
+use Rattle.std.specs.Prelude.{◌≡◌, Bool, true, false, ◌&&◌, cond, List, [], ◌∷◌, ℕ, ◌^◌, ◌-◌, ℤ, leb}
 use Rattle.std.specs.Prelude.{Option, Some, None}
 
 -- Done, with the numbers that the call answers, or refused by document 01's number, with the values that this number carries.
@@ -33,6 +33,10 @@ count_limit = 2 ^ 63 - 1
 unfoldable pub check_count : ℕ → Answer → Answer
 unfolding check
 check_count n later = check (leb n count_limit) 18 later
+
+-- whether neither of two counts meets 18
+abbrev pub counts_fit : ℕ → ℕ → Bool
+counts_fit a b = leb a count_limit && leb b count_limit
 
 -- "Every refusal leaves all lent bytes and values unchanged": a buffer's later contents, new if nothing was refused, else old
 unfoldable pub if_done : {A : Type 0} → Answer → A → A → A

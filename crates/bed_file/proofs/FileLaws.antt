@@ -8,9 +8,9 @@ use borrow.Author.Tests.{eq-eqb, ne_eqb, le-leb, lt-leb, eqb-true, leb-true}
 use lib.Dec.{leb, eqb}
 use lib.IntN.{ℤ, pos}
 use lib.ListN.{length, get_or}
-use Rattle.answer.specs.Answer.{Answer, done, refused, check, check_count, count_limit, is_done}
+use Rattle.answer.specs.Answer.{Answer, done, refused, check, check_count, count_limit, counts_fit, is_done}
 use Rattle.blocks.specs.Block.{block_width, file_length, check_size, div_answer}
-use Rattle.answer.proofs.AnswerLaws.{check_passes, check_refuses, count_passes, count_refuses, check_done, count_done, check_other, Stage, check_stage, then_stage, heard, stays}
+use Rattle.answer.proofs.AnswerLaws.{check_passes, check_refuses, count_passes, both_fit, counts_refuse, check_done, count_done, check_other, Stage, check_stage, then_stage, heard, stays}
 use Rattle.blocks.proofs.Widths.{Sized, width_given, size_stage}
 use Rattle.bed_file.specs.File.{check_open, open_answer, check_mode, is_mode1, items, blocks, check_length, length_answer, check_file, accept_answer}
 
@@ -116,65 +116,66 @@ module _ (file_len n b : ℕ) where
 
 -- ---- acceptance, by the tests in order
 module _ (file : List ℕ) (iids sids : ℕ) where
-  pub accept_first : count_limit < iids → refused 18 [] ≡ accept_answer file iids sids
+  pub accept_too_large : counts_fit iids sids ≡ false → refused 18 [] ≡ accept_answer file iids sids
   unfolding accept_answer
-  accept_first h = sym (count_refuses iids (check_count sids (check_file file iids sids (done []))) h)
+  accept_too_large e = sym (counts_refuse iids sids (check_file file iids sids (done [])) e)
 
-  module _ (hi : iids ≤ count_limit) where
-    pub accept_second : count_limit < sids → refused 18 [] ≡ accept_answer file iids sids
+  module _ (fits : counts_fit iids sids ≡ true) where
+    hi : iids ≤ count_limit
+    hi = (both_fit iids sids fits).0
+
+    hs : sids ≤ count_limit
+    hs = (both_fit iids sids fits).1
+
+    -- with both counts small enough, the file's own checks are left
+    pub accept_file : accept_answer file iids sids ≡ check_file file iids sids (done [])
     unfolding accept_answer
-    accept_second h = sym (count_passes iids (check_count sids (check_file file iids sids (done []))) hi ∙ count_refuses sids (check_file file iids sids (done [])) h)
+    accept_file =
+        count_passes iids (check_count sids (check_file file iids sids (done []))) hi ∙ count_passes sids (check_file file iids sids (done [])) hs
 
-    module _ (hs : sids ≤ count_limit) where
-      -- with both counts small enough, the file's own checks are left
-      pub accept_file : accept_answer file iids sids ≡ check_file file iids sids (done [])
-      unfolding accept_answer
-      accept_file =
-          count_passes iids (check_count sids (check_file file iids sids (done []))) hi ∙ count_passes sids (check_file file iids sids (done [])) hs
+    pub accept_not_open : (k : ℕ) → refused k [] ≡ open_answer file → refused k [] ≡ accept_answer file iids sids
+    unfolding open_answer check_file
+    accept_not_open k e =
+        sym (accept_file ∙ stays (open_stage file) _ k [] (sym e) (check_mode file (check_length (length file) (items (is_mode1 file) iids sids) (blocks (is_mode1 file) iids sids) (done []))))
 
-      pub accept_not_open : (k : ℕ) → refused k [] ≡ open_answer file → refused k [] ≡ accept_answer file iids sids
-      unfolding open_answer check_file
-      accept_not_open k e =
-          sym (accept_file ∙ stays (open_stage file) _ k [] (sym e) (check_mode file (check_length (length file) (items (is_mode1 file) iids sids) (blocks (is_mode1 file) iids sids) (done []))))
+    module _ (b : ℕ) (e : done (pos b ∷ []) ≡ open_answer file) where
+      opened : (later : Answer) → check_open file later ≡ later
+      unfolding open_answer
+      opened = heard (open_stage file) _ (sym (ap is_done e))
 
-      module _ (b : ℕ) (e : done (pos b ∷ []) ≡ open_answer file) where
-        opened : (later : Answer) → check_open file later ≡ later
-        unfolding open_answer
-        opened = heard (open_stage file) _ (sym (ap is_done e))
+      byte_is : b ≡ get_or file 2 0
+      unfolding open_answer
+      byte_is = let q : done (pos b ∷ []) ≡ done (pos (get_or file 2 0) ∷ []) = e ∙ opened (done (pos (get_or file 2 0) ∷ [])) in cc
 
-        byte_is : b ≡ get_or file 2 0
-        unfolding open_answer
-        byte_is = let q : done (pos b ∷ []) ≡ done (pos (get_or file 2 0) ∷ []) = e ∙ opened (done (pos (get_or file 2 0) ∷ [])) in cc
+      pub accept_bad_mode : (b ≡ 1 → ⊥) → (b ≡ 0 → ⊥) → refused 3 [] ≡ accept_answer file iids sids
+      unfolding check_file check_mode
+      accept_bad_mode n1 n0 =
+          let big : 1 < b = above_one b n0 n1 in
+          sym (accept_file ∙ opened _ ∙ check_refuses (leb (get_or file 2 0) 1) 3 _ (lt-leb (get_or file 2 0) 1 (subst (λ (k : ℕ). 1 < k) byte_is big)))
+        where
+          above_one : (b : ℕ) → (b ≡ 0 → ⊥) → (b ≡ 1 → ⊥) → 1 < b
+          above_one zero x y = absurd (x refl)
+          above_one (suc zero) x y = absurd (y refl)
+          above_one (suc (suc b)) x y = omega arith
 
-        pub accept_bad_mode : (b ≡ 1 → ⊥) → (b ≡ 0 → ⊥) → refused 3 [] ≡ accept_answer file iids sids
-        unfolding check_file check_mode
-        accept_bad_mode n1 n0 =
-            let big : 1 < b = above_one b n0 n1 in
-            sym (accept_file ∙ opened _ ∙ check_refuses (leb (get_or file 2 0) 1) 3 _ (lt-leb (get_or file 2 0) 1 (subst (λ (k : ℕ). 1 < k) byte_is big)))
-          where
-            above_one : (b : ℕ) → (b ≡ 0 → ⊥) → (b ≡ 1 → ⊥) → 1 < b
-            above_one zero x y = absurd (x refl)
-            above_one (suc zero) x y = absurd (y refl)
-            above_one (suc (suc b)) x y = omega arith
+      -- in a mode that is one, the length's checks are left, over that mode's items and blocks
+      mode_left :
+          (m : Bool) → is_mode1 file ≡ m → b ≤ 1 → items m iids sids ≤ count_limit → blocks m iids sids ≤ count_limit
+          → length_answer (length file) (items m iids sids) (blocks m iids sids) ≡ accept_answer file iids sids
+      unfolding check_file check_mode length_answer
+      mode_left m q h ci cb =
+          let low : get_or file 2 0 ≤ 1 = subst (λ (k : ℕ). k ≤ 1) byte_is h in
+          (count_passes (items m iids sids) _ ci ∙ count_passes (blocks m iids sids) _ cb
+          ∙ ap (λ (x : Bool). check_length (length file) (items x iids sids) (blocks x iids sids) (done [])) (sym q))
+          ∙ sym (accept_file ∙ opened _ ∙ check_passes (leb (get_or file 2 0) 1) 3 _ (le-leb (get_or file 2 0) 1 low))
 
-        -- in a mode that is one, the length's checks are left, over that mode's items and blocks
-        mode_left :
-            (m : Bool) → is_mode1 file ≡ m → b ≤ 1 → items m iids sids ≤ count_limit → blocks m iids sids ≤ count_limit
-            → length_answer (length file) (items m iids sids) (blocks m iids sids) ≡ accept_answer file iids sids
-        unfolding check_file check_mode length_answer
-        mode_left m q h ci cb =
-            let low : get_or file 2 0 ≤ 1 = subst (λ (k : ℕ). k ≤ 1) byte_is h in
-            (count_passes (items m iids sids) _ ci ∙ count_passes (blocks m iids sids) _ cb
-            ∙ ap (λ (x : Bool). check_length (length file) (items x iids sids) (blocks x iids sids) (done [])) (sym q))
-            ∙ sym (accept_file ∙ opened _ ∙ check_passes (leb (get_or file 2 0) 1) 3 _ (le-leb (get_or file 2 0) 1 low))
+      pub accept_mode_1 : (a : Answer) → b ≡ 1 → a ≡ length_answer (length file) iids sids → a ≡ accept_answer file iids sids
+      unfolding items blocks is_mode1
+      accept_mode_1 a m l = l ∙ mode_left true (eq-eqb (get_or file 2 0) 1 (sym byte_is ∙ m)) (omega arith) hi hs
 
-        pub accept_mode_1 : (a : Answer) → b ≡ 1 → a ≡ length_answer (length file) iids sids → a ≡ accept_answer file iids sids
-        unfolding items blocks is_mode1
-        accept_mode_1 a m l = l ∙ mode_left true (eq-eqb (get_or file 2 0) 1 (sym byte_is ∙ m)) (omega arith) hi hs
-
-        pub accept_mode_0 : (a : Answer) → b ≡ 0 → a ≡ length_answer (length file) sids iids → a ≡ accept_answer file iids sids
-        unfolding items blocks is_mode1
-        accept_mode_0 a m l = l ∙ mode_left false (ap (λ (k : ℕ). eqb k 1) (sym byte_is ∙ m)) (omega arith) hs hi
+      pub accept_mode_0 : (a : Answer) → b ≡ 0 → a ≡ length_answer (length file) sids iids → a ≡ accept_answer file iids sids
+      unfolding items blocks is_mode1
+      accept_mode_0 a m l = l ∙ mode_left false (ap (λ (k : ℕ). eqb k 1) (sym byte_is ∙ m)) (omega arith) hs hi
 
 -- ---- what is known of an accepted file
 pub record Accepted (file : List ℕ) (iids sids : ℕ) : Type 0 where

@@ -92,10 +92,7 @@ pub fn check_length(file_len: usize, items: usize, blocks: usize) -> Result<(), 
 pub fn accept(file: &[u8], iid_count: usize, sid_count: usize) -> Result<(), FileError>
     ensures { accept_says result ≡ accept_answer file.now iid_count sid_count }
 {
-    if iid_count > answer::COUNT_LIMIT {
-        return Err(FileError::CountTooLarge);
-    }
-    if sid_count > answer::COUNT_LIMIT {
+    if !answer::counts_fit(iid_count, sid_count) {
         return Err(FileError::CountTooLarge);
     }
     match open_and_check(file)? {

@@ -1,5 +1,6 @@
 -- Laws of block widths, over plain numbers.
 use mathlib.Core.Path.{◌≡◌, sym, ap, subst, ◌∙◌}
+use mathlib.Core.Bool.{true, false}
 use Prim.Native.Nat.{ℕ, ◌+◌, ◌-◌, ◌*◌, ◌/◌, ◌^◌, ◌≤◌, ◌<◌}
 use native.Mathlib.Nat.{zero-mul, le-div_iff_mul-le, div-lt_iff_lt-mul}
 use native.Mathlib.Omega.{arith}
@@ -7,9 +8,9 @@ use borrow.Author.Tests.{ne_eqb, eq-eqb, le-leb, lt-leb, leb-true}
 use lib.Dec.{leb}
 use lib.IntN.{pos}
 use mathlib.Core.List.{[], ◌∷◌}
-use Rattle.answer.specs.Answer.{done, refused, count_limit, is_done, check_count}
+use Rattle.answer.specs.Answer.{done, refused, count_limit, counts_fit, is_done, check_count}
 use Rattle.blocks.specs.Block.{block_width, file_length, div_answer, check_size}
-use Rattle.answer.proofs.AnswerLaws.{check_done, count_done, Stage, check_stage, count_stage, then_stage}
+use Rattle.answer.proofs.AnswerLaws.{both_fit, counts_refuse, check_done, count_done, Stage, check_stage, count_stage, then_stage}
 
 -- "Block width is 0 for nothing in a block"
 pub width_none : (n : ℕ) → n ≡ 0 → block_width n ≡ 0
@@ -28,23 +29,18 @@ nothing_in_a_block blocks = ap (λ (n : ℕ). 3 + n) (zero-mul blocks)
 
 -- the answer of `try_div_4`, by its tests
 module _ (i s : ℕ) where
-  pub first_too_large : count_limit < i → div_answer i s ≡ refused 18 []
+  pub too_large : counts_fit i s ≡ false → div_answer i s ≡ refused 18 []
   unfolding div_answer
-  first_too_large h = simp (lt-leb i count_limit h)
+  too_large e = counts_refuse i s _ e
 
-  module _ (hi : i ≤ count_limit) where
-    pub second_too_large : count_limit < s → div_answer i s ≡ refused 18 []
+  module _ (hi : i ≤ count_limit) (hs : s ≤ count_limit) where
+    pub too_big : 2 ^ 64 - 1 < file_length i s → div_answer i s ≡ refused 4 []
     unfolding div_answer
-    second_too_large h = simp (le-leb i count_limit hi, lt-leb s count_limit h)
+    too_big h = simp (le-leb i count_limit hi, le-leb s count_limit hs, lt-leb (file_length i s) (2 ^ 64 - 1) h)
 
-    module _ (hs : s ≤ count_limit) where
-      pub too_big : 2 ^ 64 - 1 < file_length i s → div_answer i s ≡ refused 4 []
-      unfolding div_answer
-      too_big h = simp (le-leb i count_limit hi, le-leb s count_limit hs, lt-leb (file_length i s) (2 ^ 64 - 1) h)
-
-      pub has_width : file_length i s ≤ 2 ^ 64 - 1 → div_answer i s ≡ done (pos (block_width i) ∷ [])
-      unfolding div_answer
-      has_width h = simp (le-leb i count_limit hi, le-leb s count_limit hs, le-leb (file_length i s) (2 ^ 64 - 1) h)
+    pub has_width : file_length i s ≤ 2 ^ 64 - 1 → div_answer i s ≡ done (pos (block_width i) ∷ [])
+    unfolding div_answer
+    has_width h = simp (le-leb i count_limit hi, le-leb s count_limit hs, le-leb (file_length i s) (2 ^ 64 - 1) h)
 
 -- 4 as the code tests it, by a quotient
 quotient_passes : (w s : ℕ) → 0 < w → 18446744073709551612 / w < s → 2 ^ 64 - 1 < 3 + w * s
@@ -53,7 +49,13 @@ quotient_passes w s p h = let q : 18446744073709551612 < s * w = (div-lt_iff_lt-
 quotient_keeps : (w s : ℕ) → 0 < w → s ≤ 18446744073709551612 / w → 3 + w * s ≤ 2 ^ 64 - 1
 quotient_keeps w s p h = let q : s * w ≤ 18446744073709551612 = (le-div_iff_mul-le p).0 h in omega arith
 
-module _ (i s : ℕ) (hi : i ≤ count_limit) (hs : s ≤ count_limit) (w : ℕ) (e : w ≡ block_width i) where
+module _ (i s : ℕ) (fits : counts_fit i s ≡ true) (w : ℕ) (e : w ≡ block_width i) where
+  hi : i ≤ count_limit
+  hi = (both_fit i s fits).0
+
+  hs : s ≤ count_limit
+  hs = (both_fit i s fits).1
+
   pub no_width : w ≡ 0 → div_answer i s ≡ done (pos 0 ∷ [])
   no_width z =
       let k : block_width i ≡ 0 = sym e ∙ z in

@@ -26,10 +26,7 @@ pub fn block_width(count: usize) -> usize
 pub fn try_div_4(in_iid_count: usize, in_sid_count: usize) -> Result<usize, DivError>
     ensures { div_says result ≡ div_answer in_iid_count in_sid_count }
 {
-    if in_iid_count > answer::COUNT_LIMIT {
-        return Err(DivError::CountTooLarge);
-    }
-    if in_sid_count > answer::COUNT_LIMIT {
+    if !answer::counts_fit(in_iid_count, in_sid_count) {
         return Err(DivError::CountTooLarge);
     }
     let width = block_width(in_iid_count);

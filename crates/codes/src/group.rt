@@ -2,6 +2,9 @@
 ghost use Rattle.std.specs.Prelude.{◌≡◌};
 ghost use Rattle.codes.specs.Code.{group_byte};
 
+// "Pads are zero": the code of an item that is not there.
+pub const PAD: u8 = 0;
+
 #[derive(Clone, Copy)]
 pub struct Group {
     pub c0: u8,

@@ -5,6 +5,6 @@ mod group;
 mod table;
 mod values;
 
-pub use group::{Group, byte_of};
+pub use group::{Group, PAD, byte_of};
 pub use table::{CodeTable, code_of_item};
-pub use values::{BedVal, set_up_two_bits_to_value};
+pub use values::{BedVal, Coding};

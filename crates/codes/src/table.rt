@@ -46,7 +46,9 @@ pub struct CodeTable {
 }
 
 impl CodeTable {
-    pub fn new() -> CodeTable {
+    pub fn new() -> CodeTable
+        ensures { result.codes ≡ code_table }
+    {
         CodeTable { codes: CODES }
     }
 

@@ -48,12 +48,21 @@ impl BedVal for f64 {
     }
 }
 
-// The value of each code.
-pub fn set_up_two_bits_to_value<T: BedVal>(count_a1: bool, missing_value: T) -> [T; 4]
-    ensures { result ≡ values T.width count_a1 missing_value }
-{
-    if count_a1 {
-        return [T::two(), missing_value, T::one(), T::zero()];
+// How values are coded: the flag, and the value that stands for missing.
+#[derive(Clone, Copy)]
+pub struct Coding<T: BedVal> {
+    pub is_a1_counted: bool,
+    pub missing: T,
+}
+
+impl<T: BedVal> Coding<T> {
+    // The value of each code.
+    pub fn set_up_two_bits_to_value(self) -> [T; 4]
+        ensures { result ≡ values T.width self.is_a1_counted self.missing }
+    {
+        if self.is_a1_counted {
+            return [T::two(), self.missing, T::one(), T::zero()];
+        }
+        [T::zero(), self.missing, T::one(), T::two()]
     }
-    [T::zero(), missing_value, T::one(), T::two()]
 }

@@ -1,20 +1,19 @@
 -- `try_div_4` answers `div_answer`: each test that the code makes is one of its checks.
-use mathlib.Core.Path.{sym}
+use mathlib.Core.Path.{sym, ◌∙◌}
 use native.Mathlib.Nat.{pos_of_ne-zero}
-use Rattle.blocks.proofs.Widths.{first_too_large, second_too_large, no_width, quotient_below, quotient_enough}
+use Rattle.blocks.proofs.Widths.{too_large, no_width, quotient_below, quotient_enough}
 use Rattle.blocks.proofs.try_div_4.Goals as goal
 
-pub returns-then-in_iid_count-gt-COUNT_LIMIT : goal.returns-then-in_iid_count-gt-COUNT_LIMIT
-returns-then-in_iid_count-gt-COUNT_LIMIT c = sym (first_too_large _ _ c.if-in_iid_count-gt-COUNT_LIMIT.true)
-
-pub returns-then-in_sid_count-gt-COUNT_LIMIT : goal.returns-then-in_sid_count-gt-COUNT_LIMIT
-returns-then-in_sid_count-gt-COUNT_LIMIT c = sym (second_too_large _ _ c.if-in_iid_count-gt-COUNT_LIMIT.false c.if-in_sid_count-gt-COUNT_LIMIT.true)
+pub returns-then-not-counts_fit : goal.returns-then-not-counts_fit
+returns-then-not-counts_fit c = sym (too_large _ _ (sym c.counts_fit.ensures ∙ c.if-not-counts_fit.true))
 
 pub returns-then-width-eq0 : goal.returns-then-width-eq0
-returns-then-width-eq0 c = sym (no_width _ _ c.if-in_iid_count-gt-COUNT_LIMIT.false c.if-in_sid_count-gt-COUNT_LIMIT.false _ c.block_width-width.ensures c.if-width-eq0.true)
+returns-then-width-eq0 c = sym (no_width _ _ (sym c.counts_fit.ensures ∙ c.if-not-counts_fit.false) _ c.block_width-width.ensures c.if-width-eq0.true)
 
 pub returns-then-in_sid_count-width : goal.returns-then-in_sid_count-width
-returns-then-in_sid_count-width c = sym (quotient_below _ _ c.if-in_iid_count-gt-COUNT_LIMIT.false c.if-in_sid_count-gt-COUNT_LIMIT.false _ c.block_width-width.ensures (pos_of_ne-zero c.if-width-eq0.false) c.if-in_sid_count-width.true)
+returns-then-in_sid_count-width c =
+    sym (quotient_below _ _ (sym c.counts_fit.ensures ∙ c.if-not-counts_fit.false) _ c.block_width-width.ensures (pos_of_ne-zero c.if-width-eq0.false) c.if-in_sid_count-width.true)
 
 pub returns : goal.returns
-returns c = sym (quotient_enough _ _ c.if-in_iid_count-gt-COUNT_LIMIT.false c.if-in_sid_count-gt-COUNT_LIMIT.false _ c.block_width-width.ensures (pos_of_ne-zero c.if-width-eq0.false) c.if-in_sid_count-width.false)
+returns c =
+    sym (quotient_enough _ _ (sym c.counts_fit.ensures ∙ c.if-not-counts_fit.false) _ c.block_width-width.ensures (pos_of_ne-zero c.if-width-eq0.false) c.if-in_sid_count-width.false)
