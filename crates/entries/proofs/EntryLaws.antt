@@ -68,13 +68,16 @@ module _ (count : ℕ) (z : ℤ) (f : SFits w64 z) where
     pub place_front : lt_z (to_z w64 (of_z w64 z)) (pos 0) ≡ false → (ltb m count ≡ is_good count z) × (is_good count z ≡ true → m ≡ means count z)
     place_front h = (ap (λ (k : ℕ). ltb k count) e ∙ (from_front count z (front h)).0, λ _. number_front h)
 
-  -- `is_good` and `number`, from the place p
+  -- `is_good`, `number` and the step, from the place p
   module _ (p : ℕ) (t : (ltb p count ≡ is_good count (to_z w64 (of_z w64 z))) × (is_good count (to_z w64 (of_z w64 z)) ≡ true → p ≡ means count (to_z w64 (of_z w64 z)))) where
+    pub placed : (ltb p count ≡ is_good count z) × (is_good count z ≡ true → p ≡ means count z)
+    placed = subst (λ (y : ℤ). (ltb p count ≡ is_good count y) × (is_good count y ≡ true → p ≡ means count y)) back t
+
     pub tests_good : ltb p count ≡ is_good count z
-    tests_good = t.0 ∙ ap (is_good count) back
+    tests_good = placed.0
 
     pub number_good : p < count → p ≡ means count z
-    number_good h = t.1 (sym t.0 ∙ lt-ltb p count h) ∙ ap (means count) back
+    number_good h = placed.1 (sym placed.0 ∙ lt-ltb p count h)
 
     pub number_none : count ≤ p → lt_z (to_z w64 (of_z w64 z)) (pos 0) ≡ true → 0 ≡ means count z
     number_none g h = past_front count z (negative h) (sym tests_good ∙ le-ltb p count g)

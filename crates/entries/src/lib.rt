@@ -4,7 +4,7 @@
 ghost use Rattle.std.specs.Prelude.{◌≡◌, ℕ, Bool, true, false, List, [], ◌∷◌, ◌++◌, ℤ, nat_lt};
 ghost use Rattle.entries.specs.Entry.{is_good, means, first_bad, entry_answer, span_answer};
 ghost use Rattle.entries.specs.Says.{item_says, span_says};
-ghost use Rattle.entries.specs.Private.{IsSpan};
+ghost use Rattle.entries.specs.Private.{Reaches};
 
 // An animal's number and a marker's number, never one for the other.
 #[derive(Clone, Copy, Debug, PartialEq, Eq)]
@@ -146,18 +146,20 @@ pub enum SpanError {
     IidIndexTooBig(i64),
 }
 
-// The step: the span so far and the next entry make the span of the list that far. A span is its lowest and its highest byte, and none of nothing.
+// The step: the lowest and the highest place so far, none of nothing, and those of the list with the next entry. A bad entry's place is the highest then,
+// since no place below the count is a bad entry's.
 fn widened(count: usize, sofar: Option<(usize, usize)>, entry: i64) -> Option<(usize, usize)>
-    ensures { (before : List ℤ) → IsSpan count before sofar → IsSpan count (before ++ (entry ∷ [])) result }
+    ensures { (before : List ℤ) → Reaches count before sofar → Reaches count (before ++ (entry ∷ [])) result }
 {
-    let byte = number(count, entry) / 4;
+    let next = place(count, entry);
     match sofar {
-        None => Some((byte, byte)),
-        Some((lowest, highest)) => Some((lowest.min(byte), highest.max(byte))),
+        None => Some((next, next)),
+        Some((lowest, highest)) => Some((lowest.min(next), highest.max(next))),
     }
 }
 
-// The byte span of a list, as its lowest byte and its length in bytes: one walk, in which each entry is tested and meets the step.
+// The byte span of a list, as its lowest byte and its length in bytes: one walk, in which each entry meets the step. A bad entry is looked for only
+// where the highest place is not below the count: a test at each entry took 1.5 times as long.
 pub fn byte_span(count: usize, list: &[i64]) -> Result<(usize, usize), SpanError>
     ensures { span_says result ≡ span_answer count list.now }
 {
@@ -166,13 +168,19 @@ pub fn byte_span(count: usize, list: &[i64]) -> Result<(usize, usize), SpanError
     }
     let mut sofar = None;
     for &next in list {
-        if !is_good(count, next) {
-            return Err(SpanError::IidIndexTooBig(next));
-        }
         sofar = widened(count, sofar, next);
     }
     match sofar {
         None => Ok((0, 0)),
-        Some((lowest, highest)) => Ok((lowest, highest - lowest + 1)),
+        Some((lowest, highest)) => {
+            if highest >= count {
+                if let Some(entry) = first_bad(count, list) {
+                    return Err(SpanError::IidIndexTooBig(entry));
+                }
+            }
+            let lowest_byte = lowest / 4;
+            let highest_byte = highest / 4;
+            Ok((lowest_byte, highest_byte - lowest_byte + 1))
+        }
     }
 }
