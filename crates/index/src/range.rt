@@ -24,15 +24,9 @@ impl RangeAny {
     pub fn to_range(self, count: usize) -> Result<Range<usize>, RangeError>
         ensures { range_says result ≡ range_answer self count }
     {
-        if count > answer::COUNT_LIMIT {
-            return Err(RangeError::CountTooLarge);
-        }
         let start = self.start.unwrap_or(0);
-        if start > answer::COUNT_LIMIT {
-            return Err(RangeError::CountTooLarge);
-        }
         let end = self.end.unwrap_or(count);
-        if end > answer::COUNT_LIMIT {
+        if count.max(start).max(end) > answer::COUNT_LIMIT {
             return Err(RangeError::CountTooLarge);
         }
         if start > end {

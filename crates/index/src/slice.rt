@@ -18,7 +18,7 @@ pub struct SliceInfo1 {
     pub step: i64,
 }
 
-// The magnitude of a number, -2^63 among them.
+// The magnitude of a number, -2^63 among them: the clauses' `magnitude`, by the library's method, as the type of a count.
 fn magnitude(e: i64) -> usize
     ensures { result ≡ magnitude e }
 {
