@@ -16,6 +16,7 @@ pub enum OpenError {
 }
 
 // The mode of a file: its byte 2.
+#[tactic(auto, using(crate::proofs::FileLaws::opens_short, crate::proofs::FileLaws::opens_first, crate::proofs::FileLaws::opens_second, crate::proofs::FileLaws::opens_good))]
 pub fn open_and_check(file: &[u8]) -> Result<u8, OpenError>
     ensures { open_says result ≡ open_answer file.now }
 {

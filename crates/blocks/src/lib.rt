@@ -13,6 +13,7 @@ pub enum DivError {
 }
 
 // The width of a block of `count` items.
+#[tactic(auto, unfolding(crate::specs::Block::block_width))]
 pub fn block_width(count: usize) -> usize
     ensures { result ≡ block_width count }
 {
@@ -48,6 +49,7 @@ pub fn try_file_length(items: usize, blocks: usize) -> Result<usize, DivError>
 }
 
 // Whether a × b is n, in exact arithmetic.
+#[tactic(auto, using(crate::proofs::Products::zero_is, crate::proofs::Products::uneven_not, crate::proofs::Products::even_is))]
 pub fn product_is(a: usize, b: usize, n: usize) -> bool
     ensures { result ≡ eqb (a * b) n }
 {
@@ -61,6 +63,7 @@ pub fn product_is(a: usize, b: usize, n: usize) -> bool
 }
 
 // Whether a × b is at most n, in exact arithmetic.
+#[tactic(auto, using(crate::proofs::Products::zero_most, crate::proofs::Products::quotient_most))]
 pub fn product_at_most(a: usize, b: usize, n: usize) -> bool
     ensures { result ≡ leb (a * b) n }
 {

@@ -13,23 +13,20 @@ unfolding is_good means
 from_front count (pos i) h = (refl, refl)
 from_front count (negsuc k) h = absurd (let q : ◌≡◌ {A = ℕ} 0 1 = cc in omega arith)
 
--- the machine's difference of the count and a magnitude
-abbrev wrapped : ℕ → ℕ → ℕ
-wrapped count m = (count + (2 ^ 64 - m)) % 2 ^ 64
-
-wrapped_back : (count k : ℕ) → count < 2 ^ 64 → k < 2 ^ 63 → (ltb (wrapped count (suc k)) count ≡ ltb k count) × (ltb k count ≡ true → wrapped count (suc k) ≡ count - suc k)
-wrapped_back count k hc hk = by_test (ltb k count) refl
+-- the entry k before the last, with p the machine's sum of it and the count
+wrapped : (count k p : ℕ) → count < 2 ^ 64 → k < 2 ^ 63 → p ≡ (count + (2 ^ 64 - suc k)) % 2 ^ 64 → (ltb p count ≡ ltb k count) × (ltb k count ≡ true → p ≡ count - suc k)
+wrapped count k p hc hk e = by_test (ltb k count) refl
   where
-    by_test : (b : Bool) → ltb k count ≡ b → (ltb (wrapped count (suc k)) count ≡ b) × (b ≡ true → wrapped count (suc k) ≡ count - suc k)
-    by_test true t = let h : k < count = ltb-true k count t in (lt-ltb (wrapped count (suc k)) count (omega arith), λ _. omega arith)
-    by_test false t = let h : count ≤ k = ltb-false k count t in (le-ltb (wrapped count (suc k)) count (omega arith), λ b. absurd (let q : ◌≡◌ {A = ℕ} 0 1 = cc in omega arith))
+    by_test : (b : Bool) → ltb k count ≡ b → (ltb p count ≡ b) × (b ≡ true → p ≡ count - suc k)
+    by_test true t = let h : k < count = ltb-true k count t in (lt-ltb p count (omega arith), λ _. omega arith)
+    by_test false t = let h : count ≤ k = ltb-false k count t in (le-ltb p count (omega arith), λ b. absurd (let q : ◌≡◌ {A = ℕ} 0 1 = cc in omega arith))
 
 from_back :
-    (count : ℕ) (z : ℤ) → count < 2 ^ 64 → lt_z z (pos 0) ≡ true → mag z < 2 ^ 63
-    → (ltb (wrapped count (nat_abs z)) count ≡ is_good count z) × (is_good count z ≡ true → wrapped count (nat_abs z) ≡ means count z)
+    (count : ℕ) (z : ℤ) (p : ℕ) → count < 2 ^ 64 → lt_z z (pos 0) ≡ true → mag z < 2 ^ 63 → p ≡ (count + of_z w64 z) % 2 ^ 64
+    → (ltb p count ≡ is_good count z) × (is_good count z ≡ true → p ≡ means count z)
 unfolding is_good means
-from_back count (pos i) hc h f = absurd (let b : i < 0 = ltb-true i 0 h in omega arith)
-from_back count (negsuc k) hc h f = wrapped_back count k hc f
+from_back count (pos i) p hc h f e = absurd (let b : i < 0 = ltb-true i 0 h in omega arith)
+from_back count (negsuc k) p hc h f e = wrapped count k p hc f e
 
 means_from_back : (count : ℕ) (z : ℤ) → lt_z z (pos 0) ≡ true → count - nat_abs z ≡ means count z
 unfolding means
@@ -53,18 +50,20 @@ module _ (count : ℕ) (z : ℤ) (f : SFits w64 z) where
   front : lt_z (to_z w64 (of_z w64 z)) (pos 0) ≡ false → lt_z z (pos 0) ≡ false
   front = subst (λ (y : ℤ). lt_z y (pos 0) ≡ false) back
 
-  -- `place` and `number`, from the magnitude m
+  pub place_back :
+      (p : ℕ) → p ≡ (count + of_z w64 (to_z w64 (of_z w64 z))) % 2 ^ 64 → count < 2 ^ 64 → lt_z (to_z w64 (of_z w64 z)) (pos 0) ≡ true
+      → (ltb p count ≡ is_good count z) × (is_good count z ≡ true → p ≡ means count z)
+  place_back p e hc h = from_back count z p hc (negative h) f.sfits (e ∙ ap (λ (y : ℤ). (count + of_z w64 y) % 2 ^ 64) back)
+
+  pub place_front :
+      lt_z (to_z w64 (of_z w64 z)) (pos 0) ≡ false
+      → (ltb (nat_abs (to_z w64 (of_z w64 z))) count ≡ is_good count z) × (is_good count z ≡ true → nat_abs (to_z w64 (of_z w64 z)) ≡ means count z)
+  place_front h = let r = from_front count z (front h) in (ap (λ (y : ℤ). ltb (nat_abs y) count) back ∙ r.0, λ _. ap nat_abs back ∙ r.1)
+
+  -- `number`, from the magnitude m
   module _ (m : ℕ) (e : m ≡ nat_abs (to_z w64 (of_z w64 z))) where
     magnitude : m ≡ nat_abs z
     magnitude = e ∙ ap nat_abs back
-
-    pub place_back : count < 2 ^ 64 → lt_z (to_z w64 (of_z w64 z)) (pos 0) ≡ true → (ltb (wrapped count m) count ≡ is_good count z) × (is_good count z ≡ true → wrapped count m ≡ means count z)
-    place_back hc h =
-        subst (λ (k : ℕ). (ltb (wrapped count k) count ≡ is_good count z) × (is_good count z ≡ true → wrapped count k ≡ means count z)) (sym magnitude)
-        (from_back count z hc (negative h) f.sfits)
-
-    pub place_front : lt_z (to_z w64 (of_z w64 z)) (pos 0) ≡ false → (ltb m count ≡ is_good count z) × (is_good count z ≡ true → m ≡ means count z)
-    place_front h = let r = from_front count z (front h) in (ap (λ (k : ℕ). ltb k count) magnitude ∙ r.0, λ _. magnitude ∙ r.1)
 
     pub number_back : lt_z (to_z w64 (of_z w64 z)) (pos 0) ≡ true → count - m ≡ means count z
     number_back h = ap (λ (k : ℕ). count - k) magnitude ∙ means_from_back count z (negative h)

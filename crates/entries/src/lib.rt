@@ -88,16 +88,15 @@ pub fn item_index<I: Item>(count: usize, entry: i64) -> Result<I, BadEntry>
     }
 }
 
-// The place that a good entry means, and of a bad entry none below the count: from the back the machine's difference, which wraps where the
-// count is too small.
+// The place that a good entry means, and of a bad entry none below the count: from the back the machine's sum, which wraps past the count where the
+// entry is bad.
 fn place(count: usize, entry: i64) -> usize
     ensures { (nat_lt result count ≡ is_good count entry) × (is_good count entry ≡ true → result ≡ means count entry) }
 {
-    let magnitude = entry.unsigned_abs() as usize;
     if entry < 0 {
-        count.wrapping_sub(magnitude)
+        count.wrapping_add_signed(entry as isize)
     } else {
-        magnitude
+        entry as usize
     }
 }
 
