@@ -78,6 +78,7 @@ impl Item for SidIndex {
 pub struct BadEntry(pub i64);
 
 // The item that an entry means.
+#[tactic(auto, using(crate::proofs::EntryLaws::entry_good, crate::proofs::EntryLaws::entry_bad))]
 pub fn item_index<I: Item>(count: usize, entry: i64) -> Result<I, BadEntry>
     ensures { item_says I.number I.refusal result ≡ entry_answer I.refusal count entry }
 {
@@ -100,6 +101,7 @@ fn place(count: usize, entry: i64) -> usize
     }
 }
 
+#[tactic(auto, using(crate::proofs::EntryLaws::tests_good))]
 fn is_good(count: usize, entry: i64) -> bool
     ensures { result ≡ is_good count entry }
 {
@@ -107,6 +109,7 @@ fn is_good(count: usize, entry: i64) -> bool
 }
 
 // The number that a good entry means.
+#[tactic(auto, using(crate::proofs::EntryLaws::number_back, crate::proofs::EntryLaws::number_front))]
 fn number(count: usize, entry: i64) -> usize
     ensures { result ≡ means count entry }
 {
@@ -126,6 +129,7 @@ pub fn item_of<I: Item>(count: usize, entry: i64) -> I
 }
 
 // The first bad entry of a list.
+#[tactic(auto, using(crate::proofs::EntryLaws::bad_here, crate::proofs::EntryLaws::bad_later, crate::proofs::EntryLaws::bad_none))]
 pub fn first_bad(count: usize, list: &[i64]) -> Option<i64>
     ensures { result ≡ first_bad count list.now }
 {
@@ -146,6 +150,7 @@ pub enum SpanError {
 
 // The step: the lowest and the highest place so far, none of nothing, and those of the list with the next entry. A bad entry's place is the highest then,
 // since no place below the count is a bad entry's.
+#[tactic(auto, using(crate::proofs::EntryLaws::placed, crate::proofs::SpanLaws::reaches_first, crate::proofs::SpanLaws::reaches_next))]
 fn widened(count: usize, sofar: Option<(usize, usize)>, entry: i64) -> Option<(usize, usize)>
     ensures { (before : List ℤ) → Reaches count before sofar → Reaches count (before ++ (entry ∷ [])) result }
 {
@@ -158,6 +163,7 @@ fn widened(count: usize, sofar: Option<(usize, usize)>, entry: i64) -> Option<(u
 
 // The byte span of a list, as its lowest byte and its length in bytes: one walk, in which each entry meets the step. A bad entry is looked for only
 // where the highest place is not below the count: with a test of each entry in the walk it took 2.0 nanoseconds an entry, and without 0.8.
+#[tactic(auto, using(crate::proofs::SpanLaws::span_too_large, crate::proofs::SpanLaws::walked_none, crate::proofs::SpanLaws::walked_more))]
 pub fn byte_span(count: usize, list: &[i64]) -> Result<(usize, usize), SpanError>
     ensures { span_says result ≡ span_answer count list.now }
 {

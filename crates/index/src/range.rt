@@ -21,6 +21,7 @@ pub enum RangeError {
 
 impl RangeAny {
     // The start and the end of a range.
+    #[tactic(auto, using(crate::proofs::RangeLaws::range_too_large, crate::proofs::RangeLaws::range_above, crate::proofs::RangeLaws::range_is))]
     pub fn to_range(self, count: usize) -> Result<Range<usize>, RangeError>
         ensures { range_says result ≡ range_answer self count }
     {

@@ -3,18 +3,9 @@ use mir.ValLaws.{to_z-of_z}
 use Rattle.answer.specs.Answer.{refused, count_limit}
 use Rattle.entries.specs.Entry.{first_bad}
 use Rattle.entries.specs.Private.{Reaches, IsSpan}
-use Rattle.entries.proofs.SpanLaws.{walked_none, walked_more, walked_all, bytes_ordered, span_too_large, span_bad, span_good}
+use Rattle.entries.proofs.SpanLaws.{walked_all, bytes_ordered, span_bad, span_good}
 use Rattle.entries.proofs.byte_span.Goals as goal
 use Rattle.entries.proofs.byte_span.Goals.{After-loop-next, Joined-highest-count, then-highest-count+in_default, else-highest-count}
-
-pub returns-then-count-gt-COUNT_LIMIT : goal.returns-then-count-gt-COUNT_LIMIT
-returns-then-count-gt-COUNT_LIMIT c = sym (span_too_large _ _ c.if-count-gt-COUNT_LIMIT.true)
-
-pub loop-next-init : goal.loop-next-init
-loop-next-init c = walked_none _ _
-
-pub loop-next-preserved : goal.loop-next-preserved
-loop-next-preserved c = walked_more _ _ _ _ _ c.loop-next.invariant c.loop-next-test.true (search rules) c.widened-sofar.ensures
 
 -- after the walk
 module _ (c : After-loop-next) where
