@@ -57,6 +57,7 @@ pub struct Coding<T: BedVal> {
 
 impl<T: BedVal> Coding<T> {
     // The value of each code.
+    #[tactic(auto, using(crate::proofs::ValueLaws::values_counted, crate::proofs::ValueLaws::values_other))]
     pub fn set_up_two_bits_to_value(self) -> [T; 4]
         ensures { result ≡ values T.width self.is_a1_counted self.missing }
     {
