@@ -1,7 +1,7 @@
 -- What only private functions speak in.
-use Rattle.std.specs.Prelude.{◌≡◌, Bool, cond, List, ℕ, ◌+◌, ◌*◌, ◌<◌, ltb, ℤ, pos, negsuc, get_or}
+use Rattle.std.specs.Prelude.{◌≡◌, Bool, cond, List, ℕ, ◌+◌, ◌*◌, ◌<◌, ltb, ℤ, FitsSigned, get_or}
 use Rattle.std.specs.Prelude.{Option, Some, None}
-use Rattle.std.specs.Int.Signed.{mag}
+use Rattle.std.specs.Int.{w8, cast_unsigned}
 use Rattle.codes.specs.Code.{packed_byte}
 use Rattle.answer.specs.Lists.{tabulate}
 use Rattle.answer.specs.Matrix.{matrix_place}
@@ -12,14 +12,13 @@ use Rattle.bed_write.specs.Groups.{or_four, in_group, Four}
 use Rattle.entries.specs.declared.IidIndex.{IidIndex}
 use Rattle.entries.specs.declared.SidIndex.{SidIndex}
 
--- the place of an i8 in a table of 256
-unfoldable pub byte_index : ℤ → ℕ
-byte_index (pos i) = i
-byte_index (negsuc k) = 128 + k
+-- the code of 0, 1 or 2, else another number
+abbrev pub number_code : {V : Type 0} (w : Width V) → Bool → V → ℕ → ℕ
+number_code w flag v other = cond (w.same v w.zero) (cond flag 3 0) (cond (w.same v w.one) 2 (cond (w.same v w.two) (cond flag 0 3) other))
 
--- a table that has the code of each i8, or 4
+-- a table that has the code of each i8, or 4, at the place of its byte
 pub record CodesOfBytes (flag : Bool) (missing : ℤ) (table : List ℕ) : Type 0 where
-  pub code_of_law : (v : ℤ) → mag v < 128 → get_or table (byte_index v) 0 ≡ or_four (code_of i8 flag missing v)
+  pub code_of_law : (v : ℤ) → FitsSigned w8 v → get_or table (cast_unsigned w8 v) 0 ≡ or_four (code_of i8 flag missing v)
 
 -- a number that is no code, and this is found
 unfoldable pub if_over : {A : Type 0} → ℕ → A → Option A

@@ -3,10 +3,7 @@ ghost use Rattle.std.specs.Prelude.{◌<◌, length};
 ghost use Rattle.bed_write.specs.Private.{FourInside, GoodPlace, GoodFour};
 
 use crate::value_codes::Coder;
-use codes::{BedVal, Group};
-
-// "Pads are zero".
-const PAD: u8 = 0;
+use codes::{BedVal, Group, PAD};
 
 // A group of values that stand `stride` apart from `start` on, of which `left` are there.
 #[derive(Drop)]

@@ -4,7 +4,8 @@ ghost use Rattle.bed_write.specs.Private.{by_tests, Finds, bad_says};
 
 use crate::matrix::Matrix;
 use crate::value_codes;
-use crate::value_codes::{Coding, EncodeVal};
+use crate::value_codes::EncodeVal;
+use codes::Coding;
 use entries::{IidIndex, SidIndex};
 
 // Whether any value is bad, looked at in the order in which they stand, and to the end, so that several are looked at at once.

@@ -10,9 +10,9 @@ ghost use Rattle.bed_write.specs.Private.{by_tests, placed, GoodMatrix, block_by
 use crate::group::Strided;
 use crate::matrix::Matrix;
 use crate::search;
-use crate::value_codes::{Coder, Coding, WriteVal};
+use crate::value_codes::{Coder, WriteVal};
 use blocks::DivError;
-use codes::BedVal;
+use codes::{BedVal, Coding};
 use entries::{IidIndex, SidIndex};
 
 // What `write_val` refuses: 18, 4, 15, 16, or 7.
@@ -75,17 +75,10 @@ impl<'a, T: BedVal, C: Coder<T>> Writer<'a, T, C> {
         let group = Strided {
             val: self.matrix.val,
             start: self.matrix.place(IidIndex(first), SidIndex(m)),
-            stride: self.matrix.animal_stride(),
+            stride: self.matrix.layout().animal_stride,
             left: self.matrix.iid_count - first,
         };
         codes::byte_of(group.codes(&self.coder))
-    }
-
-    // How many markers are packed together: one in marker order, and 16 in animal order, whose rows are read along.
-    fn tile(&self) -> usize
-        ensures { 0 < result }
-    {
-        if self.matrix.animal_order { 16 } else { 1 }
     }
 
     // The file.
@@ -102,7 +95,7 @@ impl<'a, T: BedVal, C: Coder<T>> Writer<'a, T, C> {
         if width == 0 {
             return;
         }
-        let tile = self.tile();
+        let tile = self.matrix.layout().tile;
         for from in (0..self.matrix.sid_count).step_by(tile) {
             let until = from + tile.min(self.matrix.sid_count - from);
             for b in 0..width {

@@ -64,7 +64,7 @@ loop-from-preserved g c =
     let m = s.matrix in
     let code = placed (by_tests g.T.BedVal.width (g.C.Coder.flag s.coder) (g.C.Coder.missing s.coder) m.val.now) m.animal_order m.iid_count m.sid_count in
     let written = bed_file m.iid_count m.sid_count code in
-    let e : c.loop-from.from + c.min.result ≡ c.loop-from.from + c.tile-tile.result = search rules in
+    let e : c.loop-from.from + c.min.result ≡ c.loop-from.from + c.layout-tile.result.tile = search rules in
     subst (λ (x : ℕ). Rows written c.block_width-width.result m.sid_count c.loop-b.out x x 0 0) e (tile_done written _ m.sid_count _ _ _ _ _ c.loop-b.invariant c.loop-b-test.false)
 
 pub returns-else-width-eq0 : goal.returns-else-width-eq0
