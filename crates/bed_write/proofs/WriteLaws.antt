@@ -9,18 +9,15 @@ use borrow.Author.Tests.{eqb-true, leb-true, eq-eqb, ne_eqb}
 use lib.Dec.{eqb, leb}
 use lib.IntN.{pos}
 use lib.ListN.{length}
-use Rattle.codes.specs.Value.{Width}
 use Rattle.answer.specs.Answer.{Answer, done, refused, check, count_limit, is_done}
 use Rattle.blocks.specs.Block.{block_width, file_length, check_size, div_answer}
-use Rattle.answer.specs.Matrix.{matrix_place}
 use Rattle.answer.proofs.AnswerLaws.{Stage, lets, refuses, check_stage, then_stage, heard, stays, check_passes, check_refuses, check_done, count_done, new_if_done, old_if_not}
 use Rattle.blocks.proofs.Widths.{Sized, width_given, size_stage}
 use Rattle.bed_write.specs.Packing.{or_zero}
-use Rattle.bed_write.specs.Writing.{value_code, first_bad_call, check_call, check_buffers, write_answer, bed_file, write_buffer}
+use Rattle.bed_write.specs.Writing.{first_bad_call, check_call, check_buffers, write_answer, bed_file, write_buffer}
 use Rattle.bed_write.specs.declared.write.WriteError.{WriteError}
 use Rattle.bed_write.specs.declared.write.WriteError.TheVariants as writes
 use Rattle.bed_write.specs.Says.{write_refusal, write_says}
-use Rattle.bed_write.proofs.FirstLaws.{place_coded}
 use Rattle.bed_write.proofs.SearchLaws.{call}
 
 -- ---- 18, 4, 15, 16, by the tests in order
@@ -102,13 +99,6 @@ unfolding write_answer write_buffer
 write_refused iids sids code val_length old a e n =
     let q = refused_stays (buffers_stage iids sids val_length (length old)) a (check_call (first_bad_call iids sids code) (done [])) e n in
     (q, sym (old_if_not _ _ old (sym (ap is_done q) ∙ n)))
-
--- ---- the code of a value of a matrix is a code
-pub value_coded :
-    {V : Type 0} (w : Width V) (flag : Bool) (missing : V) (order : Bool) (iids sids : ℕ) (val : List V) (a m c : ℕ)
-    → value_code w flag missing order iids sids val a m ≡ Some c → c < 4
-unfolding value_code
-value_coded w flag missing order iids sids val a m c e = place_coded w flag missing val (matrix_place order iids sids a m) c e
 
 -- ---- what is known where the buffers are right
 pub record Passed (iids sids val_length out_length : ℕ) (a : Answer) : Type 0 where

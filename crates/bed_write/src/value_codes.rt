@@ -1,6 +1,7 @@
 // The code of a value.
 ghost use Rattle.std.specs.Prelude.{◌≡◌, refl, Bool, cond, ◌<◌};
 ghost use Rattle.codes.specs.Value.{code_of};
+ghost use Rattle.codes.specs.declared.values.Coding.{Coding};
 ghost use Rattle.bed_write.specs.Groups.{or_four, GoodCode, CodesGood};
 ghost use Rattle.bed_write.specs.Private.{number_code};
 ghost use Rattle.std.specs.Option.{is_none};
@@ -14,12 +15,10 @@ use byte_table::ByteTable;
 
 // A way to code values none of which is bad.
 pub trait Coder<T: BedVal>: Drop {
-    ghost flag: { Self → Bool };
-
-    ghost missing: { Self → T };
+    ghost coding: { Self → Coding T };
 
     fn code(&self, value: T) -> u8
-        ensures { CodesGood T.width (flag self.now) (missing self.now) value result };
+        ensures { CodesGood T.width (coding self.now).is_a1_counted (coding self.now).missing value result };
 }
 
 // A type of values that are packed.
@@ -48,7 +47,7 @@ pub trait WriteVal: EncodeVal {
     type Across: Coder<Self>;
 
     fn across(coding: Coding<Self>) -> Self::Across
-        ensures { (Self.Across.flag result ≡ coding.is_a1_counted) × (Self.Across.missing result ≡ coding.missing) };
+        ensures { Self.Across.coding result ≡ coding };
 }
 
 impl WriteVal for i8 {
@@ -56,7 +55,7 @@ impl WriteVal for i8 {
     type Across = ByteTable;
 
     fn across(coding: Coding<i8>) -> ByteTable
-        ensures { (result.coding.is_a1_counted ≡ coding.is_a1_counted) × (result.coding.missing ≡ coding.missing) }
+        ensures { result.coding ≡ coding }
     {
         ByteTable::new(coding)
     }
@@ -66,7 +65,7 @@ impl WriteVal for f64 {
     type Across = Coding<f64>;
 
     fn across(coding: Coding<f64>) -> Coding<f64>
-        ensures { (result.is_a1_counted ≡ coding.is_a1_counted) × (result.missing ≡ coding.missing) }
+        ensures { result ≡ coding }
     {
         coding
     }
@@ -74,9 +73,7 @@ impl WriteVal for f64 {
 
 // By three tests: what is none of 0, 1, 2 is missing.
 impl<T: EncodeVal> Coder<T> for Coding<T> {
-    ghost flag = { λ coding. coding.is_a1_counted };
-
-    ghost missing = { λ coding. coding.missing };
+    ghost coding = { λ coding. coding };
 
     fn code(&self, value: T) -> u8 {
         good_code(value, self.is_a1_counted)

@@ -13,7 +13,7 @@ use codes::Coding;
 pub struct ByteTable {
     table: [u8; 256],
     coding: Coding<i8>,
-    ghost is_table: { CodesOfBytes coding.is_a1_counted coding.missing table },
+    ghost is_table: { CodesOfBytes coding table },
 }
 
 // The place of an i8 in a table of 256: its byte, by two's complement.
@@ -26,7 +26,7 @@ fn index_of(value: i8) -> usize
 impl ByteTable {
     // 0, 1 and 2 go before missing.
     pub(crate) fn new(coding: Coding<i8>) -> ByteTable
-        ensures { (result.coding.is_a1_counted ≡ coding.is_a1_counted) × (result.coding.missing ≡ coding.missing) }
+        ensures { result.coding ≡ coding }
     {
         let mut table = [4u8; 256];
         table[index_of(coding.missing)] = 1;
@@ -38,9 +38,7 @@ impl ByteTable {
 }
 
 impl Coder<i8> for ByteTable {
-    ghost flag = { λ bytes. bytes.coding.is_a1_counted };
-
-    ghost missing = { λ bytes. bytes.coding.missing };
+    ghost coding = { λ bytes. bytes.coding };
 
     // The code of a bad value too: 4.
     fn code(&self, value: i8) -> u8

@@ -10,7 +10,7 @@ loop-value-init g c = λ e k h. absurd (omega arith)
 pub loop-value-preserved : goal.loop-value-preserved
 loop-value-preserved g c =
     let a = c.args.coding in
-    none_so_far (by_tests g.T.BedVal.width a.is_a1_counted a.missing c.args.val.now) _ _ _ c.loop-value.invariant
+    none_so_far (by_tests g.T.BedVal.width a c.args.val.now) _ _ _ c.loop-value.invariant
     (coded_read g.T.BedVal.width a.is_a1_counted a.missing c.args.val.now _ _ _ c.loop-value-test.true c.value-item.is _ (c.is_bad-bad.ensures a.is_a1_counted))
 
 pub returns : goal.returns

@@ -1,7 +1,7 @@
 use Rattle.std.proofs.Common.{◌<◌, length, refl, arith, below_more, rules}
 use Rattle.bed_write.proofs.SearchLaws.{called_none, called_at}
 use Rattle.bed_write.proofs.PlaceLaws.{read_inside, read_number}
-use Rattle.bed_write.proofs.WriteLaws.{value_coded}
+use Rattle.bed_write.proofs.FirstLaws.{value_coded}
 use Rattle.bed_write.proofs.search.first_bad.Goals as goal
 
 pub loop-marker-init : goal.loop-marker-init
@@ -46,6 +46,5 @@ loop-marker-preserved g c = below_more _ _ c.loop-marker.invariant (λ a h. c.lo
 
 pub returns-after-loop-marker : goal.returns-after-loop-marker
 returns-after-loop-marker g c =
-    let a = c.args.coding in
     let m = c.args.matrix.now in
-    called_none m.iid_count m.sid_count _ (value_coded g.T.BedVal.width a.is_a1_counted a.missing m.animal_order m.iid_count m.sid_count m.val.now) _ c.loop-marker-test.false c.loop-marker.invariant
+    called_none m.iid_count m.sid_count _ _ c.loop-marker-test.false c.loop-marker.invariant

@@ -9,4 +9,4 @@ use Rattle.bed_write.proofs.value_codes.byte_table.ByteTable.new.Goals as goal
 pub invariant_of-result : goal.invariant_of-result
 invariant_of-result c =
     let fits : FitsSigned w8 c.args.coding.missing = search rules in
-    record { is_table = table_made _ _ fits _ _ _ (c.index_of.ensures.0 ∙ ap (of_z w8) (to_z-of_z w8 _ fits)) c.code_of_two.ensures c.code_of_zero.ensures _ refl }
+    record { is_table = table_made _ fits _ _ _ (c.index_of.ensures.0 ∙ ap (of_z w8) (to_z-of_z w8 _ fits)) c.code_of_two.ensures c.code_of_zero.ensures _ refl }
