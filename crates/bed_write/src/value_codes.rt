@@ -111,6 +111,7 @@ fn number_code<T: EncodeVal>(value: T, is_a1_counted: bool, other: u8) -> u8
 }
 
 // The code of a value that is known not to be bad.
+#[tactic(auto, using(crate::proofs::ChooseLaws::good_chosen))]
 fn good_code<T: EncodeVal>(value: T, is_a1_counted: bool) -> u8
     ensures { GoodCode T.width is_a1_counted value result }
 {
@@ -118,6 +119,7 @@ fn good_code<T: EncodeVal>(value: T, is_a1_counted: bool) -> u8
 }
 
 // The code of a value, or 4. Where values are looked at one by one, as by the search, this is faster than `is_bad`.
+#[tactic(auto, using(crate::proofs::ChooseLaws::code_chosen))]
 pub(crate) fn code_or_four<T: EncodeVal>(value: T, coding: Coding<T>) -> u8
     ensures { result ≡ or_four (code_of T.width coding.is_a1_counted coding.missing value) }
 {
@@ -128,6 +130,7 @@ pub(crate) fn code_or_four<T: EncodeVal>(value: T, coding: Coding<T>) -> u8
 }
 
 // Whether a value is none of 0, 1, 2 and missing. Every test is made, so that several values are looked at at once.
+#[tactic(auto, using(crate::proofs::ChooseLaws::none_chosen))]
 pub(crate) fn is_bad<T: EncodeVal>(value: T, missing: T) -> bool
     ensures { (flag : Bool) → result ≡ is_none (code_of T.width flag missing value) }
 {

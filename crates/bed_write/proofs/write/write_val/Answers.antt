@@ -1,7 +1,7 @@
 -- The checks of the buffers, then the first bad value, then the file.
-use Rattle.std.proofs.Common.{◌≡◌, None, refl, sym, subst, ◌∙◌}
+use Rattle.std.proofs.Common.{◌≡◌, refl, subst, ◌∙◌}
 use Rattle.bed_write.specs.Writing.{value_code, bed_file}
-use Rattle.bed_write.specs.Private.{Finds, matrix_code}
+use Rattle.bed_write.specs.Private.{matrix_code}
 use Rattle.bed_write.proofs.WriteLaws.{passed, write_bad, write_done, write_refused, error_kept, not_done}
 use Rattle.bed_write.proofs.write.write_val.Goals as goal
 
@@ -21,13 +21,6 @@ returns-in-Some g c =
     let a = c.args in
     let p = passed a.iid_count a.sid_count _ _ _ (c.in_ok-check_write.ensures) refl in
     write_bad a.iid_count a.sid_count (value_code g.T.BedVal.width a.is_a1_counted a.missing a.animal_order a.iid_count a.sid_count a.val.now) _ a.out.now p.pass _ _ (c.in-Some.ensures)
-
-pub invariant_of-writer : goal.invariant_of-writer
-invariant_of-writer g c =
-    let a = c.args in
-    record {
-      is_good = subst (λ k. Finds g.T.BedVal.width k a.animal_order a.iid_count a.sid_count a.val.now None) (sym c.across.ensures) c.in_default.ensures;
-    }
 
 pub write-requires : goal.write-requires
 write-requires g c =

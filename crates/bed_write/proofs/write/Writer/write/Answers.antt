@@ -1,5 +1,5 @@
-use Rattle.std.proofs.Common.{◌≡◌, ℕ, rules, ◌+◌, ◌*◌, sym, ap, ◌∙◌, arith}
-use Rattle.bed_write.proofs.RowLaws.{stored, row_done, tile_done, tile_starts, row_starts, all_done, first_in, headed_rows, headed_done}
+use Rattle.std.proofs.Common.{ℕ, rules, ◌+◌, ◌*◌, sym, ap, ◌∙◌, arith}
+use Rattle.bed_write.proofs.RowLaws.{stored, tile_done, all_done, first_in, headed_rows, headed_done}
 use Rattle.bed_write.proofs.write.Writer.write.Goals as goal
 
 pub returns-then-width-eq0 : goal.returns-then-width-eq0
@@ -12,26 +12,12 @@ loop-from-init g c =
     let m = c.args.self.now.matrix in
     headed_rows m.iid_count m.sid_count _ _ c.block_width-width.ensures c.args.out.now (c.requires ∙ ap (λ (x : ℕ). 3 + x * m.sid_count) (sym c.block_width-width.ensures))
 
-pub loop-b-init : goal.loop-b-init
-loop-b-init g c = tile_starts c.loop-from.invariant _ (search rules)
-
-pub loop-m-init : goal.loop-m-init
-loop-m-init g c = row_starts c.loop-b.invariant c.loop-b-test.true
-
 pub byte_at-requires : goal.byte_at-requires
 byte_at-requires g c =
     ((let u = c.loop-m.invariant.until_in in omega (arith, c.loop-m-test.true)), first_in _ _ _ c.block_width-width.ensures c.loop-b-test.true)
 
 pub loop-m-preserved : goal.loop-m-preserved
 loop-m-preserved g c = stored c.loop-m.invariant (let u = c.loop-m.invariant.until_in in omega (arith, c.loop-m-test.true)) c.loop-b-test.true _ c.byte_at.ensures
-
-pub loop-b-preserved : goal.loop-b-preserved
-loop-b-preserved g c = row_done c.loop-m.invariant c.loop-m-test.false
-
-pub loop-from-preserved : goal.loop-from-preserved
-loop-from-preserved g c =
-    let e : c.loop-from.from + c.min.result ≡ c.loop-from.from + c.layout-tile.result.tile = search rules in
-    rw (← e) (tile_done c.loop-b.invariant c.loop-b-test.false)
 
 pub returns-else-width-eq0 : goal.returns-else-width-eq0
 returns-else-width-eq0 g c = all_done c.loop-from.invariant c.loop-from-test.false
