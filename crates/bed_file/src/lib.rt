@@ -81,8 +81,8 @@ impl From<DivError> for FileError {
 pub fn check_length(file_len: usize, items: usize, blocks: usize) -> Result<(), FileError>
     ensures { accept_says result ≡ length_answer file_len items blocks }
 {
-    let width = blocks::try_div_4(items, blocks)?;
-    if file_len != width * blocks + 3 {
+    let length = blocks::try_file_length(items, blocks)?;
+    if file_len != length {
         return Err(FileError::IllFormed);
     }
     Ok(())

@@ -2,10 +2,10 @@
 #![tactic(auto)]
 
 ghost use Rattle.std.specs.Prelude.{◌≡◌, ◌*◌, eqb, leb};
-ghost use Rattle.blocks.specs.Block.{block_width, div_answer};
+ghost use Rattle.blocks.specs.Block.{block_width, div_answer, size_answer};
 ghost use Rattle.blocks.specs.Says.{div_says};
 
-// What `try_div_4` refuses: 18, or 4.
+// What `try_div_4` and `try_file_length` refuse: 18, or 4.
 #[derive(Clone, Copy, Debug, PartialEq, Eq)]
 pub enum DivError {
     CountTooLarge,
@@ -37,6 +37,14 @@ pub fn try_div_4(in_iid_count: usize, in_sid_count: usize) -> Result<usize, DivE
         return Err(DivError::IndexesTooBigForFiles);
     }
     Ok(width)
+}
+
+// How many bytes a file of `blocks` blocks of `items` items has.
+pub fn try_file_length(items: usize, blocks: usize) -> Result<usize, DivError>
+    ensures { div_says result ≡ size_answer items blocks }
+{
+    let width = try_div_4(items, blocks)?;
+    Ok(width * blocks + 3)
 }
 
 // Whether a × b is n, in exact arithmetic.
