@@ -15,7 +15,7 @@ use Rattle.bed_write.specs.Writing.{bed_file}
 use Rattle.bed_write.proofs.BedLaws.{bed_length, bed_byte}
 
 -- two buffers have the same byte at a place
-abbrev Same : List ℕ → List ℕ → ℕ → Type 0
+abbrev pub Same : List ℕ → List ℕ → ℕ → Type 0
 Same whole out p = get_or out p 0 ≡ get_or whole p 0
 
 -- of the file of a matrix of codes, in blocks of w bytes: the header is written; every block before `from`; the first b bytes of every block before `until`; byte b of every block before m
@@ -130,6 +130,21 @@ module _ {iids sids : ℕ} {code : ℕ → ℕ → ℕ} {w : ℕ} {out : List �
               subst (Same whole out) e (r.tiles ((p - 3) / w) ((p - 3) % w) (omega arith) i)
 
 -- ---- the header
+-- nothing else is written
+pub header_done :
+    (iids sids : ℕ) (code : ℕ → ℕ → ℕ) (w : ℕ) (out : List ℕ) → w ≡ block_width iids → length out ≡ length (bed_file iids sids code)
+    → ((p : ℕ) → p < 3 → Same (bed_file iids sids code) out p) → Rows iids sids code w out 0 0 0 0
+header_done iids sids code w out ew l h =
+    record {
+      width_is = ew;
+      long = l;
+      until_in = omega arith;
+      head = h;
+      tiles = λ j i k g. absurd (omega arith);
+      rows = λ j i k g. absurd (omega arith);
+      here = λ j k. absurd (omega arith);
+    }
+
 module _ (iids sids : ℕ) (code : ℕ → ℕ → ℕ) (w : ℕ) (ew : w ≡ block_width iids) (old : List ℕ) (l : length old ≡ 3 + w * sids) where
   abbrev headed : List ℕ
   headed = set (set (set old 0 0x6C) 1 0x1B) 2 1
@@ -146,16 +161,7 @@ module _ (iids sids : ℕ) (code : ℕ → ℕ → ℕ) (w : ℕ) (ew : w ≡ bl
   header_at (suc (suc (suc p))) h = absurd (omega arith)
 
   pub headed_rows : Rows iids sids code w headed 0 0 0 0
-  headed_rows =
-      record {
-        width_is = ew;
-        long = simp length-set (l ∙ sym (whole_size iids sids code w ew));
-        until_in = omega arith;
-        head = header_at;
-        tiles = λ j i k g. absurd (omega arith);
-        rows = λ j i k g. absurd (omega arith);
-        here = λ j k. absurd (omega arith);
-      }
+  headed_rows = header_done iids sids code w headed ew (simp length-set (l ∙ sym (whole_size iids sids code w ew))) header_at
 
   -- a file without bytes in its blocks
   pub headed_done : w ≡ 0 → headed ≡ bed_file iids sids code

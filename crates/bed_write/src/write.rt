@@ -47,11 +47,11 @@ fn check_write(
 ) -> Result<(), WriteError>
     ensures { write_says result ≡ check_buffers iid_count sid_count val_len out_len (done []) }
 {
-    let width = blocks::try_div_4(iid_count, sid_count)?;
+    let length = blocks::try_file_length(iid_count, sid_count)?;
     if !blocks::product_is(iid_count, sid_count, val_len) {
         return Err(WriteError::IndexMismatch);
     }
-    if out_len == width * sid_count + 3 {
+    if out_len == length {
         Ok(())
     } else {
         Err(WriteError::EncodingLength)
