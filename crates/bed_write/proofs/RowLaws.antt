@@ -1,7 +1,7 @@
 -- Writing a file byte by byte, in any order of its blocks: each byte that was written is the file's.
 use Rattle.std.proofs.Common.{◌≡◌, sym, ap, subst, ◌∙◌, List, ℕ, zero, suc, ◌+◌, ◌-◌, ◌*◌, ◌/◌, ◌%◌, ◌<◌, ◌≤◌, arith, length, get_or, length-set}
 use lib.Arith.{digits_lt}
-use native.Mathlib.Nat.{mul_comm, zero-mul, le_refl, div-add-mod', mod-lt, div-lt_iff_lt-mul}
+use native.Mathlib.Nat.{mul_comm, mul-le-mul_right, zero-mul, le_refl, le_of_lt, div-add-mod', mod-lt, div-lt_iff_lt-mul}
 use borrow.Author.Tests.{eqb-true, eqb-false}
 use lib.Dec.{eqb}
 use lib.ListN.{set}
@@ -49,18 +49,18 @@ module _ {iids sids : ℕ} {code : ℕ → ℕ → ℕ} {w : ℕ} {out : List �
   size : length whole ≡ 3 + w * sids
   size = whole_size iids sids code w r.width_is
 
-  -- the place of byte b of block m
-  pub byte_in : m < sids → b < w → 3 + m * w + b < length out
-  byte_in h g =
-      let l = r.long in
-      let s = size in
-      let d : m * w + b < sids * w = digits_lt h g in
-      let c = mul_comm w sids in
-      omega arith
+  -- block j begins in the buffer, and its byte i stands there
+  pub block_in : (j : ℕ) → j < sids → 3 + j * w ≤ length out
+  block_in j h = omega (arith, r.long, size, mul_comm w sids, mul-le-mul_right w (le_of_lt h))
+
+  pub byte_in : (j i : ℕ) → j < sids → i < w → 3 + j * w + i < length out
+  byte_in j i h g =
+      let d : j * w + i < sids * w = digits_lt h g in
+      omega (arith, r.long, size, mul_comm w sids)
 
   pub stored : m < sids → b < w → (v : ℕ) → v ≡ packed_byte (tabulate iids (λ a. code a m)) b → Rows iids sids code w (set out (3 + m * w + b) v) from until b (m + 1)
   stored h g v is =
-      let p = byte_in h g in
+      let p = byte_in m b h g in
       let e : v ≡ get_or whole (3 + m * w + b) 0 =
       is ∙ sym (bed_byte iids sids code m b h (subst (λ (x : ℕ). b < x) r.width_is g)) ∙ ap (λ (x : ℕ). get_or whole (3 + m * x + b) 0) (sym r.width_is) in
       record {
@@ -128,6 +128,12 @@ module _ {iids sids : ℕ} {code : ℕ → ℕ → ℕ} {w : ℕ} {out : List �
               let j : (p - 3) / w < sids = (div-lt_iff_lt-mul pw).1 (omega arith) in
               let e : 3 + (p - 3) / w * w + (p - 3) % w ≡ p = omega (arith, div-add-mod' (p - 3) w) in
               subst (Same whole out) e (r.tiles ((p - 3) / w) ((p - 3) % w) (omega arith) i)
+
+-- a block by itself: its next byte
+pub block_stored :
+    {iids sids : ℕ} {code : ℕ → ℕ → ℕ} {w : ℕ} {out : List ℕ} {b m : ℕ} → Rows iids sids code w out m (m + 1) b 0 → m < sids → b < w
+    → (v : ℕ) → v ≡ packed_byte (tabulate iids (λ a. code a m)) b → Rows iids sids code w (set out (3 + m * w + b) v) m (m + 1) (b + 1) 0
+block_stored r hm hb v e = row_done (stored (row_starts r hb) hm hb v e) (omega arith)
 
 -- ---- the header
 -- nothing else is written
