@@ -32,10 +32,7 @@ pub fn check_lists(
 ) -> Result<(), ReadError>
     ensures { read_says result ≡ lists_answer iid_count sid_count iid_index.now sid_index.now }
 {
-    if iid_count > answer::COUNT_LIMIT {
-        return Err(ReadError::File(FileError::CountTooLarge));
-    }
-    if sid_count > answer::COUNT_LIMIT {
+    if !answer::counts_fit(iid_count, sid_count) {
         return Err(ReadError::File(FileError::CountTooLarge));
     }
     if let Some(e) = entries::first_bad(iid_count, iid_index) {
@@ -48,6 +45,7 @@ pub fn check_lists(
 }
 
 // All checks of reading, and of counting: 18, 15 for a buffer that has not m values for each marker named, the file's own, 5 and 6.
+// The counts and the lists stay parameters: they are those of the original and of C, and in a struct each clause would name its fields.
 pub fn check_read(
     file: &[u8],
     iid_count: usize,
@@ -60,10 +58,7 @@ pub fn check_read(
     ensures { read_says result ≡ checks_answer m file.now iid_count sid_count
         iid_index.now sid_index.now val_len }
 {
-    if iid_count > answer::COUNT_LIMIT {
-        return Err(ReadError::File(FileError::CountTooLarge));
-    }
-    if sid_count > answer::COUNT_LIMIT {
+    if !answer::counts_fit(iid_count, sid_count) {
         return Err(ReadError::File(FileError::CountTooLarge));
     }
     if !blocks::product_is(m, sid_index.len(), val_len) {

@@ -1,5 +1,5 @@
 use Rattle.std.proofs.Common.{arith, length}
-use Rattle.bed_read.proofs.PartLaws.{order_inside}
+use Rattle.calls.proofs.ListLaws.{along_inside}
 use Rattle.bed_read.proofs.TileLaws.{tile_none, tile_all, lines_end}
 use Rattle.bed_read.proofs.MatrixLaws.{block_read}
 use Rattle.bed_read.proofs.read.read_blocks.Goals as goal
@@ -11,7 +11,7 @@ pub read_in_order-requires : goal.read_in_order-requires
 read_in_order-requires g c =
     let m = c.args.lines.now in
     let e = lines_end c.loop-o.o 1 _ (length m.inner.now) (length c.loop-o.val) (omega (arith, c.loop-o-test.true)) c.loop-o.invariant.rows.long in
-    (order_inside _ _ _ _ _ m.ready c.requires.0 _ _ c.loop-o-test.true c.outer_part-start.ensures.byte_is, omega arith)
+    (along_inside _ _ _ _ _ m.ready c.requires.0 _ _ c.loop-o-test.true c.outer_part-start.ensures.byte_is, omega arith)
 
 pub loop-o-preserved : goal.loop-o-preserved
 loop-o-preserved g c =

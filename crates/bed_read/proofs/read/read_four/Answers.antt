@@ -1,6 +1,6 @@
 use Rattle.std.proofs.Common.{◌-◌, ◌*◌, arith}
 use Rattle.bed_read.proofs.DrawLaws.{drawn_pairs, drawn_to}
-use Rattle.bed_read.proofs.PartLaws.{inside_less}
+use Rattle.calls.proofs.ListLaws.{inside_less}
 use Rattle.bed_read.proofs.read.read_four.Goals as goal
 
 pub read_pairs-requires : goal.read_pairs-requires

@@ -1,5 +1,5 @@
 use Rattle.std.proofs.Common.{arith, length, ◌*◌, ◌+◌, ◌≤◌}
-use Rattle.bed_read.proofs.PartLaws.{tile_inside}
+use Rattle.calls.proofs.ListLaws.{parts_inside}
 use Rattle.bed_read.proofs.TileLaws.{tile_none, tile_all, tile_to, lines_end}
 use Rattle.bed_read.proofs.MatrixLaws.{line_read, four_inside, four_read}
 use Rattle.bed_read.proofs.read.read_tile.Goals as goal
@@ -34,7 +34,7 @@ read_line-requires g c =
     let m = c.args.lines.now in
     let p = c.outer_part-part.ensures in
     let e = lines_end c.loop-o.o 1 _ (length m.inner.now) _ (omega (arith, c.loop-o-test.true)) c.loop-o.invariant.rows.long in
-    (tile_inside _ _ _ _ _ m.ready _ _ _ c.requires.0 c.requires.2 _ _ _ c.loop-o-test.true p.byte_is p.place_is, c.requires.3, omega (arith, e, c.requires.1, c.requires.2))
+    (parts_inside _ _ _ _ _ m.ready _ _ _ c.requires.0 c.requires.2 _ _ _ c.loop-o-test.true p.byte_is p.place_is, c.requires.3, omega (arith, e, c.requires.1, c.requires.2))
 
 pub loop-o-preserved : goal.loop-o-preserved
 loop-o-preserved g c =
