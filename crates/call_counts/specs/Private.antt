@@ -5,6 +5,7 @@ use Rattle.entries.specs.Entry.{means}
 use Rattle.codes.specs.Code.{copies, code_at}
 use Rattle.calls.specs.declared.Part.{Part}
 use Rattle.calls.specs.declared.parts.Parts.{Parts}
+use Rattle.call_counts.specs.declared.bits.BitCounts.{BitCounts}
 use Rattle.call_counts.specs.Counts.{same_copies, code_named, counted}
 
 -- ---- a number of each code, added up
@@ -73,15 +74,24 @@ both_bits (suc (suc zero)) = 0
 both_bits (suc (suc (suc n))) = 1
 
 -- how many of n items of the block that starts at a byte have each
-pub record BitsCounted (file : List ℕ) (start n low high both : ℕ) : Type 0 where
-  pub low_is : low ≡ total_items low_bit file start n
-  pub high_is : high ≡ total_items high_bit file start n
-  pub both_is : both ≡ total_items both_bits file start n
+pub record BitsCounted (file : List ℕ) (start n : ℕ) (bits : BitCounts) : Type 0 where
+  pub low_is : bits.low ≡ total_items low_bit file start n
+  pub high_is : bits.high ≡ total_items high_bit file start n
+  pub both_is : bits.both ≡ total_items both_bits file start n
+
+-- of n codes those with both bits have each, and the others at most one
+abbrev pub Ordered : ℕ → BitCounts → Type 0
+Ordered n bits = (bits.both ≤ bits.low) × (bits.both ≤ bits.high) × (bits.low + bits.high ≤ n + bits.both)
+
+-- the bits of two lists of codes
+abbrev pub bits_sum : BitCounts → BitCounts → BitCounts
+bits_sum a b = record { low = a.low + b.low; high = a.high + b.high; both = a.both + b.both }
 
 -- t is the tally of n codes of which so many have each: code 1 has the low bit alone, code 2 the high one alone, code 3 both, code 0 neither
-abbrev pub TallyOf : ℕ → ℕ → ℕ → ℕ → ℕ → Type 0
-TallyOf n low high both t =
-    t + weight 0 * (low + high) + (weight 1 + weight 2) * both ≡ weight 0 * (n + both) + weight 1 * low + weight 2 * high + weight 3 * both
+abbrev pub TallyOf : ℕ → BitCounts → ℕ → Type 0
+TallyOf n bits t =
+    t + weight 0 * (bits.low + bits.high) + (weight 1 + weight 2) * bits.both
+    ≡ weight 0 * (n + bits.both) + weight 1 * bits.low + weight 2 * bits.high + weight 3 * bits.both
 
 -- count j of a tally
 unfoldable pub in_tally : ℕ → ℕ → ℕ
