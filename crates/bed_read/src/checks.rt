@@ -24,6 +24,7 @@ impl From<FileError> for ReadError {
 }
 
 // The lists' checks by themselves: 18, then 5 for the animal list, then 6 for the marker list.
+#[tactic(auto, using(crate::proofs::ReadLaws::lists_too_large, crate::proofs::ReadLaws::lists_5, crate::proofs::ReadLaws::lists_6, crate::proofs::ReadLaws::lists_good))]
 pub fn check_lists(
     iid_count: usize,
     sid_count: usize,
@@ -46,6 +47,7 @@ pub fn check_lists(
 
 // All checks of reading, and of counting: 18, 15 for a buffer that has not m values for each marker named, the file's own, 5 and 6.
 // The counts and the lists stay parameters: they are those of the original and of C, and in a struct each clause would name its fields.
+#[tactic(auto, using(crate::proofs::ReadLaws::file_told, crate::proofs::ReadLaws::read_too_large, crate::proofs::ReadLaws::read_mismatch, crate::proofs::ReadLaws::read_not_accepted, crate::proofs::ReadLaws::read_lists))]
 pub fn check_read(
     file: &[u8],
     iid_count: usize,

@@ -4,9 +4,6 @@ use Rattle.bed_read.proofs.TileLaws.{tile_none, tile_all, lines_end}
 use Rattle.bed_read.proofs.MatrixLaws.{block_read}
 use Rattle.bed_read.proofs.read.read_blocks.Goals as goal
 
-pub loop-o-init : goal.loop-o-init
-loop-o-init g c = tile_none _ _ _ _ _ _ _ c.requires.1
-
 pub read_in_order-requires : goal.read_in_order-requires
 read_in_order-requires g c =
     let m = c.args.lines.now in
@@ -16,6 +13,3 @@ read_in_order-requires g c =
 pub loop-o-preserved : goal.loop-o-preserved
 loop-o-preserved g c =
     block_read _ _ _ _ _ _ _ c.args.lines.now.ready _ _ c.loop-o.o c.requires.0 _ c.outer_part-start.ensures.byte_is c.loop-o-test.true c.read_in_order.ensures c.loop-o.invariant
-
-pub returns : goal.returns
-returns g c = tile_all _ _ _ _ _ _ _ _ c.loop-o.invariant c.loop-o-test.false (omega arith)

@@ -3,14 +3,8 @@ use Rattle.calls.proofs.ListLaws.{inner_entries}
 use Rattle.bed_read.proofs.MatrixLaws.{read_none, read_all}
 use Rattle.bed_read.proofs.read.read_matrix.Goals as goal
 
-pub read_blocks-requires : goal.read_blocks-requires
-read_blocks-requires g c = (search rules, read_none _ _ _ _ _ _ _ _ c.requires)
-
 pub returns-then-is_along_block : goal.returns-then-is_along_block
 returns-then-is_along_block g c = read_all _ _ _ _ _ _ _ _ _ c.read_blocks.ensures (omega arith)
-
-pub loop-from-init : goal.loop-from-init
-loop-from-init g c = read_none _ _ _ _ _ _ _ _ c.requires
 
 pub returns-else-is_along_block : goal.returns-else-is_along_block
 returns-else-is_along_block g c = read_all _ _ _ _ _ _ _ _ _ c.loop-from.invariant c.loop-from-test.false
