@@ -71,6 +71,7 @@ fn read_line<T: BedVal>(
 }
 
 // Entries k and k + 1 of one block, at neighbouring places.
+#[tactic(auto, using(crate::proofs::DrawLaws::two_set, crate::proofs::PartLaws::same_place))]
 fn read_pair<T: BedVal>(
     file: &[u8],
     start: usize,
@@ -97,6 +98,7 @@ fn read_pair<T: BedVal>(
 }
 
 // The same of four blocks, whose lines are `inner` places apart.
+#[tactic(auto, using(crate::proofs::DrawLaws::pairs_set))]
 fn read_pairs<T: BedVal>(
     file: &[u8],
     starts: &[usize; 4],

@@ -75,6 +75,7 @@ impl<'a, T: BedVal> Clone for Values<'a, T> {
 
 impl<'a, T: BedVal> Values<'a, T> {
     // The value at a place of a byte of the file.
+    #[tactic(auto, unfolding(crate::specs::Private::place_value))]
     pub(crate) fn call_value(self, file: &[u8], byte: usize, place: usize) -> T
         requires { (byte < length file.now) × (place < 4) }
         ensures { result ≡ place_value (value_in self.entry.table.now T.width.zero) file.now byte place }
@@ -84,6 +85,7 @@ impl<'a, T: BedVal> Values<'a, T> {
 }
 
 // The value at a place of a byte. A function of its own: of a slice in a struct the check does not know that its offsets fit a word.
+#[tactic(auto, using(crate::proofs::TableLaws::by_code_long, crate::proofs::TableLaws::value_there))]
 fn value_at<T: BedVal>(table: &[T], byte: u8, place: usize) -> T
     requires { (place < 4) × ByCode table.now T.width.zero }
     ensures { result ≡ value_in table.now T.width.zero (code_at byte place) }
