@@ -1,10 +1,11 @@
 -- Laws of entries, over plain numbers and lists.
-use Rattle.std.proofs.Common.{◌≡◌, ℕ, zero, suc, ◌+◌, ◌-◌, ◌%◌, ◌^◌, ◌<◌, ◌≤◌, Bool, true, false, cond, ltb, List, [], ◌∷◌, length, get_or, drop, ℤ, pos, negsuc, sym, refl, ap, ◌∙◌, subst, add-one, arith, drop_of_length-le, drop-cons, w64, SFits, to_z, of_z, ltb-false, ltb-true, le-ltb, lt-ltb, nat_abs}
+use Rattle.std.proofs.Common.{◌≡◌, eqb, ne_eqb, eq-eqb, eqb-true, ◌&&◌, ℕ, zero, suc, ◌+◌, ◌-◌, ◌%◌, ◌^◌, ◌<◌, ◌≤◌, Bool, true, false, cond, ltb, List, [], ◌∷◌, length, get_or, drop, ℤ, pos, negsuc, sym, refl, ap, ◌∙◌, subst, add-one, arith, drop_of_length-le, drop-cons, w64, SFits, to_z, of_z, ltb-false, ltb-true, le-ltb, lt-ltb, nat_abs}
 use Rattle.std.specs.Prelude.{Option, Some, None}
 use lib.Signed.{mag, lt_z}
 use mir.ValLaws.{to_z-of_z}
 use Rattle.answer.specs.Answer.{done, refused, check_entry}
-use Rattle.entries.specs.Entry.{is_good, means, first_bad, entry_answer}
+use Rattle.answer.proofs.Tests.{both_true}
+use Rattle.entries.specs.Entry.{is_good, means, first_bad, in_order_from, in_order, entry_answer}
 
 -- ---- one entry
 -- an entry z ≥ 0 means itself
@@ -134,3 +135,33 @@ pub none_bad : (count : ℕ) (list : List ℤ) → ((i : ℕ) → i < length lis
 unfolding first_bad
 none_bad count [] g = refl
 none_bad count (e ∷ es) g = rw (g 0 (omega arith)) (none_bad count es (λ i h. g (suc i) (omega arith)))
+
+-- ---- a list in order: what is left to look at says what the whole list says
+module _ (count : ℕ) (list : List ℤ) (k n : ℕ) (h : k < length list) (f : mag (get_or list k (pos 0)) < 2 ^ 63)
+    (e : n ≡ means count (to_z w64 (of_z w64 (get_or list k (pos 0)))))
+    (sofar : in_order_from count k (drop k list) ≡ in_order count list) where
+  tests : (b : Bool) → eqb n k ≡ b → b && in_order_from count (suc k) (drop (suc k) list) ≡ in_order count list
+  unfolding in_order_from
+  tests b t =
+      ap (λ (x : Bool). x && in_order_from count (suc k) (drop (suc k) list)) (sym t ∙ ap (λ (m : ℕ). eqb m k) (means_back count (get_or list k (pos 0)) (record { sfits = f }) n e))
+      ∙ sym (ap (in_order_from count k) (drop-cons list k (pos 0) h)) ∙ sofar
+
+  pub not_in_order : (n ≡ k → ⊥) → false ≡ in_order count list
+  not_in_order d = tests false (ne_eqb n k d)
+
+  pub in_order_so_far : n ≡ k → in_order_from count (k + 1) (drop (k + 1) list) ≡ in_order count list
+  in_order_so_far d = rw add-one (tests true (eq-eqb n k d))
+
+pub all_in_order : (count : ℕ) (list : List ℤ) (k : ℕ) → length list ≤ k → in_order_from count k (drop k list) ≡ in_order count list → true ≡ in_order count list
+unfolding in_order_from
+all_in_order count list k h sofar = sym (ap (in_order_from count k) (drop_of_length-le list h)) ∙ sofar
+
+-- entry i of a list in order from k on means k + i
+from_there : (count k : ℕ) (list : List ℤ) (i : ℕ) → in_order_from count k list ≡ true → i < length list → means count (get_or list i (pos 0)) ≡ k + i
+unfolding in_order_from
+from_there count k [] i t h = absurd (omega arith)
+from_there count k (e ∷ es) zero t h = eqb-true _ _ (both_true _ _ t).0 ∙ omega arith
+from_there count k (e ∷ es) (suc i) t h = from_there count (suc k) es i (both_true _ _ t).1 (omega arith) ∙ omega arith
+
+pub order_means : (count : ℕ) (list : List ℤ) (i : ℕ) → in_order count list ≡ true → i < length list → means count (get_or list i (pos 0)) ≡ i
+order_means count list i t h = from_there count 0 list i t h ∙ omega arith

@@ -2,7 +2,7 @@
 #![tactic(auto)]
 
 ghost use Rattle.std.specs.Prelude.{◌≡◌, ℕ, Bool, true, false, List, [], ◌∷◌, ◌++◌, ℤ, nat_lt};
-ghost use Rattle.entries.specs.Entry.{is_good, means, first_bad, entry_answer, span_answer};
+ghost use Rattle.entries.specs.Entry.{is_good, means, first_bad, in_order, entry_answer, span_answer};
 ghost use Rattle.entries.specs.Says.{item_says, span_says};
 ghost use Rattle.entries.specs.Private.{Reaches};
 
@@ -139,6 +139,19 @@ pub fn first_bad(count: usize, list: &[i64]) -> Option<i64>
         }
     }
     None
+}
+
+// Whether the entries of a list mean 0, 1, 2 and so on. Not inlined, so that the loop has the registers for itself.
+#[inline(never)]
+pub fn is_in_order(count: usize, list: &[i64]) -> bool
+    ensures { result ≡ in_order count list.now }
+{
+    for (k, &entry) in list.iter().enumerate() {
+        if number(count, entry) != k {
+            return false;
+        }
+    }
+    true
 }
 
 // What `byte_span` refuses: 18, or 5.
