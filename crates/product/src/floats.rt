@@ -4,7 +4,7 @@ ghost use Rattle.std.specs.Float.{binary64};
 ghost use Rattle.std.specs.Float.Ieee.{of_bits};
 ghost use Rattle.answer.specs.Lists.{tabulate};
 ghost use Rattle.product.specs.Values.{le_number, float_at};
-ghost use Rattle.product.specs.Private.{RunsIn, NoNan, RunsNoNan};
+ghost use Rattle.product.specs.Private.{NoNan};
 
 // The number of eight bytes from a place on, low byte first.
 pub(crate) fn eight_at(bytes: &[u8], at: usize) -> u64
@@ -52,20 +52,6 @@ pub(crate) fn all_finite(bytes: &[u8], at: usize, n: usize) -> bool
             / 9223372036854775808;
     }
     others == 0
-}
-
-// Whether they are in four runs of n values, the starts step values apart. Bytes, place and step stay arguments, here and where
-// such runs are added: a struct of them would be filled at two places, to be read at these.
-pub(crate) fn four_finite(bytes: &[u8], at: usize, step: usize, n: usize) -> bool
-    requires { RunsIn (length bytes.now) at step n }
-    ensures { result ≡ true → RunsNoNan bytes.now at step n }
-{
-    for t in 0..4 {
-        if !all_finite(bytes, at + 8 * (t * step), n) {
-            return false;
-        }
-    }
-    true
 }
 
 // Fills dst with neighbouring values, none of them a NaN.

@@ -34,28 +34,28 @@ overflow_mul-lines c = omega (arith, c.requires.3 0 0 (omega arith) (omega arith
 pub overflow_add-lines : goal.overflow_add-lines
 overflow_add-lines c = omega (arith, c.requires.3 0 0 (omega arith) (omega arith))
 
-pub loop-r-init : goal.loop-r-init
-loop-r-init c = (omega arith, refl, refl, block_none binary64 _ _ _ _ _ _ _ _ (λ x y i. omega arith))
+pub loop-top-init : goal.loop-top-init
+loop-top-init c = (omega arith, refl, refl, block_none binary64 _ _ _ _ _ _ _ _ (λ x y i. omega arith))
 
 -- the rows before the bottom have all their terms after a turn
 turn : (c : After-add_terms) →
     let a = c.args in
-    c.add_terms.new.piece ≡ block_more binary64 a.width (value_of_line a.bytes.now (a.offset + 8 * a.first) a.line a.step) a.count 0 (c.loop-r.r + c.min.result) 0 a.width c.fill.new.self
+    c.add_terms.new.piece ≡ block_more binary64 a.width (value_of_line a.bytes.now (a.offset + 8 * a.first) a.line a.step) a.count 0 (c.loop-top.top + c.min.result) 0 a.width c.fill.new.self
 turn c =
     let a = c.args in
-    let w = c.loop-r in
-    rows_more_law binary64 a.width (value_of_line a.bytes.now (a.offset + 8 * a.first) a.line a.step) a.count 0 w.r (w.r + c.min.result) c.fill.new.self w.piece c.add_terms.new.piece (omega arith) (omega arith) (omega arith) w.invariant.3 c.add_terms.ensures
+    let w = c.loop-top in
+    rows_more_law binary64 a.width (value_of_line a.bytes.now (a.offset + 8 * a.first) a.line a.step) a.count 0 w.top (w.top + c.min.result) c.fill.new.self w.piece c.add_terms.new.piece (omega arith) (omega arith) (omega arith) w.invariant.3 c.add_terms.ensures
 
-pub loop-r-preserved : goal.loop-r-preserved
-loop-r-preserved c =
+pub loop-top-preserved : goal.loop-top-preserved
+loop-top-preserved c =
     let a = c.args in
-    let w = c.loop-r in
+    let w = c.loop-top in
     let q = c.add_terms in (
       omega arith,
       q.auto.x ∙ w.invariant.1,
       q.auto.piece ∙ w.invariant.2,
-      turn (goal.at.loop-r-preserved c).After-add_terms
-          ∙ ap (λ (z : ℕ). block_more binary64 a.width (value_of_line a.bytes.now (a.offset + 8 * a.first) a.line a.step) a.count 0 z 0 a.width c.fill.new.self) (let u : w.r + c.min.result ≡ w.r + c.rows_together-rows.result = omega arith in u),
+      turn (goal.at.loop-top-preserved c).After-add_terms
+          ∙ ap (λ (z : ℕ). block_more binary64 a.width (value_of_line a.bytes.now (a.offset + 8 * a.first) a.line a.step) a.count 0 z 0 a.width c.fill.new.self) (let u : w.top + c.min.result ≡ w.top + a.product.rows_together = omega arith in u),
     )
 
 -- all rows have all their terms
@@ -71,11 +71,11 @@ finished c out some e =
 pub returns-else-count-eq0 : goal.returns-else-count-eq0
 returns-else-count-eq0 c =
     let a = c.args in
-    finished (goal.at.returns-else-count-eq0 c).After-fill c.loop-r.piece c.if-width-eq0.false
-    (c.loop-r.invariant.3 ∙ ap (λ (z : ℕ). block_more binary64 a.width (value_of_line a.bytes.now (a.offset + 8 * a.first) a.line a.step) a.count 0 z 0 a.width c.fill.new.self) (let u : c.loop-r.r ≡ a.height = omega arith in u))
+    finished (goal.at.returns-else-count-eq0 c).After-fill c.loop-top.piece c.if-width-eq0.false
+    (c.loop-top.invariant.3 ∙ ap (λ (z : ℕ). block_more binary64 a.width (value_of_line a.bytes.now (a.offset + 8 * a.first) a.line a.step) a.count 0 z 0 a.width c.fill.new.self) (let u : c.loop-top.top ≡ a.height = omega arith in u))
 
 pub returns-else-count-eq0-2 : goal.returns-else-count-eq0-2
 returns-else-count-eq0-2 c =
     let a = c.args in
     finished (goal.at.returns-else-count-eq0-2 c).After-fill c.add_terms.new.piece c.if-width-eq0.false
-    (turn (goal.at.returns-else-count-eq0-2 c).After-add_terms ∙ ap (λ (z : ℕ). block_more binary64 a.width (value_of_line a.bytes.now (a.offset + 8 * a.first) a.line a.step) a.count 0 z 0 a.width c.fill.new.self) (let u : c.loop-r.r + c.min.result ≡ a.height = omega arith in u))
+    (turn (goal.at.returns-else-count-eq0-2 c).After-add_terms ∙ ap (λ (z : ℕ). block_more binary64 a.width (value_of_line a.bytes.now (a.offset + 8 * a.first) a.line a.step) a.count 0 z 0 a.width c.fill.new.self) (let u : c.loop-top.top + c.min.result ≡ a.height = omega arith in u))
