@@ -38,17 +38,17 @@ pub(crate) struct Lines<'a> {
 // Rows top to bottom - 1 of a piece, and the lines that it is formed from.
 #[derive(Clone, Copy)]
 pub(crate) struct Rows<'a> {
-    pub(crate) lines: Lines<'a>,
+    pub(crate) lines: &'a Lines<'a>,
     pub(crate) top: usize,
     pub(crate) bottom: usize,
-    ghost within: { (top < bottom) × (bottom ≤ lines.lines) },
+    ghost within: { (top < bottom) × (bottom ≤ lines.now.lines) },
 }
 
 // A tile of lines: value i of line j is x[i × g + j].
 #[derive(Clone, Copy)]
 pub(crate) struct Tile<'a> {
-    pub(crate) x: &'a [f64],
     pub(crate) g: usize,
+    pub(crate) x: &'a [f64],
 }
 
 // A block of rows, and a tile that has the first `loaded` values of each of their lines.
@@ -57,6 +57,6 @@ pub(crate) struct Block<'a> {
     pub(crate) rows: Rows<'a>,
     pub(crate) tile: Tile<'a>,
     pub(crate) loaded: usize,
-    ghost ready: { BlockReady rows.lines.bytes.now rows.lines.base rows.lines.line rows.lines.step rows.lines.terms rows.top rows.bottom
+    ghost ready: { BlockReady rows.lines.now.bytes.now rows.lines.now.base rows.lines.now.line rows.lines.now.step rows.lines.now.terms rows.top rows.bottom
         loaded tile.g tile.x.now },
 }

@@ -108,8 +108,8 @@ impl<'a> Runs<'a> {
 pub(crate) fn add_products(block: &Block, c: usize, sums: &mut [f64])
     requires { (c < block.now.rows.bottom) × (block.now.rows.top + length sums.old ≡ block.now.rows.bottom) }
     ensures { sums.new
-        ≡ lines_more binary64 (line_value block.now.rows.lines)
-        block.now.rows.lines.terms block.now.rows.top c sums.old }
+        ≡ lines_more binary64 (line_value block.now.rows.lines.now)
+        block.now.rows.lines.now.terms block.now.rows.top c sums.old }
 {
     let lines = block.rows.lines;
     let line = lines.along(c);

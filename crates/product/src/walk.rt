@@ -45,8 +45,8 @@ impl<'a> Rows<'a> {
     // How many terms go into a tile: none where the products can be formed straight from the bytes. These are then near,
     // since they were just looked at.
     fn tile_terms(&self) -> usize
-        ensures { (result ≤ self.now.lines.terms)
-            × LoadedOrStraight self.now.lines.bytes.now self.now.lines.base self.now.lines.line self.now.lines.step self.now.lines.terms
+        ensures { (result ≤ self.now.lines.now.terms)
+            × LoadedOrStraight self.now.lines.now.bytes.now self.now.lines.now.base self.now.lines.now.line self.now.lines.now.step self.now.lines.now.terms
             result self.now.top self.now.bottom }
     {
         if !(self.lines.are_neighbours() && self.lines.terms == 4) {
@@ -69,8 +69,8 @@ fn add_block(block: &Block, width: usize, room: &mut [f64], piece: &mut [f64])
     requires { (0 < width) × (block.now.rows.top + length room.old ≡ block.now.rows.bottom)
         × (block.now.rows.bottom * width ≤ length piece.old) }
     ensures { piece.new
-        ≡ rows_more binary64 width (line_value block.now.rows.lines)
-        block.now.rows.lines.terms block.now.rows.top block.now.rows.bottom piece.old }
+        ≡ rows_more binary64 width (line_value block.now.rows.lines.now)
+        block.now.rows.lines.now.terms block.now.rows.top block.now.rows.bottom piece.old }
 {
     let top = block.rows.top;
     for c in 0..width.min(block.rows.bottom) {
@@ -84,11 +84,11 @@ fn add_block(block: &Block, width: usize, room: &mut [f64], piece: &mut [f64])
 
 // Adds the products of all terms to the sums of some rows, in blocks of g rows.
 fn add_blocks(rows: &Rows, g: usize, width: usize, x: &mut [f64], piece: &mut [f64])
-    requires { (0 < g) × (g ≤ 64) × (rows.now.lines.terms * g + 8 ≤ length x.old) × (0 < width)
+    requires { (0 < g) × (g ≤ 64) × (rows.now.lines.now.terms * g + 8 ≤ length x.old) × (0 < width)
         × (rows.now.bottom * width ≤ length piece.old) }
     ensures { piece.new
-        ≡ rows_more binary64 width (line_value rows.now.lines)
-        rows.now.lines.terms rows.now.top rows.now.bottom piece.old }
+        ≡ rows_more binary64 width (line_value rows.now.lines.now)
+        rows.now.lines.now.terms rows.now.top rows.now.bottom piece.old }
 {
     let lines = rows.lines;
     let mut room = [0.0f64; 64];
@@ -117,14 +117,14 @@ fn add_blocks(rows: &Rows, g: usize, width: usize, x: &mut [f64], piece: &mut [f
 fn add_terms(product: Product, rows: &Rows, width: usize, x: &mut [f64], piece: &mut [f64])
     requires { (1800 ≤ length x.old) × (0 < width) × (rows.now.bottom * width ≤ length piece.old) }
     ensures { piece.new
-        ≡ rows_more binary64 width (line_value rows.now.lines)
-        rows.now.lines.terms rows.now.top rows.now.bottom piece.old }
+        ≡ rows_more binary64 width (line_value rows.now.lines.now)
+        rows.now.lines.now.terms rows.now.top rows.now.bottom piece.old }
 {
     let lines = rows.lines;
     let terms = product.pass_terms(width);
     for k in (0..lines.terms).step_by(terms) {
         let part = Rows {
-            lines: lines.part(k, terms.min(lines.terms - k)),
+            lines: &lines.part(k, terms.min(lines.terms - k)),
             top: rows.top,
             bottom: rows.bottom,
         };
@@ -165,7 +165,7 @@ pub(crate) fn lower_piece(
     let mut x = [0.0f64; 1800];
     for top in (0..height).step_by(product.rows_together) {
         let rows = Rows {
-            lines,
+            lines: &lines,
             top,
             bottom: top + product.rows_together.min(height - top),
         };

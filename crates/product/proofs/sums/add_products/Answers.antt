@@ -9,12 +9,12 @@ add_four-requires c =
     let b = c.args.block.now in
     let d = b.ready.else_straight c.if-block-lines.true in
     let e = c.runs.ensures in
-    (omega arith, straight_runs b.rows.lines c.runs.result b.rows.top d.0 e.1 e.2 e.3 _ d.2 (omega arith), omega arith)
+    (omega arith, straight_runs b.rows.lines.now c.runs.result b.rows.top d.0 e.1 e.2 e.3 _ d.2 (omega arith), omega arith)
 
 pub returns-then-block-lines : goal.returns-then-block-lines
 returns-then-block-lines c =
     let b = c.args.block.now in
-    let l = b.rows.lines in
+    let l = b.rows.lines.now in
     let d = b.ready.else_straight c.if-block-lines.true in
     let e = c.runs.ensures in
     from_bytes l c.along-line.result b.rows.top c.args.c _ _ c.along-line.ensures c.runs.result d.1 (straight_term l c.runs.result b.rows.top d.0 e.1 e.2 e.3) c.add_four.ensures
@@ -22,9 +22,9 @@ returns-then-block-lines c =
 pub returns-then-sums-le8 : goal.returns-then-sums-le8
 returns-then-sums-le8 c =
     let b = c.args.block.now in
-    from_tile b.rows.lines c.along-line.result b.rows.top c.args.c _ _ c.along-line.ensures b.tile b.loaded _ c.if-block-lines.false (omega arith) b.ready.tile_has c.add_eight.ensures
+    from_tile b.rows.lines.now c.along-line.result b.rows.top c.args.c _ _ c.along-line.ensures b.tile b.loaded _ c.if-block-lines.false (omega arith) b.ready.tile_has c.add_eight.ensures
 
 pub returns-else-sums-le8 : goal.returns-else-sums-le8
 returns-else-sums-le8 c =
     let b = c.args.block.now in
-    from_tile b.rows.lines c.along-line.result b.rows.top c.args.c _ _ c.along-line.ensures b.tile b.loaded _ c.if-block-lines.false (omega arith) b.ready.tile_has c.add_many.ensures
+    from_tile b.rows.lines.now c.along-line.result b.rows.top c.args.c _ _ c.along-line.ensures b.tile b.loaded _ c.if-block-lines.false (omega arith) b.ready.tile_has c.add_many.ensures

@@ -32,7 +32,7 @@ pub loop-c-preserved : goal.loop-c-preserved
 loop-c-preserved c =
     let a = c.args in
     let b = a.block.now.rows in
-    let l = b.lines in
+    let l = b.lines.now in
     let w = c.loop-c in
     let p = c.put_back in (
       c.add_products.auto.sums ∙ c.take_out.auto.dst ∙ w.invariant.0,

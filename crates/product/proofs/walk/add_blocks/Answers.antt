@@ -11,11 +11,11 @@ use Rattle.product.proofs.walk.add_blocks.Goals.{After-add_block}
 -- the rows before top + m have their products after a block
 turn : (c : After-add_block) →
     let a = c.args in
-    let l = a.rows.now.lines in
+    let l = a.rows.now.lines.now in
     c.add_block.new.piece ≡ block_more binary64 a.width (line_value l) l.terms a.rows.now.top (c.loop-top.top + c.min-m.result) 0 a.width a.piece.now
 turn c =
     let a = c.args in
-    let l = a.rows.now.lines in
+    let l = a.rows.now.lines.now in
     let w = c.loop-top in
     rows_more_law binary64 a.width (line_value l) l.terms a.rows.now.top w.top (w.top + c.min-m.result) a.piece.now w.piece c.add_block.new.piece c.requires.3 (omega arith) (omega arith) w.invariant.4 c.add_block.ensures
 

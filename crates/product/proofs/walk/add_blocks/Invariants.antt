@@ -9,7 +9,7 @@ use Prim.Native.Nat.{◌-◌}
 use Rattle.product.proofs.walk.add_blocks.Given as goal
 
 abbrev pub invariant-loop-top : goal.invariant-loop-top
-invariant-loop-top l = (l.rows.top ≤ l.top) × (l.top ≤ l.rows.bottom) × (length l.x ≡ length l.initial.x) × (length l.piece ≡ length l.initial.piece) × (l.piece ≡ block_more binary64 l.width (line_value l.rows.lines) l.rows.lines.terms l.rows.top l.top 0 l.width l.initial.piece)
+invariant-loop-top l = (l.rows.top ≤ l.top) × (l.top ≤ l.rows.bottom) × (length l.x ≡ length l.initial.x) × (length l.piece ≡ length l.initial.piece) × (l.piece ≡ block_more binary64 l.width (line_value l.rows.lines.now) l.rows.lines.now.terms l.rows.top l.top 0 l.width l.initial.piece)
 
 abbrev pub decreases-loop-top : goal.decreases-loop-top
 decreases-loop-top l = l.rows.bottom - l.top

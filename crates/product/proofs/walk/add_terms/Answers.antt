@@ -12,11 +12,11 @@ use Rattle.product.proofs.walk.add_terms.Goals.{After-add_blocks}
 -- the first k + n terms are in after a pass
 turn : (c : After-add_blocks) →
     let a = c.args in
-    let l = a.rows.now.lines in
+    let l = a.rows.now.lines.now in
     c.add_blocks.new.piece ≡ block_more binary64 a.width (line_value l) (c.loop-k.k + c.min.result) a.rows.now.top a.rows.now.bottom 0 a.width a.piece.now
 turn c =
     let a = c.args in
-    let l = a.rows.now.lines in
+    let l = a.rows.now.lines.now in
     let w = c.loop-k in
     let q = c.part.result in
     let e = c.part.ensures in
@@ -30,7 +30,7 @@ loop-k-init c = (omega arith, refl, refl, block_zero binary64 _ _ _ refl _ _ _ _
 pub loop-k-preserved : goal.loop-k-preserved
 loop-k-preserved c =
     let a = c.args in
-    let l = a.rows.now.lines in
+    let l = a.rows.now.lines.now in
     let w = c.loop-k in (
       omega arith,
       c.add_blocks.auto.x ∙ w.invariant.1,
@@ -42,6 +42,6 @@ loop-k-preserved c =
 pub returns-2 : goal.returns-2
 returns-2 c =
     let a = c.args in
-    let l = a.rows.now.lines in
+    let l = a.rows.now.lines.now in
     turn (goal.at.returns-2 c).After-add_blocks
     ∙ ap (λ (z : ℕ). block_more binary64 a.width (line_value l) z a.rows.now.top a.rows.now.bottom 0 a.width a.piece.now) (let u : c.loop-k.k + c.min.result ≡ l.terms = omega arith in u)
