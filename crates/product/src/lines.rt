@@ -17,6 +17,7 @@ impl<'a> Spaced<'a> {
     }
 
     // Fills dst with them, one by one.
+    #[tactic(auto, using(crate::proofs::InPlaceLaws::fills))]
     fn load_each(&self, dst: &mut [f64])
         requires { length dst.old ≡ self.now.count }
         ensures { dst.new ≡ tabulate (length dst.old) (value_at self.now) }
@@ -27,6 +28,7 @@ impl<'a> Spaced<'a> {
     }
 
     // `load_each` of eight values, each by a load of its own, so that the processor fetches each line ahead.
+    #[tactic(auto, using(crate::proofs::InPlaceLaws::eight_filled))]
     fn load_eight(&self, dst: &mut [f64])
         requires { (length dst.old ≡ 8) × (self.now.count ≡ 8) }
         ensures { dst.new ≡ tabulate (length dst.old) (value_at self.now) }

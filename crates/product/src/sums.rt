@@ -1,7 +1,6 @@
 // Products added to sums, upward: from a tile, or straight from the bytes.
-ghost use Rattle.std.specs.Prelude.{◌≡◌, ◌+◌, ◌*◌, ◌^◌, ◌<◌, ◌≤◌, length, take, drop};
+ghost use Rattle.std.specs.Prelude.{◌≡◌, ◌+◌, ◌*◌, ◌<◌, ◌≤◌, length};
 ghost use Rattle.std.specs.Float.{binary64};
-ghost use Rattle.product.specs.Values.{le_number};
 ghost use Rattle.product.specs.Lent.{value_at, run_at, tile_at, line_value};
 ghost use Rattle.product.specs.Private.{RunsNoNan, term_more, row_more, lines_more};
 
@@ -10,6 +9,7 @@ use crate::{column, floats};
 
 impl<'a> Tile<'a> {
     // Adds the products of y and value i of its lines, one to each sum.
+    #[tactic(auto, using(crate::proofs::InPlaceLaws::fills, crate::proofs::RowLaws::term_step))]
     fn add_one(self, i: usize, y: f64, sums: &mut [f64])
         requires { i * self.g + length sums.old ≤ length self.x.now }
         ensures { sums.new ≡ term_more binary64 (λ j. tile_at self.entry j i) y sums.old }
@@ -21,6 +21,7 @@ impl<'a> Tile<'a> {
     }
 
     // Adds the products of values i to i + 3 of its lines and of another line to each sum, upward.
+    #[tactic(auto, using(crate::proofs::InPlaceLaws::fills, crate::proofs::RowLaws::four_step))]
     fn add_four(self, line: &Spaced, i: usize, sums: &mut [f64])
         requires { (i + 4 ≤ line.now.count) × (length sums.old ≤ self.g) × ((i + 4) * self.g ≤ length self.x.now) }
         ensures { sums.new
@@ -41,6 +42,7 @@ impl<'a> Tile<'a> {
     }
 
     // Adds the products of its lines with one line to each sum, upward.
+    #[tactic(auto, using(crate::proofs::RowLaws::row_none, crate::proofs::RowLaws::row_step, crate::proofs::RowLaws::row_add))]
     fn add_many(self, line: &Spaced, sums: &mut [f64])
         requires { (length sums.old ≤ self.g) × (line.now.count * self.g ≤ length self.x.now) }
         ensures { sums.new ≡ row_more binary64 (tile_at self.entry) (value_at line.now) line.now.count sums.old }
@@ -57,6 +59,7 @@ impl<'a> Tile<'a> {
     // The same for up to eight sums, which are at hand for all terms. Spare sums get spare values. Where it was put into its
     // caller the loop took a fifth more time.
     #[inline(never)]
+    #[tactic(auto, using(crate::proofs::RowLaws::row_none, crate::proofs::RowLaws::row_step, crate::proofs::RowLaws::row_back))]
     fn add_eight(self, line: &Spaced, sums: &mut [f64])
         requires { (length sums.old ≤ 8) × (line.now.count * self.g + 8 ≤ length self.x.now) }
         ensures { sums.new ≡ row_more binary64 (tile_at self.entry) (value_at line.now) line.now.count sums.old }
@@ -72,15 +75,17 @@ impl<'a> Tile<'a> {
 }
 
 impl<'a> Runs<'a> {
-    // The bits of value j of run t.
-    fn bits(self, t: usize, j: usize) -> u64
-        requires { (t < 4) × (j < self.count) }
-        ensures { result ≡ le_number (take 8 (drop (self.entry.at + 8 * (t * self.entry.step) + 8 * j) self.entry.bytes.now)) }
+    // Value j of run t, of runs in which none is a NaN.
+    #[tactic(auto, using(crate::proofs::ByteLaws::float_of, crate::proofs::ByteLaws::number_of))]
+    fn value(self, t: usize, j: usize) -> f64
+        requires { (t < 4) × (j < self.count) × RunsNoNan self.bytes.now self.at self.step self.count }
+        ensures { result ≡ run_at self.entry j t }
     {
-        floats::eight_at(self.bytes, self.at + 8 * (t * self.step) + 8 * j)
+        f64::from_bits(floats::eight_at(self.bytes, self.at + 8 * (t * self.step) + 8 * j))
     }
 
     // Adds four products to each sum, upward: of its values, none of them a NaN, with those of a line.
+    #[tactic(auto, using(crate::proofs::InPlaceLaws::fills, crate::proofs::RowLaws::four_step))]
     fn add_four(self, line: &Spaced, sums: &mut [f64])
         requires { (length sums.old ≡ self.count) × RunsNoNan self.bytes.now self.at self.step self.count × (line.now.count ≡ 4) }
         ensures { sums.new ≡ row_more binary64 (run_at self.entry) (value_at line.now) 4 sums.old }
@@ -90,15 +95,11 @@ impl<'a> Runs<'a> {
         let y2 = line.value(2);
         let y3 = line.value(3);
         for j in 0..sums.len() {
-            let b0 = self.bits(0, j);
-            let b1 = self.bits(1, j);
-            let b2 = self.bits(2, j);
-            let b3 = self.bits(3, j);
             sums[j] = sums[j]
-                + f64::from_bits(b0) * y0
-                + f64::from_bits(b1) * y1
-                + f64::from_bits(b2) * y2
-                + f64::from_bits(b3) * y3;
+                + self.value(0, j) * y0
+                + self.value(1, j) * y1
+                + self.value(2, j) * y2
+                + self.value(3, j) * y3;
         }
     }
 }

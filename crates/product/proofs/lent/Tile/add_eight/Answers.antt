@@ -6,11 +6,8 @@ use lib.ListN.{length, drop, replicate}
 use lib.Ieee.{binary64, of_bits}
 use Rattle.product.specs.Private.{row_more}
 use Rattle.product.specs.Lent.{value_at, tile_at}
-use Rattle.product.proofs.RowLaws.{row_none, row_step, row_back}
+use Rattle.product.proofs.RowLaws.{row_step, row_back}
 use Rattle.product.proofs.lent.Tile.add_eight.Goals as goal
-
-pub loop-i-init : goal.loop-i-init
-loop-i-init c = row_none binary64 _ _ _
 
 pub loop-i-preserved : goal.loop-i-preserved
 loop-i-preserved c =

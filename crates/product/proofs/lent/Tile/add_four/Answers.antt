@@ -4,12 +4,8 @@ use native.Mathlib.Omega.{arith}
 use lib.ListN.{get_or}
 use lib.Ieee.{Float, nan, binary64}
 use Rattle.product.specs.Lent.{value_at, tile_at}
-use Rattle.product.proofs.InPlaceLaws.{filled_none, filled_all}
 use Rattle.product.proofs.RowLaws.{four_step}
 use Rattle.product.proofs.lent.Tile.add_four.Goals as goal
-
-pub loop-j-init : goal.loop-j-init
-loop-j-init c = filled_none _ _
 
 pub loop-j-preserved : goal.loop-j-preserved
 loop-j-preserved c =
@@ -21,6 +17,3 @@ loop-j-preserved c =
     four_step binary64 x y a.sums.now w.sums w.j _ _ _ _ c.value-y0.result c.value-y1.result c.value-y2.result c.value-y3.result
     (at (a.i * a.self.g + w.j) _ (omega arith)) (at (a.i * a.self.g + a.self.g + w.j) _ (omega arith)) (at (a.i * a.self.g + a.self.g + a.self.g + w.j) _ (omega arith)) (at (a.i * a.self.g + a.self.g + a.self.g + a.self.g + w.j) _ (omega arith))
     (c.value-y0.ensures ∙ ap (value_at a.line.now) (let u : a.i ≡ a.i + 0 = omega arith in u)) c.value-y1.ensures c.value-y2.ensures c.value-y3.ensures (omega arith) w.invariant
-
-pub returns : goal.returns
-returns c = c.loop-j.invariant ∙ filled_all _ _ _ (omega arith)

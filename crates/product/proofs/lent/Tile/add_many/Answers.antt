@@ -4,11 +4,8 @@ use lib.Ieee.{binary64}
 use native.Mathlib.Omega.{arith}
 use Rattle.product.specs.Private.{row_more}
 use Rattle.product.specs.Lent.{value_at, tile_at}
-use Rattle.product.proofs.RowLaws.{row_none, row_step, row_add}
+use Rattle.product.proofs.RowLaws.{row_step, row_add}
 use Rattle.product.proofs.lent.Tile.add_many.Goals as goal
-
-pub loop-q-init : goal.loop-q-init
-loop-q-init c = row_none binary64 _ _ _
 
 pub loop-q-preserved : goal.loop-q-preserved
 loop-q-preserved c =
