@@ -148,13 +148,14 @@ module _ (f : Format) (w : ℕ) (v : ℕ → ℕ → Float) (n : ℕ) where
       pos
 
   -- some rows more
-  pub rows_more_law : (t r b : ℕ) (old mid new : List Float) → 0 < w → t ≤ r → r ≤ b → mid ≡ block_more f w v n t r 0 w old → new ≡ block_more f w v n r b 0 w mid → new ≡ block_more f w v n t b 0 w old
-  rows_more_law t r b old mid new pos h' h e e' =
+  pub rows_more_law : (t r b b' : ℕ) (old mid new : List Float) → 0 < w → t ≤ r → r ≤ b → b ≡ b' → mid ≡ block_more f w v n t r 0 w old → new ≡ block_more f w v n r b 0 w mid → new ≡ block_more f w v n t b' 0 w old
+  rows_more_law t r b b' old mid new pos h' h q e e' =
       two_blocks t r 0 w r b 0 w t b 0 w old mid new e e' (λ x y i i'. omega arith)
       (λ x y h i. ⊎_elim (λ a. inl (i.0, i.1, a, i.3, i.4)) (λ a. inr (i.0, a, i.2, i.3, i.4)) (below_or x r))
       (λ x y i. (i.0, i.1, omega arith, i.3, i.4))
       (λ x y i. (i.0, omega arith, i.2, i.3, i.4))
       pos
+      ∙ ap (λ (z : ℕ). block_more f w v n t z 0 w old) q
 
   -- a column's sums in m rows, taken out, grown, and put back from the diagonal on
   pub column_block : (r m b c above : ℕ) (old room part new : List Float) → r + m ≡ b → c < w → c < b → above ≡ c - r → b * w ≤ length old → length new ≡ length old
@@ -212,9 +213,9 @@ module _ (f : Format) (w : ℕ) (v : ℕ → ℕ → Float) (n : ℕ) where
       part_size = length_part above (length grown - above) grown (omega (arith, size, some_below r c above hl m pos (omega arith))) ∙ ap (λ (z : ℕ). z - above) size
 
 -- k products more, and then n more by the values from k on
-pub block_terms : (f : Format) (w : ℕ) (v v' : ℕ → ℕ → Float) (k n t b l r : ℕ) (old mid new : List Float) → ((x i : ℕ) → v' x i ≡ v x (k + i))
-    → mid ≡ block_more f w v k t b l r old → new ≡ block_more f w v' n t b l r mid → new ≡ block_more f w v (k + n) t b l r old
-block_terms f w v v' k n t b l r old mid new same e e' =
+pub block_terms : (f : Format) (w : ℕ) (v v' : ℕ → ℕ → Float) (k n m t b l r : ℕ) (old mid new : List Float) → k + n ≡ m → ((x i : ℕ) → v' x i ≡ v x (k + i))
+    → mid ≡ block_more f w v k t b l r old → new ≡ block_more f w v' n t b l r mid → new ≡ block_more f w v m t b l r old
+block_terms f w v v' k n m t b l r old mid new q same e e' =
     is_block_law f w v (k + n) t b l r old new (ap length e' ∙ length_block f w v' n t b l r mid ∙ size)
     (λ p h i.
     block_in f w v' n t b l r mid new e' p (omega (arith, size)) i
@@ -222,6 +223,7 @@ block_terms f w v v' k n t b l r old mid new same e e' =
     ∙ sum_ext f (more f w v k old p) (v' (p / w)) (v' (p % w)) (λ i. v (p / w) (k + i)) (λ i. v (p % w) (k + i)) n (λ i g. same (p / w) i) (λ i g. same (p % w) i)
     ∙ sum_add f (get_or old p nan) (v (p / w)) (v (p % w)) k n)
     (λ p h i. ⊎_elim (λ a. absurd (i a)) (λ a. block_out f w v' n t b l r mid new e' p (omega (arith, size)) a.1 ∙ block_out f w v k t b l r old mid e p h a.1) (inside_or t b l r (p / w) (p % w)))
+    ∙ ap (λ (z : ℕ). block_more f w v z t b l r old) q
   where
     size : length mid ≡ length old
     size = ap length e ∙ length_block f w v k t b l r old

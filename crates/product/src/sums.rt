@@ -106,6 +106,7 @@ impl<'a> Runs<'a> {
 
 // Adds the products of a block's lines with line c to their sums: from the tile if it has them, else straight from the
 // bytes.
+#[tactic(auto, using(crate::proofs::StraightLaws::straight_runs))]
 pub(crate) fn add_products(block: &Block, c: usize, sums: &mut [f64])
     requires { (c < block.now.rows.bottom) × (block.now.rows.top + length sums.old ≡ block.now.rows.bottom) }
     ensures { sums.new

@@ -65,6 +65,7 @@ impl<'a> Rows<'a> {
 // list behind two references.
 
 // Adds the products of a block's terms to the sums of its rows. The room is for the sums of one column.
+#[tactic(auto, using(crate::proofs::BlockLaws::block_none, crate::proofs::BlockLaws::columns_all))]
 fn add_block(block: &Block, width: usize, room: &mut [f64], piece: &mut [f64])
     requires { (0 < width) × (block.now.rows.top + length room.old ≡ block.now.rows.bottom)
         × (block.now.rows.bottom * width ≤ length piece.old) }
@@ -83,6 +84,7 @@ fn add_block(block: &Block, width: usize, room: &mut [f64], piece: &mut [f64])
 }
 
 // Adds the products of all terms to the sums of some rows, in blocks of g rows.
+#[tactic(auto, using(crate::proofs::BlockLaws::block_none))]
 fn add_blocks(rows: &Rows, g: usize, width: usize, x: &mut [f64], piece: &mut [f64])
     requires { (0 < g) × (g ≤ 64) × (rows.now.lines.now.terms * g + 8 ≤ length x.old) × (0 < width)
         × (rows.now.bottom * width ≤ length piece.old) }
@@ -114,6 +116,7 @@ fn add_blocks(rows: &Rows, g: usize, width: usize, x: &mut [f64], piece: &mut [f
 }
 
 // Adds the products of all terms to the sums of some rows, in passes.
+#[tactic(auto, using(crate::proofs::BlockLaws::block_zero))]
 fn add_terms(product: Product, rows: &Rows, width: usize, x: &mut [f64], piece: &mut [f64])
     requires { (1800 ≤ length x.old) × (0 < width) × (rows.now.bottom * width ≤ length piece.old) }
     ensures { piece.new
@@ -134,6 +137,7 @@ fn add_terms(product: Product, rows: &Rows, width: usize, x: &mut [f64], piece: 
 
 // Forms the sums on and below the diagonal, and +0 above it. Its lines are made here and not by the callers, since without
 // terms their base may pass 64 bits.
+#[tactic(auto, using(crate::proofs::BlockLaws::block_none))]
 pub(crate) fn lower_piece(
     product: Product,
     bytes: &[u8],
@@ -174,6 +178,7 @@ pub(crate) fn lower_piece(
 }
 
 // Copies each entry below the diagonal to its mirror place.
+#[tactic(auto, using(crate::proofs::MirrorLaws::mirrored_skip))]
 pub(crate) fn mirror(width: usize, piece: &mut [f64])
     requires { (0 < width) × (width * width ≤ length piece.old) }
     ensures { piece.new ≡ mirrored_piece width piece.old }

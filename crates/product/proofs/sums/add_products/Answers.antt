@@ -1,15 +1,8 @@
 -- `add_products`: from the tile, or straight.
 use native.Mathlib.Omega.{arith}
-use Rattle.product.proofs.StraightLaws.{straight_term, straight_runs}
+use Rattle.product.proofs.StraightLaws.{straight_term}
 use Rattle.product.proofs.LineLaws.{from_tile, from_bytes}
 use Rattle.product.proofs.sums.add_products.Goals as goal
-
-pub add_four-requires : goal.add_four-requires
-add_four-requires c =
-    let b = c.args.block.now in
-    let d = b.ready.else_straight c.if-block-lines.true in
-    let e = c.runs.ensures in
-    (omega arith, straight_runs b.rows.lines.now c.runs.result b.rows.top d.0 e.1 e.2 e.3 _ d.2 (omega arith), omega arith)
 
 pub returns-then-block-lines : goal.returns-then-block-lines
 returns-then-block-lines c =

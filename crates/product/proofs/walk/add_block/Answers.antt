@@ -1,4 +1,4 @@
-use mathlib.Core.Path.{◌≡◌, refl, ◌∙◌}
+use mathlib.Core.Path.{◌≡◌, ◌∙◌}
 use Prim.Native.Nat.{◌+◌, ◌-◌}
 use native.Mathlib.Omega.{arith}
 use lib.ListN.{length, take, drop}
@@ -6,11 +6,8 @@ use lib.Ieee.{binary64}
 use Rattle.product.specs.Lent.{line_value}
 use Rattle.product.proofs.GridLaws.{row_in}
 use Rattle.product.proofs.PartLaws.{length_part}
-use Rattle.product.proofs.BlockLaws.{some_below, below_places, block_none, columns_all, column_turn}
+use Rattle.product.proofs.BlockLaws.{some_below, below_places, column_turn}
 use Rattle.product.proofs.walk.add_block.Goals as goal
-
-pub loop-c-init : goal.loop-c-init
-loop-c-init c = (refl, refl, block_none binary64 _ _ _ _ _ _ _ _ (λ x y i. omega arith))
 
 pub take_out-requires : goal.take_out-requires
 take_out-requires c i h =
@@ -39,8 +36,3 @@ loop-c-preserved c =
       p.auto.piece ∙ w.invariant.1,
       column_turn binary64 a.width (line_value l) l.terms b.top _ b.bottom w.c _ _ _ w.room _ _ _ c.requires.1 (omega arith) (omega arith) (omega arith) c.saturating_sub-above.ensures (omega (arith, w.invariant.1, c.requires.2)) (omega (arith, w.invariant.0)) c.take_out.ensures c.add_products.ensures p.auto.piece p.ensures w.invariant.2,
     )
-
-pub returns : goal.returns
-returns c =
-    let w = c.loop-c in
-    columns_all binary64 _ _ _ _ _ w.c _ _ c.requires.0 (let u : w.c ≡ c.min-c-end.result = omega arith in u ∙ c.min-c-end.ensures) w.invariant.2
