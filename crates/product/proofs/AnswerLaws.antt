@@ -11,11 +11,12 @@ use lib.ListN.{length}
 use lib.Ieee.{Float}
 use borrow.Author.Tests.{ltb-true, leb-true, eqb-true, lt-ltb, le-ltb, le-leb, lt-leb, ne_eqb}
 use Rattle.answer.specs.Answer.{Answer, done, check, if_done}
+use Rattle.answer.proofs.AnswerLaws.{same_error}
 use Rattle.answer.proofs.Tests.{both_true}
 use Rattle.product.specs.Piece.{good_piece, enough_bytes, piece_answer, ata_answer, aat_answer}
 use Rattle.product.specs.Says.{piece_says}
 use Rattle.product.specs.Private.{LinesIn}
-use Rattle.std.specs.Prelude.{Result, Ok, Err}
+use Rattle.std.specs.Prelude.{Result, Ok, Err, IsErrAnd}
 use Rattle.product.specs.declared.checks.PieceError.{PieceError}
 use Rattle.product.specs.declared.checks.PieceError.TheVariants.{CountTooLarge, CannotConvertBetaToFromF64, IndexMismatch, ReadError}
 use Rattle.product.proofs.CheckLaws.{counts, four_checks}
@@ -60,7 +61,7 @@ accepted least total bytes offset rows columns start height width piece x says t
     }
 
 -- the lines of an accepted call stand in the bytes
-module _ (bytes offset rows columns start height width piece : ℕ) where
+module _ {bytes offset rows columns start height width piece : ℕ} where
   -- columns start, start + 1 and so on
   module _ (a : Accepted 1 columns bytes offset rows columns start height width piece) where
     pub columns_in : LinesIn bytes (offset + 8 * (start * rows)) rows 1 height rows
@@ -92,12 +93,15 @@ least_none true w = le-leb 0 w (omega arith)
 least_none false w = refl
 
 -- a call that refuses leaves the old list, one that is done the new one
-pub leaves_old : (e : PieceError) (s : Answer) (new old : List Float) → piece_says (Err e) ≡ s → (piece_says (Err e) ≡ s) × (old ≡ if_done s new old)
+pub leaves_old : (r : Result (Unit {0}) PieceError) (e : PieceError) (s : Answer) (new old : List Float) → IsErrAnd r (λ error. error ≡ e) → piece_says (Err e) ≡ s → (piece_says r ≡ s) × (old ≡ if_done s new old)
 unfolding if_done
-leaves_old CountTooLarge s new old e = (e, ap (λ (t : Answer). if_done t new old) e)
-leaves_old CannotConvertBetaToFromF64 s new old e = (e, ap (λ (t : Answer). if_done t new old) e)
-leaves_old IndexMismatch s new old e = (e, ap (λ (t : Answer). if_done t new old) e)
-leaves_old ReadError s new old e = (e, ap (λ (t : Answer). if_done t new old) e)
+leaves_old r e s new old h q = (ap piece_says (same_error r e h) ∙ q, sym (ap (λ (t : Answer). if_done t new old) (sym q) ∙ by_error e))
+  where
+    by_error : (e : PieceError) → if_done (piece_says (Err e)) new old ≡ old
+    by_error CountTooLarge = refl
+    by_error CannotConvertBetaToFromF64 = refl
+    by_error IndexMismatch = refl
+    by_error ReadError = refl
 
 pub leaves_new : (a : Result (Unit {0}) PieceError) (s : Answer) (l new old : List Float) → a ≡ Ok tt → piece_says a ≡ s → l ≡ new → (done [] ≡ s) × (l ≡ if_done s new old)
 unfolding if_done

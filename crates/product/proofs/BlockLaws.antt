@@ -48,10 +48,10 @@ module _ (r c above : ℕ) (e : above ≡ c - r) where
   some_below m h h' = omega (arith, from_diagonal.1 (r + m - 1) (omega arith) (omega arith))
 
   -- the places of the others
-  pub below_places : (m w len : ℕ) → 0 < m → c < w → c < r + m → (r + m) * w ≤ len → (above * w ≤ len) × (r * w + c + above * w < len) × ((i : ℕ) → i < m - above → r * w + c + above * w + i * w < len)
-  below_places m w len h h' h'' b =
-      let z : (r + above) * w + w ≤ (r + m) * w = row_in (r + m) w (r + above) (omega (arith, some_below m h h'')) in
-      (omega arith, omega arith, λ i g. let z' : (r + (above + i)) * w + w ≤ (r + m) * w = row_in (r + m) w (r + (above + i)) (omega arith) in omega arith)
+  pub below_places : (m b w len : ℕ) → r + m ≡ b → 0 < m → c < w → c < b → b * w ≤ len → (above * w ≤ len) × (r * w + c + above * w < len) × ((i : ℕ) → i < m - above → r * w + c + above * w + i * w < len)
+  below_places m b w len q h h' h'' l =
+      let z : (r + above) * w + w ≤ b * w = row_in b w (r + above) (omega (arith, some_below m h (omega arith))) in
+      (omega arith, omega arith, λ i g. let z' : (r + (above + i)) * w + w ≤ b * w = row_in b w (r + (above + i)) (omega arith) in omega arith)
 
 module _ (f : Format) (w : ℕ) (v : ℕ → ℕ → Float) (n : ℕ) where
   -- the entry at place p with its products
@@ -148,23 +148,24 @@ module _ (f : Format) (w : ℕ) (v : ℕ → ℕ → Float) (n : ℕ) where
       pos
 
   -- some rows more
-  pub rows_more_law : (t r b : ℕ) (old mid new : List Float) → 0 < w → t ≤ r → r ≤ b → mid ≡ block_more f w v n t r 0 w old → new ≡ block_more f w v n r b 0 w mid → new ≡ block_more f w v n t b 0 w old
-  rows_more_law t r b old mid new pos h' h e e' =
+  pub rows_more_law : (t r b b' : ℕ) (old mid new : List Float) → 0 < w → t ≤ r → r ≤ b → b ≡ b' → mid ≡ block_more f w v n t r 0 w old → new ≡ block_more f w v n r b 0 w mid → new ≡ block_more f w v n t b' 0 w old
+  rows_more_law t r b b' old mid new pos h' h q e e' =
       two_blocks t r 0 w r b 0 w t b 0 w old mid new e e' (λ x y i i'. omega arith)
       (λ x y h i. ⊎_elim (λ a. inl (i.0, i.1, a, i.3, i.4)) (λ a. inr (i.0, a, i.2, i.3, i.4)) (below_or x r))
       (λ x y i. (i.0, i.1, omega arith, i.3, i.4))
       (λ x y i. (i.0, omega arith, i.2, i.3, i.4))
       pos
+      ∙ ap (λ (z : ℕ). block_more f w v n t z 0 w old) q
 
   -- a column's sums in m rows, taken out, grown, and put back from the diagonal on
-  pub column_block : (r m c above : ℕ) (old room part new : List Float) → c < w → c < r + m → above ≡ c - r → (r + m) * w ≤ length old → length new ≡ length old
+  pub column_block : (r m b c above : ℕ) (old room part new : List Float) → r + m ≡ b → c < w → c < b → above ≡ c - r → b * w ≤ length old → length new ≡ length old
       → ((j : ℕ) → j < m → get_or room j nan ≡ sum_more f (get_or old (r * w + c + j * w) nan) (v (r + j)) (v c) n)
       → length part ≡ m - above
       → ((j : ℕ) → j < m - above → get_or part j nan ≡ get_or room (above + j) nan)
       → Put part (r * w + c + above * w) w old new
-      → new ≡ block_more f w v n r (r + m) c (c + 1) old
-  column_block r m c above old room part new hc hd ha hl s grown size rest put =
-      is_block_law r (r + m) c (c + 1) old new s
+      → new ≡ block_more f w v n r b c (c + 1) old
+  column_block r m b c above old room part new q hc hd ha hl s grown size rest put =
+      is_block_law r b c (c + 1) old new s
       (λ p h i.
       let j : ℕ = p / w - r in
       let y : p % w ≡ c = omega (arith, i.3, i.4) in
@@ -183,23 +184,23 @@ module _ (f : Format) (w : ℕ) (v : ℕ → ℕ → Float) (n : ℕ) where
       ∙ ap (λ (k : ℕ). sum_more f (get_or old p nan) (v (p / w)) (v k) n) (sym y))
       (λ p h i.
       put.1 p
-      (λ j b q.
+      (λ j h' g.
       let q' : p ≡ (r + above + j) * w + c = omega arith in
       let d : p / w ≡ r + above + j = ap (λ (k : ℕ). k / w) q' ∙ digits_div (r + above + j) hc in
       let d' : p % w ≡ c = ap (λ (k : ℕ). k % w) q' ∙ digits_mod (r + above + j) hc in
       i (omega (arith, (from_diagonal r c above ha).0), omega arith, omega arith, omega arith, omega arith)))
 
   -- one column's turn
-  pub column_turn : (r m c above : ℕ) (old piece room taken grown new : List Float) → 0 < m → c < w → c < r + m → above ≡ c - r → (r + m) * w ≤ length piece → length room ≡ m
+  pub column_turn : (r m b c above : ℕ) (old piece room taken grown new : List Float) → r + m ≡ b → 0 < m → c < w → c < b → above ≡ c - r → b * w ≤ length piece → length room ≡ m
       → taken ≡ tabulate (length room) (λ i. get_or piece (r * w + c + i * w) nan)
       → grown ≡ row_more f (λ j t. v (r + j) t) (λ t. v c t) n taken
       → length new ≡ length piece
       → Put (take (length grown - above) (drop above grown)) (r * w + c + above * w) w piece new
-      → piece ≡ block_more f w v n r (r + m) 0 c old
-      → new ≡ block_more f w v n r (r + m) 0 (c + 1) old
-  column_turn r m c above old piece room taken grown new pos hc hd hl hs hm e g s put inv =
-      column_more r (r + m) c old piece new (omega arith) inv
-      (column_block r m c above piece grown (take (length grown - above) (drop above grown)) new hc hd hl hs s
+      → piece ≡ block_more f w v n r b 0 c old
+      → new ≡ block_more f w v n r b 0 (c + 1) old
+  column_turn r m b c above old piece room taken grown new q pos hc hd hl hs hm e g s put inv =
+      column_more r b c old piece new (omega arith) inv
+      (column_block r m b c above piece grown (take (length grown - above) (drop above grown)) new q hc hd hl hs s
       (λ j h. taken_grown f (λ j t. v (r + j) t) (λ t. v c t) n piece room taken grown (r * w + c) w j e g (omega arith))
       (omega (arith, part_size))
       (λ j h. get_or-take (length grown - above) (drop above grown) j nan (omega (arith, size)) ∙ get_or-drop above grown j nan)
@@ -209,12 +210,12 @@ module _ (f : Format) (w : ℕ) (v : ℕ → ℕ → Float) (n : ℕ) where
       size = length_row f (λ j t. v (r + j) t) (λ t. v c t) n taken grown g ∙ ap length e ∙ length_tabulate (length room) (λ i. get_or piece (r * w + c + i * w) nan) ∙ hm
 
       part_size : length (take (length grown - above) (drop above grown)) ≡ m - above
-      part_size = length_part above (length grown - above) grown (omega (arith, size, some_below r c above hl m pos hd)) ∙ ap (λ (z : ℕ). z - above) size
+      part_size = length_part above (length grown - above) grown (omega (arith, size, some_below r c above hl m pos (omega arith))) ∙ ap (λ (z : ℕ). z - above) size
 
 -- k products more, and then n more by the values from k on
-pub block_terms : (f : Format) (w : ℕ) (v v' : ℕ → ℕ → Float) (k n t b l r : ℕ) (old mid new : List Float) → ((x i : ℕ) → v' x i ≡ v x (k + i))
-    → mid ≡ block_more f w v k t b l r old → new ≡ block_more f w v' n t b l r mid → new ≡ block_more f w v (k + n) t b l r old
-block_terms f w v v' k n t b l r old mid new same e e' =
+pub block_terms : (f : Format) (w : ℕ) (v v' : ℕ → ℕ → Float) (k n m t b l r : ℕ) (old mid new : List Float) → k + n ≡ m → ((x i : ℕ) → v' x i ≡ v x (k + i))
+    → mid ≡ block_more f w v k t b l r old → new ≡ block_more f w v' n t b l r mid → new ≡ block_more f w v m t b l r old
+block_terms f w v v' k n m t b l r old mid new q same e e' =
     is_block_law f w v (k + n) t b l r old new (ap length e' ∙ length_block f w v' n t b l r mid ∙ size)
     (λ p h i.
     block_in f w v' n t b l r mid new e' p (omega (arith, size)) i
@@ -222,6 +223,7 @@ block_terms f w v v' k n t b l r old mid new same e e' =
     ∙ sum_ext f (more f w v k old p) (v' (p / w)) (v' (p % w)) (λ i. v (p / w) (k + i)) (λ i. v (p % w) (k + i)) n (λ i g. same (p / w) i) (λ i g. same (p % w) i)
     ∙ sum_add f (get_or old p nan) (v (p / w)) (v (p % w)) k n)
     (λ p h i. ⊎_elim (λ a. absurd (i a)) (λ a. block_out f w v' n t b l r mid new e' p (omega (arith, size)) a.1 ∙ block_out f w v k t b l r old mid e p h a.1) (inside_or t b l r (p / w) (p % w)))
+    ∙ ap (λ (z : ℕ). block_more f w v z t b l r old) q
   where
     size : length mid ≡ length old
     size = ap length e ∙ length_block f w v k t b l r old

@@ -6,13 +6,13 @@ use Prim.Native.Nat.{ℕ, ◌+◌, ◌-◌, ◌*◌, ◌/◌, ◌≤◌, ◌<◌
 use native.Mathlib.Omega.{arith}
 use lib.Dec.{leb, eqb}
 use borrow.Author.Tests.{lt-leb}
-use Rattle.answer.specs.Answer.{Answer, done, check, count_limit}
+use Rattle.answer.specs.Answer.{Answer, done, check, count_limit, counts_fit}
 use Rattle.answer.proofs.Tests.{leb_both}
 use Rattle.product.specs.Piece.{enough_bytes, piece_answer}
 
 -- 18
 abbrev pub counts : ℕ → ℕ → ℕ → ℕ → ℕ → Bool
-counts a b c d e = leb a count_limit && (leb b count_limit && (leb c count_limit && (leb d count_limit && leb e count_limit)))
+counts a b c d e = counts_fit a b && (counts_fit c d && leb e count_limit)
 
 -- 1
 module _ (bytes offset rows columns : ℕ) where
@@ -36,7 +36,7 @@ module _ (fine : Bool) (bytes offset rows columns start height width piece : ℕ
   pub four_checks : piece_answer fine bytes offset rows columns start height width piece ≡ check (counts rows columns start height width) 18 (check fine 20 (check (eqb (height * width) piece) 15 (check (enough_bytes bytes offset rows columns) 1 (done []))))
   unfolding piece_answer
   four_checks =
-      ap (λ (t : Answer). check (leb rows count_limit) 18 (check (leb columns count_limit) 18 (check (leb start count_limit) 18 t))) (check_and (leb height count_limit) (leb width count_limit) 18 (check fine 20 last2))
-      ∙ ap (λ (t : Answer). check (leb rows count_limit) 18 (check (leb columns count_limit) 18 t)) (check_and (leb start count_limit) (leb height count_limit && leb width count_limit) 18 (check fine 20 last2))
-      ∙ ap (λ (t : Answer). check (leb rows count_limit) 18 t) (check_and (leb columns count_limit) (leb start count_limit && (leb height count_limit && leb width count_limit)) 18 (check fine 20 last2))
-      ∙ check_and (leb rows count_limit) (leb columns count_limit && (leb start count_limit && (leb height count_limit && leb width count_limit))) 18 (check fine 20 last2)
+      check_and (leb rows count_limit) (leb columns count_limit) 18 _
+      ∙ ap (check (counts_fit rows columns) 18)
+      (check_and (leb start count_limit) (leb height count_limit) 18 _ ∙ check_and (counts_fit start height) (leb width count_limit) 18 (check fine 20 last2))
+      ∙ check_and (counts_fit rows columns) (counts_fit start height && leb width count_limit) 18 (check fine 20 last2)

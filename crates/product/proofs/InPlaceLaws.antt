@@ -81,3 +81,6 @@ module _ {A : Type 0} where
   unfolding tabulate
   replicate_tabulate zero z = refl
   replicate_tabulate (suc n) z = ap (λ (t : List A). z ∷ t) (replicate_tabulate n z)
+
+-- a loop that fills a list from its front on
+pub ruleset fills = (filled_none, filled_step, filled_all)

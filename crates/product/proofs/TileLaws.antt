@@ -10,7 +10,7 @@ use borrow.Rule.Slice.PartMut.{put_mid}
 use Rattle.answer.specs.Lists.{tabulate}
 use Rattle.answer.proofs.Tabulate.{length_tabulate, get_d_tabulate}
 use Rattle.product.specs.Values.{float_at}
-use Rattle.product.specs.Private.{spaced_value, value_of_line, Tile}
+use Rattle.product.specs.Private.{spaced_value, value_of_line, TileHas}
 use Rattle.product.proofs.PartLaws.{below_or, length_part, put_in, put_out}
 use Rattle.product.proofs.GridLaws.{row_in}
 
@@ -36,7 +36,7 @@ module _ (v : ℕ → ℕ → Float) (r m g : ℕ) where
   -- one more row of the tile
   pub tile_more : (i size : ℕ) (x part : List Float) (value : ℕ → Float) → ((j : ℕ) → value j ≡ v (r + j) i) → size ≡ m → m ≤ g → i * g + m ≤ length x
       → part ≡ tabulate (length (take size (drop (i * g) x))) value
-      → Tile x g v r i m → Tile (put_mid (i * g) size x part) g v r (i + 1) m
+      → TileHas x g v r i m → TileHas (put_mid (i * g) size x part) g v r (i + 1) m
   tile_more i size x part value a s h b e old i' j l l' =
       let n : length (take size (drop (i * g) x)) ≡ m = length_part (i * g) size x (omega arith) ∙ s in
       let z : length part ≡ m = ap length e ∙ length_tabulate (length (take size (drop (i * g) x))) value ∙ n in

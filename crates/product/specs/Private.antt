@@ -1,5 +1,5 @@
 -- What only private functions speak in: where values stand in the bytes, sums, and how far a piece is formed.
-use Rattle.std.specs.Prelude.{◌≡◌, Bool, cond, ◌&&◌, List, ℕ, zero, suc, ◌+◌, ◌-◌, ◌*◌, ◌/◌, ◌%◌, ◌^◌, ◌<◌, ◌≤◌, leb, ltb, Float, length, get_or, take, drop}
+use Rattle.std.specs.Prelude.{◌≡◌, Bool, cond, ◌&&◌, List, ℕ, zero, suc, ◌+◌, ◌-◌, ◌*◌, ◌/◌, ◌%◌, ◌<◌, ◌≤◌, leb, ltb, Float, length, get_or, take, drop}
 use Rattle.std.specs.Float.{nan, Format}
 use Rattle.std.specs.Float.Ieee.{add, mul}
 use Rattle.answer.specs.Lists.{tabulate}
@@ -57,19 +57,16 @@ abbrev pub tile_value : List Float → ℕ → ℕ → ℕ → Float
 tile_value x g j i = get_or x (i * g + j) nan
 
 -- a tile has the first n values of lines r to r + m - 1
-abbrev pub Tile : List Float → ℕ → (ℕ → ℕ → Float) → ℕ → ℕ → ℕ → Type 0
-Tile x g value r n m = (i j : ℕ) → i < n → j < m → tile_value x g j i ≡ value (r + j) i
+abbrev pub TileHas : List Float → ℕ → (ℕ → ℕ → Float) → ℕ → ℕ → ℕ → Type 0
+TileHas x g value r n m = (i j : ℕ) → i < n → j < m → tile_value x g j i ≡ value (r + j) i
 
--- n products of each of lines r to r + m - 1 can be formed: these lines stand in the bytes, and a tile has the first `loaded` values of each
-pub record BlockReady (bytes : List ℕ) (base line step n r m loaded g : ℕ) (x : List Float) : Type 0 where
-  pub some_lines : 0 < m
-  pub not_wide : m ≤ g
-  pub some_terms : 0 < n
-  pub ends : r + m < 2 ^ 64
+-- n products of each of lines top to bottom - 1 can be formed: a tile has the first `loaded` values of each, and if that is not all, they can be
+-- formed straight from the bytes
+pub record BlockReady (bytes : List ℕ) (base line step n top bottom loaded g : ℕ) (x : List Float) : Type 0 where
+  pub not_wide : bottom - top ≤ g
   pub tile_room : loaded * g + 8 ≤ length x
-  pub lines_in : LinesIn (length bytes) base line step (r + m) n
-  pub tile_has : Tile x g (value_of_line bytes base line step) r loaded m
-  pub else_straight : LoadedOrStraight bytes base line step n loaded r (r + m)
+  pub tile_has : TileHas x g (value_of_line bytes base line step) top loaded (bottom - top)
+  pub else_straight : LoadedOrStraight bytes base line step n loaded top bottom
 
 -- ---- sums
 -- n products more on a sum

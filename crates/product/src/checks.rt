@@ -1,6 +1,5 @@
 // The checks of a piece.
 ghost use Rattle.std.specs.Prelude.{◌≡◌, ◌&&◌, leb};
-ghost use Rattle.answer.specs.Answer.{count_limit};
 ghost use Rattle.product.specs.Piece.{piece_answer, good_piece, enough_bytes};
 ghost use Rattle.product.specs.Says.{piece_says};
 
@@ -13,18 +12,8 @@ pub enum PieceError {
     ReadError,
 }
 
-// Whether no number exceeds the limit of 18.
-fn counts_fit(a: usize, b: usize, c: usize, d: usize, e: usize) -> bool
-    ensures { result ≡ (leb a count_limit && (leb b count_limit && (leb c count_limit && (leb d count_limit && leb e count_limit)))) }
-{
-    a <= answer::COUNT_LIMIT
-        && b <= answer::COUNT_LIMIT
-        && c <= answer::COUNT_LIMIT
-        && d <= answer::COUNT_LIMIT
-        && e <= answer::COUNT_LIMIT
-}
-
 // Whether a piece does not meet 20.
+#[tactic(auto, using(std::proofs::lemmas::Bool::Decides::nat_tests), unfolding(crate::specs::Piece::good_piece))]
 fn good_piece(total: usize, start: usize, height: usize, width: usize, least_width: usize) -> bool
     ensures { result ≡ (good_piece total start height width && leb least_width width) }
 {
@@ -32,6 +21,7 @@ fn good_piece(total: usize, start: usize, height: usize, width: usize, least_wid
 }
 
 // Whether the bytes do not meet 1.
+#[tactic(auto, using(std::proofs::lemmas::Bool::Decides::nat_tests, crate::proofs::CheckLaws::bytes_by_eight, crate::proofs::CheckLaws::offset_past), unfolding(crate::specs::Piece::enough_bytes))]
 fn enough_bytes(bytes_len: usize, offset: u64, row_count: usize, col_count: usize) -> bool
     ensures { result ≡ enough_bytes bytes_len offset row_count col_count }
 {
@@ -43,6 +33,7 @@ fn enough_bytes(bytes_len: usize, offset: u64, row_count: usize, col_count: usiz
 
 // The checks of a piece of so many lines, in order: 18, 20, 15, 1. Its numbers stay arguments, as the C interface has them: a
 // struct would be filled at two places and read at this one.
+#[tactic(auto, using(crate::proofs::CheckLaws::four_checks), unfolding(answer::specs::Answer::check))]
 pub(crate) fn check_piece(
     bytes_len: usize,
     offset: u64,
@@ -59,7 +50,10 @@ pub(crate) fn check_piece(
         ≡ piece_answer (good_piece total start height width && leb least_width width) bytes_len offset
         row_count col_count start height width piece_len }
 {
-    if !counts_fit(row_count, col_count, start, height, width) {
+    if !(answer::counts_fit(row_count, col_count)
+        && answer::counts_fit(start, height)
+        && width <= answer::COUNT_LIMIT)
+    {
         return Err(PieceError::CountTooLarge);
     }
     if !good_piece(total, start, height, width, least_width) {

@@ -5,6 +5,7 @@ ghost use Rattle.answer.specs.Lists.{tabulate};
 ghost use Rattle.product.specs.Private.{Put};
 
 // Takes out values a width apart.
+#[tactic(auto, using(crate::proofs::InPlaceLaws::fills))]
 pub(crate) fn take_out(piece: &[f64], from: usize, width: usize, dst: &mut [f64])
     requires { (i : ℕ) → i < length dst.old → from + i * width < length piece.now }
     ensures { dst.new ≡ tabulate (length dst.old) (λ i. get_or piece.now (from + i * width) nan) }

@@ -4,9 +4,10 @@ ghost use Rattle.std.specs.Float.{binary64};
 ghost use Rattle.std.specs.Float.Ieee.{of_bits};
 ghost use Rattle.answer.specs.Lists.{tabulate};
 ghost use Rattle.product.specs.Values.{le_number, float_at};
-ghost use Rattle.product.specs.Private.{RunsIn, NoNan, RunsNoNan};
+ghost use Rattle.product.specs.Private.{NoNan};
 
 // The number of eight bytes from a place on, low byte first.
+#[tactic(auto, using(crate::proofs::ByteLaws::eight_bytes))]
 pub(crate) fn eight_at(bytes: &[u8], at: usize) -> u64
     requires { at + 8 ≤ length bytes.now }
     ensures { (result ≡ le_number (take 8 (drop at bytes.now))) × (result < 2 ^ 64) }
@@ -24,6 +25,7 @@ pub(crate) fn eight_at(bytes: &[u8], at: usize) -> u64
 }
 
 // The f64 of a bit pattern. The language makes no float from a NaN's pattern, so that is tested first.
+#[tactic(auto, using(crate::proofs::ByteLaws::pattern_nan, crate::proofs::ByteLaws::pattern_number))]
 fn float_of_bits(n: u64) -> f64
     ensures { result ≡ of_bits binary64 n }
 {
@@ -34,6 +36,7 @@ fn float_of_bits(n: u64) -> f64
 }
 
 // The f64 of eight bytes from a place on.
+#[tactic(auto, using(crate::proofs::ByteLaws::float_of))]
 pub(crate) fn float_at(bytes: &[u8], at: usize) -> f64
     requires { at + 8 ≤ length bytes.now }
     ensures { result ≡ float_at bytes.now at }
@@ -54,21 +57,8 @@ pub(crate) fn all_finite(bytes: &[u8], at: usize, n: usize) -> bool
     others == 0
 }
 
-// Whether they are in four runs of n values, the starts step values apart. Bytes, place and step stay arguments, here and where
-// such runs are added: a struct of them would be filled at two places, to be read at these.
-pub(crate) fn four_finite(bytes: &[u8], at: usize, step: usize, n: usize) -> bool
-    requires { RunsIn (length bytes.now) at step n }
-    ensures { result ≡ true → RunsNoNan bytes.now at step n }
-{
-    for t in 0..4 {
-        if !all_finite(bytes, at + 8 * (t * step), n) {
-            return false;
-        }
-    }
-    true
-}
-
 // Fills dst with neighbouring values, none of them a NaN.
+#[tactic(auto, using(crate::proofs::InPlaceLaws::fills, crate::proofs::ByteLaws::float_of, crate::proofs::ByteLaws::number_of))]
 pub(crate) fn load_finite(bytes: &[u8], at: usize, dst: &mut [f64])
     requires { (at + 8 * length dst.old ≤ length bytes.now) × NoNan bytes.now at (length dst.old) }
     ensures { dst.new ≡ tabulate (length dst.old) (λ i. float_at bytes.now (at + 8 * i)) }

@@ -14,14 +14,26 @@ mod sums;
 mod walk;
 
 pub use checks::PieceError;
+use walk::Product;
 
-// The least width of a piece that does not meet 20.
-const ATA_LEAST_WIDTH: usize = 1;
+// A'A: few rows at a time, each with all its terms.
+const ATA: Product = Product {
+    least_width: 1,
+    rows_together: 8,
+    block_rows: 8,
+    tile_width: 0,
+};
 
-const AAT_LEAST_WIDTH: usize = 0;
+// AA': all rows with some terms, then with the next ones.
+const AAT: Product = Product {
+    least_width: 0,
+    rows_together: 32768,
+    block_rows: 64,
+    tile_width: 8,
+};
 
-// The two calls differ in the total, the least width, where their lines stand, and the mirror. One function of both would
-// take these besides all arguments here, and would be as long as the two.
+// The two calls differ in the total, where their lines stand, and the mirror. One function of both would take these besides
+// all arguments here, and would be as long as the two.
 
 // A piece of A'A, for the matrix A of row_count rows and col_count columns in the bytes after an offset.
 pub fn file_ata_piece_f64(
@@ -46,10 +58,11 @@ pub fn file_ata_piece_f64(
         col_start,
         height,
         width,
-        ATA_LEAST_WIDTH,
+        ATA.least_width,
         piece.len(),
     )?;
     walk::lower_piece(
+        ATA,
         bytes,
         offset,
         col_start * row_count,
@@ -87,11 +100,11 @@ pub fn file_aat_piece_f64(
         row_start,
         height,
         width,
-        AAT_LEAST_WIDTH,
+        AAT.least_width,
         piece.len(),
     )?;
     walk::lower_piece(
-        bytes, offset, row_start, 1, row_count, col_count, height, width, piece,
+        AAT, bytes, offset, row_start, 1, row_count, col_count, height, width, piece,
     );
     Ok(())
 }

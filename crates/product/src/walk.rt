@@ -10,130 +10,136 @@ ghost use Rattle.std.specs.Float.{binary64};
 ghost use Rattle.product.specs.Lent.{line_value};
 ghost use Rattle.product.specs.Private.{value_of_line, LinesIn, LoadedOrStraight, rows_more, lower_piece, mirrored_piece};
 
-use crate::lent::{Block, Lines};
-use crate::{column, floats, sums};
+use crate::lent::{Block, Lines, Rows, Tile};
+use crate::{column, sums};
+
+// What a product's pieces are formed by.
+#[derive(Clone, Copy)]
+pub(crate) struct Product {
+    // The least width of a piece that does not meet 20.
+    pub(crate) least_width: usize,
+    // How many rows get all their terms before the next ones.
+    pub(crate) rows_together: usize,
+    // How many rows a block has.
+    pub(crate) block_rows: usize,
+    // The width below which the products are formed straight from the bytes where that can be.
+    pub(crate) tile_width: usize,
+    ghost sized: { (0 < rows_together) × (0 < block_rows) × (block_rows ≤ 64) },
+}
+
+impl Product {
+    // How many terms a pass has: four where so few columns would use a tile that the products are rather formed straight
+    // from the bytes.
+    fn pass_terms(self, width: usize) -> usize
+        ensures { (0 < result) × (result * self.block_rows ≤ 1792) }
+    {
+        if width < self.tile_width {
+            4
+        } else {
+            1792 / self.block_rows
+        }
+    }
+}
+
+impl<'a> Rows<'a> {
+    // How many terms go into a tile: none where the products can be formed straight from the bytes. These are then near,
+    // since they were just looked at.
+    fn tile_terms(&self) -> usize
+        ensures { (result ≤ self.now.lines.now.terms)
+            × LoadedOrStraight self.now.lines.now.bytes.now self.now.lines.now.base self.now.lines.now.line self.now.lines.now.step self.now.lines.now.terms
+            result self.now.top self.now.bottom }
+    {
+        if !(self.lines.are_neighbours() && self.lines.terms == 4) {
+            return self.lines.terms;
+        }
+        let runs = self.lines.runs(self.top, self.bottom - self.top);
+        if runs.are_finite() {
+            0
+        } else {
+            self.lines.terms
+        }
+    }
+}
 
 // The width and the piece stay two arguments below: a struct of them would hold a `&mut`, and each clause would name the
 // list behind two references.
 
 // Adds the products of a block's terms to the sums of its rows. The room is for the sums of one column.
+#[tactic(auto, using(crate::proofs::BlockLaws::block_none, crate::proofs::BlockLaws::columns_all))]
 fn add_block(block: &Block, width: usize, room: &mut [f64], piece: &mut [f64])
-    requires { (0 < width) × (length room.old ≡ block.now.rows) × ((block.now.top + block.now.rows) * width ≤ length piece.old) }
+    requires { (0 < width) × (block.now.rows.top + length room.old ≡ block.now.rows.bottom)
+        × (block.now.rows.bottom * width ≤ length piece.old) }
     ensures { piece.new
-        ≡ rows_more binary64 width (line_value block.now.lines)
-        block.now.lines.terms block.now.top (block.now.top + block.now.rows) piece.old }
+        ≡ rows_more binary64 width (line_value block.now.rows.lines.now)
+        block.now.rows.lines.now.terms block.now.rows.top block.now.rows.bottom piece.old }
 {
-    for c in 0..width.min(block.top + block.rows) {
-        let from = block.top * width + c;
+    let top = block.rows.top;
+    for c in 0..width.min(block.rows.bottom) {
+        let from = top * width + c;
         column::take_out(piece, from, width, room);
         sums::add_products(block, c, room);
-        let above = c.saturating_sub(block.top);
+        let above = c.saturating_sub(top);
         column::put_back(&room[above..], from + above * width, width, piece);
     }
 }
 
-// How many terms go into a tile: none where the products of lines top to bottom - 1 can be formed straight from the
-// bytes. These are then near, since they were just looked at.
-fn tile_terms(lines: &Lines, top: usize, bottom: usize) -> usize
-    requires { (top < bottom) × (bottom ≤ lines.now.lines) }
-    ensures { (result ≤ lines.now.terms)
-        × LoadedOrStraight lines.now.bytes.now lines.now.base lines.now.line lines.now.step lines.now.terms result top bottom }
-{
-    if lines.line == 1 && lines.terms == 4 {
-        let at = lines.place(top, 0);
-        if floats::four_finite(lines.bytes, at, lines.step, bottom - top) {
-            return 0;
-        }
-    }
-    lines.terms
-}
-
-// Adds the products of all terms to the sums of rows top to bottom - 1, in blocks of g rows.
-fn add_blocks(
-    lines: &Lines,
-    g: usize,
-    top: usize,
-    bottom: usize,
-    width: usize,
-    x: &mut [f64],
-    piece: &mut [f64],
-)
-    requires { (0 < g) × (g ≤ 64) × (0 < lines.now.terms) × (lines.now.terms * g + 8 ≤ length x.old) × (0 < width) × (top ≤ bottom)
-        × (bottom * width ≤ length piece.old) × (bottom ≤ lines.now.lines) }
+// Adds the products of all terms to the sums of some rows, in blocks of g rows.
+#[tactic(auto, using(crate::proofs::BlockLaws::block_none))]
+fn add_blocks(rows: &Rows, g: usize, width: usize, x: &mut [f64], piece: &mut [f64])
+    requires { (0 < g) × (g ≤ 64) × (rows.now.lines.now.terms * g + 8 ≤ length x.old) × (0 < width)
+        × (rows.now.bottom * width ≤ length piece.old) }
     ensures { piece.new
-        ≡ rows_more binary64 width (line_value lines.now) lines.now.terms top bottom piece.old }
+        ≡ rows_more binary64 width (line_value rows.now.lines.now)
+        rows.now.lines.now.terms rows.now.top rows.now.bottom piece.old }
 {
+    let lines = rows.lines;
     let mut room = [0.0f64; 64];
     // A `while`: by `step_by` each block took 500 instructions more, of 8,000 in A'A of width 1 with 64 rows.
-    let mut r = top;
-    while r < bottom {
-        let m = g.min(bottom - r);
-        let loaded = tile_terms(lines, r, r + m);
-        lines.load_tile(loaded, r, m, g, x);
+    let mut top = rows.top;
+    while top < rows.bottom {
+        let m = g.min(rows.bottom - top);
+        let rows = Rows {
+            lines,
+            top,
+            bottom: top + m,
+        };
+        let loaded = rows.tile_terms();
+        lines.load_tile(loaded, top, m, g, x);
         let block = Block {
-            lines: *lines,
-            top: r,
-            rows: m,
+            rows,
+            tile: Tile { x, g },
             loaded,
-            g,
-            x,
         };
         add_block(&block, width, &mut room[0..m], piece);
-        r += m;
+        top += m;
     }
 }
 
-// How many rows a block has.
-fn block_rows(line: usize) -> usize
-    ensures { (0 < result) × (result ≤ 64) }
-{
-    if line == 1 { 64 } else { 8 }
-}
-
-// How many terms a pass has, for blocks of so many rows: four where so few columns would use a tile that the products
-// are rather formed straight from the bytes.
-fn pass_terms(rows: usize, width: usize) -> usize
-    requires { (0 < rows) × (rows ≤ 64) }
-    ensures { (0 < result) × (result * rows ≤ 1792) }
-{
-    if rows == 64 && width < 8 {
-        4
-    } else {
-        1792 / rows
-    }
-}
-
-// Adds the products of all terms to the sums of rows top to bottom - 1, in passes.
-fn add_terms(
-    lines: &Lines,
-    top: usize,
-    bottom: usize,
-    width: usize,
-    x: &mut [f64],
-    piece: &mut [f64],
-)
-    requires { (1800 ≤ length x.old) × (0 < width) × (top < bottom) × (bottom * width ≤ length piece.old) × (bottom ≤ lines.now.lines) }
+// Adds the products of all terms to the sums of some rows, in passes.
+#[tactic(auto, using(crate::proofs::BlockLaws::block_zero))]
+fn add_terms(product: Product, rows: &Rows, width: usize, x: &mut [f64], piece: &mut [f64])
+    requires { (1800 ≤ length x.old) × (0 < width) × (rows.now.bottom * width ≤ length piece.old) }
     ensures { piece.new
-        ≡ rows_more binary64 width (line_value lines.now) lines.now.terms top bottom piece.old }
+        ≡ rows_more binary64 width (line_value rows.now.lines.now)
+        rows.now.lines.now.terms rows.now.top rows.now.bottom piece.old }
 {
-    let g = block_rows(lines.line);
-    let terms = pass_terms(g, width);
+    let lines = rows.lines;
+    let terms = product.pass_terms(width);
     for k in (0..lines.terms).step_by(terms) {
-        let part = lines.part(k, terms.min(lines.terms - k));
-        add_blocks(&part, g, top, bottom, width, x, piece);
+        let part = Rows {
+            lines: &lines.part(k, terms.min(lines.terms - k)),
+            top: rows.top,
+            bottom: rows.bottom,
+        };
+        add_blocks(&part, product.block_rows, width, x, piece);
     }
-}
-
-// How many rows get all their terms before the next ones.
-fn rows_together(line: usize) -> usize
-    ensures { 0 < result }
-{
-    if line == 1 { 32768 } else { 8 }
 }
 
 // Forms the sums on and below the diagonal, and +0 above it. Its lines are made here and not by the callers, since without
 // terms their base may pass 64 bits.
+#[tactic(auto, using(crate::proofs::BlockLaws::block_none))]
 pub(crate) fn lower_piece(
+    product: Product,
     bytes: &[u8],
     offset: u64,
     first: usize,
@@ -160,15 +166,19 @@ pub(crate) fn lower_piece(
         lines: height,
         terms: count,
     };
-    let rows = rows_together(line);
     let mut x = [0.0f64; 1800];
-    for r in (0..height).step_by(rows) {
-        let bottom = r + rows.min(height - r);
-        add_terms(&lines, r, bottom, width, &mut x, piece);
+    for top in (0..height).step_by(product.rows_together) {
+        let rows = Rows {
+            lines: &lines,
+            top,
+            bottom: top + product.rows_together.min(height - top),
+        };
+        add_terms(product, &rows, width, &mut x, piece);
     }
 }
 
 // Copies each entry below the diagonal to its mirror place.
+#[tactic(auto, using(crate::proofs::MirrorLaws::mirrored_skip))]
 pub(crate) fn mirror(width: usize, piece: &mut [f64])
     requires { (0 < width) × (width * width ≤ length piece.old) }
     ensures { piece.new ≡ mirrored_piece width piece.old }

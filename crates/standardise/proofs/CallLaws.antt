@@ -8,9 +8,10 @@ use native.Mathlib.Omega.{arith}
 use lib.Dec.{eqb}
 use lib.ListN.{length, get_or}
 use lib.Ieee.{Float, nan, Format}
-use borrow.Author.Tests.{le-leb, lt-leb, eqb-true, eqb-false}
-use Rattle.answer.specs.Answer.{Answer, done, refused, count_limit, is_done, if_done}
+use borrow.Author.Tests.{le-leb, eqb-true, eqb-false}
+use Rattle.answer.specs.Answer.{Answer, done, refused, count_limit, counts_fit, is_done, if_done}
 use Rattle.answer.specs.Matrix.{matrix_place, matrix}
+use Rattle.answer.proofs.AnswerLaws.{both_fit, counts_refuse}
 use Rattle.answer.proofs.Tests.{by_test}
 use Rattle.answer.proofs.MatrixLaws.{get_d_matrix, matrix_ext}
 use Rattle.statistics.specs.declared.Stats.{Stats}
@@ -26,28 +27,26 @@ use Rattle.standardise.proofs.CellLaws.{own_cells}
 
 -- ---- the checks, in order
 module _ (iids sids : ℕ) (val stats : List Float) (later : Answer) where
-  pub iids_too_large : count_limit < iids → buffer_checks iids sids val stats later ≡ refused 18 []
+  pub counts_too_large : counts_fit iids sids ≡ false → buffer_checks iids sids val stats later ≡ refused 18 []
   unfolding buffer_checks
-  iids_too_large h = simp (lt-leb iids count_limit h)
+  counts_too_large e = counts_refuse iids sids _ e
 
-  module _ (a : iids ≤ count_limit) where
-    pub sids_too_large : count_limit < sids → buffer_checks iids sids val stats later ≡ refused 18 []
+  module _ (fits : counts_fit iids sids ≡ true) where
+    fit : (iids ≤ count_limit) × (sids ≤ count_limit)
+    fit = both_fit iids sids fits
+
+    pub values_mismatch : eqb (iids * sids) (length val) ≡ false → buffer_checks iids sids val stats later ≡ refused 15 []
     unfolding buffer_checks
-    sids_too_large h = simp (le-leb iids count_limit a, lt-leb sids count_limit h)
+    values_mismatch e = simp (le-leb iids count_limit fit.0, le-leb sids count_limit fit.1, e)
 
-    module _ (b : sids ≤ count_limit) where
-      pub values_mismatch : eqb (iids * sids) (length val) ≡ false → buffer_checks iids sids val stats later ≡ refused 15 []
+    module _ (e : eqb (iids * sids) (length val) ≡ true) where
+      pub stats_mismatch : eqb (stats_per_marker * sids) (length stats) ≡ false → buffer_checks iids sids val stats later ≡ refused 17 []
       unfolding buffer_checks
-      values_mismatch e = simp (le-leb iids count_limit a, le-leb sids count_limit b, e)
+      stats_mismatch g = simp (le-leb iids count_limit fit.0, le-leb sids count_limit fit.1, e, g)
 
-      module _ (e : eqb (iids * sids) (length val) ≡ true) where
-        pub stats_mismatch : eqb (stats_per_marker * sids) (length stats) ≡ false → buffer_checks iids sids val stats later ≡ refused 17 []
-        unfolding buffer_checks
-        stats_mismatch g = simp (le-leb iids count_limit a, le-leb sids count_limit b, e, g)
-
-        pub checks_pass : eqb (stats_per_marker * sids) (length stats) ≡ true → buffer_checks iids sids val stats later ≡ later
-        unfolding buffer_checks
-        checks_pass g = simp (le-leb iids count_limit a, le-leb sids count_limit b, e, g)
+      pub checks_pass : eqb (stats_per_marker * sids) (length stats) ≡ true → buffer_checks iids sids val stats later ≡ later
+      unfolding buffer_checks
+      checks_pass g = simp (le-leb iids count_limit fit.0, le-leb sids count_limit fit.1, e, g)
 
 -- ---- a refused call, and one whose buffers are right
 module _ (f : Format) (order : Bool) (iids sids : ℕ) (val : List Float) (use_stats : Bool) (stats : List Float) (apply : Bool) where

@@ -27,10 +27,7 @@ pub fn impute_and_zero_mean_snps_f64(
     ensures { Standardises binary64 animal_order iid_count sid_count val.old use_stats stats.old apply_in_place
         (standardise_says result) val.new stats.new }
 {
-    if iid_count > answer::COUNT_LIMIT {
-        return Err(StandardiseError::CountTooLarge);
-    }
-    if sid_count > answer::COUNT_LIMIT {
+    if !answer::counts_fit(iid_count, sid_count) {
         return Err(StandardiseError::CountTooLarge);
     }
     if !blocks::product_is(iid_count, sid_count, val.len()) {

@@ -1,6 +1,5 @@
 -- `add_block`: the columns before c have their products.
 use mathlib.Core.Path.{◌≡◌}
-use Prim.Native.Nat.{◌+◌}
 use lib.ListN.{length}
 use lib.Ieee.{binary64}
 use Rattle.product.specs.Private.{block_more}
@@ -9,5 +8,5 @@ use Rattle.product.proofs.walk.add_block.Given as goal
 
 abbrev pub invariant-loop-c : goal.invariant-loop-c
 invariant-loop-c l =
-    let b = l.block in
-    (length l.room ≡ length l.initial.room) × (length l.piece ≡ length l.initial.piece) × (l.piece ≡ block_more binary64 l.width (line_value b.lines) b.lines.terms b.top (b.top + b.rows) 0 l.c l.initial.piece)
+    let r = l.block.rows in
+    (length l.room ≡ length l.initial.room) × (length l.piece ≡ length l.initial.piece) × (l.piece ≡ block_more binary64 l.width (line_value r.lines.now) r.lines.now.terms r.top r.bottom 0 l.c l.initial.piece)

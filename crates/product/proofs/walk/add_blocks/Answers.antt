@@ -1,35 +1,17 @@
-use mathlib.Core.Path.{◌≡◌, refl, ◌∙◌}
-use Prim.Native.Nat.{◌+◌}
+use mathlib.Core.Path.{refl, ◌∙◌}
 use native.Mathlib.Omega.{arith}
 use lib.Ieee.{binary64}
-use Rattle.product.specs.Private.{block_more}
 use Rattle.product.specs.Lent.{line_value}
-use Rattle.product.proofs.BlockLaws.{block_none, rows_more_law}
+use Rattle.product.proofs.BlockLaws.{rows_more_law}
 use Rattle.product.proofs.walk.add_blocks.Goals as goal
-use Rattle.product.proofs.walk.add_blocks.Goals.{After-add_block}
 
--- the rows before r + m have their products after a block
-turn : (c : After-add_block) →
-    let a = c.args in
-    let l = a.lines.now in
-    c.add_block.new.piece ≡ block_more binary64 a.width (line_value l) l.terms a.top (c.loop-r.r + c.min-m.result) 0 a.width a.piece.now
-turn c =
-    let a = c.args in
-    let l = a.lines.now in
-    let w = c.loop-r in
-    rows_more_law binary64 a.width (line_value l) l.terms a.top w.r (w.r + c.min-m.result) a.piece.now w.piece c.add_block.new.piece c.requires.4 (omega arith) (omega arith) w.invariant.4 c.add_block.ensures
-
-pub loop-r-init : goal.loop-r-init
-loop-r-init c = (omega arith, omega (arith, c.requires), refl, refl, block_none binary64 _ _ _ _ _ _ _ _ (λ x y i. omega arith))
-
-pub loop-r-preserved : goal.loop-r-preserved
-loop-r-preserved c =
-    let a = c.args in
-    let l = a.lines.now in
-    let w = c.loop-r in (
+pub loop-top-preserved : goal.loop-top-preserved
+loop-top-preserved c =
+    let l = c.args.rows.now.lines.now in
+    let w = c.loop-top in (
       omega arith,
       omega arith,
       c.load_tile.auto.x ∙ w.invariant.2,
       c.add_block.auto.piece ∙ w.invariant.3,
-      turn (goal.at.loop-r-preserved c).After-add_block,
+      rows_more_law binary64 _ (line_value l) l.terms _ w.top _ _ _ w.piece _ c.requires.3 (omega arith) (omega arith) refl w.invariant.4 c.add_block.ensures,
     )

@@ -8,4 +8,4 @@ use Rattle.product.specs.Lent.{line_value}
 use Rattle.product.proofs.walk.add_terms.Given as goal
 
 abbrev pub invariant-loop-k : goal.invariant-loop-k
-invariant-loop-k l = (l.k ≤ l.lines.terms) × (length l.x ≡ length l.initial.x) × (length l.piece ≡ length l.initial.piece) × (l.piece ≡ block_more binary64 l.width (line_value l.lines) l.k l.top l.bottom 0 l.width l.initial.piece)
+invariant-loop-k l = (l.k ≤ l.rows.lines.now.terms) × (length l.x ≡ length l.initial.x) × (length l.piece ≡ length l.initial.piece) × (l.piece ≡ block_more binary64 l.width (line_value l.rows.lines.now) l.k l.rows.top l.rows.bottom 0 l.width l.initial.piece)

@@ -8,7 +8,7 @@ use Rattle.answer.specs.Lists.{tabulate}
 use Rattle.product.specs.Dot.{plus_zero}
 use Rattle.product.specs.Private.{value_of_line, block_more, lower_piece}
 use Rattle.product.proofs.InPlaceLaws.{replicate_tabulate}
-use Rattle.product.proofs.BlockLaws.{block_none, rows_more_law}
+use Rattle.product.proofs.BlockLaws.{rows_more_law}
 use Rattle.product.proofs.LowerLaws.{lower_none, lower_empty, lower_all}
 use Rattle.product.proofs.walk.lower_piece.Goals as goal
 use Rattle.product.proofs.walk.lower_piece.Goals.{After-fill, After-add_terms, then-width-eq0-via-then-width-eq0, then-width-eq0-via-else-width-eq0+then-count-eq0}
@@ -20,12 +20,10 @@ cleared c = c.fill.ensures.after (λ y e. e) ∙ replicate_tabulate _ _
 
 pub returns-then-width-eq0 : goal.returns-then-width-eq0
 returns-then-width-eq0 c =
-    let a = c.args in
-    let v : ℕ → ℕ → Float = value_of_line a.bytes.now (a.offset + 8 * a.first) a.line a.step in
-    lower_none binary64 a.height a.width v (length a.piece.now) c.fill.new.self c.requires.2 (cleared (goal.at.returns-then-width-eq0 c).After-fill)
+    lower_none binary64 _ _ _ _ _ c.requires.2 (cleared (goal.at.returns-then-width-eq0 c).After-fill)
     ∙ elim c.then-width-eq0.branch [
-      | then-width-eq0-via-then-width-eq0 w ↦ lower_empty binary64 a.height a.width v a.count 0 w.if-width-eq0.true
-      | then-width-eq0-via-else-width-eq0+then-count-eq0 w ↦ ap (lower_piece binary64 a.height a.width v) (let u : 0 ≡ a.count = omega arith in u)
+      | then-width-eq0-via-then-width-eq0 w ↦ lower_empty binary64 _ _ _ _ 0 w.if-width-eq0.true
+      | then-width-eq0-via-else-width-eq0+then-count-eq0 w ↦ ap (lower_piece binary64 _ _ _) (let u : 0 ≡ c.args.count = omega arith in u)
     ]
 
 pub overflow_mul-lines : goal.overflow_mul-lines
@@ -34,48 +32,35 @@ overflow_mul-lines c = omega (arith, c.requires.3 0 0 (omega arith) (omega arith
 pub overflow_add-lines : goal.overflow_add-lines
 overflow_add-lines c = omega (arith, c.requires.3 0 0 (omega arith) (omega arith))
 
-pub loop-r-init : goal.loop-r-init
-loop-r-init c = (omega arith, refl, refl, block_none binary64 _ _ _ _ _ _ _ _ (λ x y i. omega arith))
-
 -- the rows before the bottom have all their terms after a turn
-turn : (c : After-add_terms) →
+turn : (c : After-add_terms) (bottom : ℕ) → c.loop-top.top + c.min.result ≡ bottom →
     let a = c.args in
-    c.add_terms.new.piece ≡ block_more binary64 a.width (value_of_line a.bytes.now (a.offset + 8 * a.first) a.line a.step) a.count 0 (c.loop-r.r + c.min.result) 0 a.width c.fill.new.self
-turn c =
-    let a = c.args in
-    let w = c.loop-r in
-    rows_more_law binary64 a.width (value_of_line a.bytes.now (a.offset + 8 * a.first) a.line a.step) a.count 0 w.r (w.r + c.min.result) c.fill.new.self w.piece c.add_terms.new.piece (omega arith) (omega arith) (omega arith) w.invariant.3 c.add_terms.ensures
+    c.add_terms.new.piece ≡ block_more binary64 a.width (value_of_line a.bytes.now (a.offset + 8 * a.first) a.line a.step) a.count 0 bottom 0 a.width c.fill.new.self
+turn c bottom q =
+    rows_more_law binary64 _ _ _ 0 c.loop-top.top _ bottom _ c.loop-top.piece _ (omega arith) (omega arith) (omega arith) q c.loop-top.invariant.3 c.add_terms.ensures
 
-pub loop-r-preserved : goal.loop-r-preserved
-loop-r-preserved c =
-    let a = c.args in
-    let w = c.loop-r in
-    let q = c.add_terms in (
+pub loop-top-preserved : goal.loop-top-preserved
+loop-top-preserved c =
+    let w = c.loop-top in (
       omega arith,
-      q.auto.x ∙ w.invariant.1,
-      q.auto.piece ∙ w.invariant.2,
-      turn (goal.at.loop-r-preserved c).After-add_terms
-          ∙ ap (λ (z : ℕ). block_more binary64 a.width (value_of_line a.bytes.now (a.offset + 8 * a.first) a.line a.step) a.count 0 z 0 a.width c.fill.new.self) (let u : w.r + c.min.result ≡ w.r + c.rows_together-rows.result = omega arith in u),
+      c.add_terms.auto.x ∙ w.invariant.1,
+      c.add_terms.auto.piece ∙ w.invariant.2,
+      turn (goal.at.loop-top-preserved c).After-add_terms _ (omega arith),
     )
 
 -- all rows have all their terms
-finished : (c : After-fill) → (out : List Float) → (c.args.width ≡ 0 → ⊥) →
+finished : (c : After-fill) → (out : List Float) (bottom : ℕ) → (c.args.width ≡ 0 → ⊥) → bottom ≡ c.args.height →
     let a = c.args in
-    out ≡ block_more binary64 a.width (value_of_line a.bytes.now (a.offset + 8 * a.first) a.line a.step) a.count 0 a.height 0 a.width c.fill.new.self
-    → out ≡ lower_piece binary64 a.height a.width (value_of_line a.bytes.now (a.offset + 8 * a.first) a.line a.step) a.count
-finished c out some e =
+    let v = value_of_line a.bytes.now (a.offset + 8 * a.first) a.line a.step in
+    out ≡ block_more binary64 a.width v a.count 0 bottom 0 a.width c.fill.new.self → out ≡ lower_piece binary64 a.height a.width v a.count
+finished c out bottom some q e =
     let a = c.args in
     let v : ℕ → ℕ → Float = value_of_line a.bytes.now (a.offset + 8 * a.first) a.line a.step in
-    lower_all binary64 a.height a.width v a.count c.fill.new.self out (omega arith) (lower_none binary64 a.height a.width v (length a.piece.now) c.fill.new.self c.requires.2 (cleared c)) e
+    lower_all binary64 _ _ _ _ c.fill.new.self out (omega arith) (lower_none binary64 _ _ _ _ _ c.requires.2 (cleared c)) (e ∙ ap (λ (z : ℕ). block_more binary64 a.width v a.count 0 z 0 a.width c.fill.new.self) q)
 
 pub returns-else-count-eq0 : goal.returns-else-count-eq0
-returns-else-count-eq0 c =
-    let a = c.args in
-    finished (goal.at.returns-else-count-eq0 c).After-fill c.loop-r.piece c.if-width-eq0.false
-    (c.loop-r.invariant.3 ∙ ap (λ (z : ℕ). block_more binary64 a.width (value_of_line a.bytes.now (a.offset + 8 * a.first) a.line a.step) a.count 0 z 0 a.width c.fill.new.self) (let u : c.loop-r.r ≡ a.height = omega arith in u))
+returns-else-count-eq0 c = finished (goal.at.returns-else-count-eq0 c).After-fill _ _ c.if-width-eq0.false (omega arith) c.loop-top.invariant.3
 
 pub returns-else-count-eq0-2 : goal.returns-else-count-eq0-2
 returns-else-count-eq0-2 c =
-    let a = c.args in
-    finished (goal.at.returns-else-count-eq0-2 c).After-fill c.add_terms.new.piece c.if-width-eq0.false
-    (turn (goal.at.returns-else-count-eq0-2 c).After-add_terms ∙ ap (λ (z : ℕ). block_more binary64 a.width (value_of_line a.bytes.now (a.offset + 8 * a.first) a.line a.step) a.count 0 z 0 a.width c.fill.new.self) (let u : c.loop-r.r + c.min.result ≡ a.height = omega arith in u))
+    finished (goal.at.returns-else-count-eq0-2 c).After-fill _ _ c.if-width-eq0.false refl (turn (goal.at.returns-else-count-eq0-2 c).After-add_terms _ (omega arith))

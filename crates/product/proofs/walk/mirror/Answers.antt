@@ -1,8 +1,8 @@
 use mathlib.Core.Path.{◌≡◌, sym, ap, ◌∙◌}
-use Prim.Native.Nat.{ℕ, ◌+◌, ◌*◌}
+use Prim.Native.Nat.{ℕ, ◌*◌}
 use native.Mathlib.Omega.{arith}
 use lib.ListN.{length-set}
-use Rattle.product.proofs.MirrorLaws.{mirrored, mirrored_none, mirrored_all, mirrored_skip, mirrored_step}
+use Rattle.product.proofs.MirrorLaws.{mirrored, mirrored_none, mirrored_all, mirrored_step}
 use Rattle.product.proofs.walk.mirror.Goals as goal
 
 pub loop-c-preserved : goal.loop-c-preserved
@@ -11,14 +11,6 @@ loop-c-preserved c =
     let v = c.loop-r in
     let w = c.loop-c in
     (simp length-set w.invariant.0, mirrored_step a.width c.requires.0 w.piece v.r w.c (omega arith) (omega arith) (omega arith) ∙ w.invariant.1)
-
-pub loop-r-preserved : goal.loop-r-preserved
-loop-r-preserved c =
-    let v = c.loop-r in
-    let w = c.loop-c in
-    let n = c.args.width in
-    let e : (v.r + 1) * n ≡ v.r * n + w.c = (let z : w.c ≡ n = omega arith in omega arith) in
-    (w.invariant.0 ∙ v.invariant.0, ap (λ (p : ℕ). mirrored n p w.piece) e ∙ w.invariant.1 ∙ mirrored_skip n c.requires.0 v.piece v.r (omega arith) ∙ v.invariant.1)
 
 pub returns : goal.returns
 returns c =
