@@ -18,6 +18,7 @@ pub fn bed_encode1_i8(
     BedAnswer::from(bed_write::encode1::<i8>(in_vector, out_vector, is_a1_counted, missing))
 }
 
+#[tactic(auto, using(bed_answer::proofs::AnswerLaws::as_fits, bed_answer::proofs::FitLaws::encode_fits))]
 pub fn bed_encode1_f64(
     in_vector: &[f64],
     out_vector: &mut [u8],
@@ -29,6 +30,7 @@ pub fn bed_encode1_f64(
     BedAnswer::from(bed_write::encode1::<f64>(in_vector, out_vector, is_a1_counted, missing))
 }
 
+#[tactic(auto, using(bed_answer::proofs::AnswerLaws::as_fits, bed_answer::proofs::FitLaws::write_fits))]
 pub fn bed_write<T: WriteVal>(
     val: &[T],
     iid_count: usize,
