@@ -1,5 +1,5 @@
 // What a call of the C interface answers, as document 01's number with its values: from each result of the core.
-#![tactic(auto)]
+#![tactic(auto, unfolding(crate::specs::Interface::bed_answer, crate::specs::Interface::clip_answer))]
 
 ghost use Rattle.std.specs.Prelude.{◌≡◌, pos};
 ghost use Rattle.blocks.specs.Says.{div_says};
@@ -54,7 +54,7 @@ fn entry(number: u64, e: i64) -> BedAnswer
     }
 }
 
-// A number that is not negative, as a signed one.
+// A number that is not negative, as a signed one: the clauses' `clipped`, by the library's conversion. `one` and `two` cite it.
 fn clip(n: usize) -> i64
     ensures { result ≡ pos (clipped n) }
 {
@@ -82,7 +82,6 @@ fn two(number: u64, first: usize, second: usize) -> BedAnswer
 impl From<Result<u8, OpenError>> for BedAnswer {
     ghost from_gives = { λ said answer. answer ≡ bed_answer (open_says said) };
 
-    #[tactic(auto, unfolding(crate::specs::Interface::bed_answer, crate::specs::Interface::number_of, crate::specs::Interface::values_of, crate::specs::Interface::clip_answer, crate::specs::Interface::clip, crate::specs::Interface::carries_entry))]
     fn from(said: Result<u8, OpenError>) -> BedAnswer {
         match said {
             Ok(mode) => one(0, usize::from(mode)),
@@ -95,7 +94,6 @@ impl From<Result<u8, OpenError>> for BedAnswer {
 impl From<Result<usize, DivError>> for BedAnswer {
     ghost from_gives = { λ said answer. answer ≡ bed_answer (clip_answer (div_says said)) };
 
-    #[tactic(auto, unfolding(crate::specs::Interface::bed_answer, crate::specs::Interface::number_of, crate::specs::Interface::values_of, crate::specs::Interface::clip_answer, crate::specs::Interface::clip, crate::specs::Interface::carries_entry))]
     fn from(said: Result<usize, DivError>) -> BedAnswer {
         match said {
             Ok(width) => one(0, width),
@@ -108,7 +106,6 @@ impl From<Result<usize, DivError>> for BedAnswer {
 impl From<Result<(usize, usize), SpanError>> for BedAnswer {
     ghost from_gives = { λ said answer. answer ≡ bed_answer (clip_answer (span_says said)) };
 
-    #[tactic(auto, unfolding(crate::specs::Interface::bed_answer, crate::specs::Interface::number_of, crate::specs::Interface::values_of, crate::specs::Interface::clip_answer, crate::specs::Interface::clip, crate::specs::Interface::carries_entry))]
     fn from(said: Result<(usize, usize), SpanError>) -> BedAnswer {
         match said {
             Ok((lowest, length)) => two(0, lowest, length),
@@ -121,7 +118,6 @@ impl From<Result<(usize, usize), SpanError>> for BedAnswer {
 impl From<Result<Range<usize>, RangeError>> for BedAnswer {
     ghost from_gives = { λ said answer. answer ≡ bed_answer (clip_answer (range_says said)) };
 
-    #[tactic(auto, unfolding(crate::specs::Interface::bed_answer, crate::specs::Interface::number_of, crate::specs::Interface::values_of, crate::specs::Interface::clip_answer, crate::specs::Interface::clip, crate::specs::Interface::carries_entry))]
     fn from(said: Result<Range<usize>, RangeError>) -> BedAnswer {
         match said {
             Ok(range) => two(0, range.start, range.end),
@@ -134,7 +130,6 @@ impl From<Result<Range<usize>, RangeError>> for BedAnswer {
 impl From<Result<usize, ListError>> for BedAnswer {
     ghost from_gives = { λ said answer. answer ≡ bed_answer (clip_answer (list_says said)) };
 
-    #[tactic(auto, unfolding(crate::specs::Interface::bed_answer, crate::specs::Interface::number_of, crate::specs::Interface::values_of, crate::specs::Interface::clip_answer, crate::specs::Interface::clip, crate::specs::Interface::carries_entry))]
     fn from(said: Result<usize, ListError>) -> BedAnswer {
         match said {
             Ok(length) => one(0, length),
@@ -152,7 +147,6 @@ impl From<Result<usize, ListError>> for BedAnswer {
 impl From<Result<(), ReadError>> for BedAnswer {
     ghost from_gives = { λ said answer. answer ≡ bed_answer (read_says said) };
 
-    #[tactic(auto, unfolding(crate::specs::Interface::bed_answer, crate::specs::Interface::number_of, crate::specs::Interface::values_of, crate::specs::Interface::clip_answer, crate::specs::Interface::clip, crate::specs::Interface::carries_entry))]
     fn from(said: Result<(), ReadError>) -> BedAnswer {
         match said {
             Ok(()) => bare(0),
@@ -167,7 +161,6 @@ impl From<Result<(), ReadError>> for BedAnswer {
 impl From<Result<(), EncodeError>> for BedAnswer {
     ghost from_gives = { λ said answer. answer ≡ bed_answer (clip_answer (encode_says said)) };
 
-    #[tactic(auto, unfolding(crate::specs::Interface::bed_answer, crate::specs::Interface::number_of, crate::specs::Interface::values_of, crate::specs::Interface::clip_answer, crate::specs::Interface::clip, crate::specs::Interface::carries_entry))]
     fn from(said: Result<(), EncodeError>) -> BedAnswer {
         match said {
             Ok(()) => bare(0),
@@ -180,7 +173,6 @@ impl From<Result<(), EncodeError>> for BedAnswer {
 impl From<Result<(), WriteError>> for BedAnswer {
     ghost from_gives = { λ said answer. answer ≡ bed_answer (clip_answer (write_says said)) };
 
-    #[tactic(auto, unfolding(crate::specs::Interface::bed_answer, crate::specs::Interface::number_of, crate::specs::Interface::values_of, crate::specs::Interface::clip_answer, crate::specs::Interface::clip, crate::specs::Interface::carries_entry))]
     fn from(said: Result<(), WriteError>) -> BedAnswer {
         match said {
             Ok(()) => bare(0),
@@ -196,7 +188,6 @@ impl From<Result<(), WriteError>> for BedAnswer {
 impl From<Result<(), CanonicalError>> for BedAnswer {
     ghost from_gives = { λ said answer. answer ≡ bed_answer (canonical_says said) };
 
-    #[tactic(auto, unfolding(crate::specs::Interface::bed_answer, crate::specs::Interface::number_of, crate::specs::Interface::values_of, crate::specs::Interface::clip_answer, crate::specs::Interface::clip, crate::specs::Interface::carries_entry))]
     fn from(said: Result<(), CanonicalError>) -> BedAnswer {
         match said {
             Ok(()) => bare(0),
@@ -209,7 +200,6 @@ impl From<Result<(), CanonicalError>> for BedAnswer {
 impl From<Result<(), StandardiseError>> for BedAnswer {
     ghost from_gives = { λ said answer. answer ≡ bed_answer (clip_answer (standardise_says said)) };
 
-    #[tactic(auto, unfolding(crate::specs::Interface::bed_answer, crate::specs::Interface::number_of, crate::specs::Interface::values_of, crate::specs::Interface::clip_answer, crate::specs::Interface::clip, crate::specs::Interface::carries_entry))]
     fn from(said: Result<(), StandardiseError>) -> BedAnswer {
         match said {
             Ok(()) => bare(0),
@@ -225,7 +215,6 @@ impl From<Result<(), StandardiseError>> for BedAnswer {
 impl From<Result<(), JoinedError>> for BedAnswer {
     ghost from_gives = { λ said answer. answer ≡ bed_answer (clip_answer (joined_says said)) };
 
-    #[tactic(auto, unfolding(crate::specs::Interface::bed_answer, crate::specs::Interface::number_of, crate::specs::Interface::values_of, crate::specs::Interface::clip_answer, crate::specs::Interface::clip, crate::specs::Interface::carries_entry))]
     fn from(said: Result<(), JoinedError>) -> BedAnswer {
         match said {
             Ok(()) => bare(0),
@@ -242,7 +231,6 @@ impl From<Result<(), JoinedError>> for BedAnswer {
 impl From<Result<(), PieceError>> for BedAnswer {
     ghost from_gives = { λ said answer. answer ≡ bed_answer (piece_says said) };
 
-    #[tactic(auto, unfolding(crate::specs::Interface::bed_answer, crate::specs::Interface::number_of, crate::specs::Interface::values_of, crate::specs::Interface::clip_answer, crate::specs::Interface::clip, crate::specs::Interface::carries_entry))]
     fn from(said: Result<(), PieceError>) -> BedAnswer {
         match said {
             Ok(()) => bare(0),

@@ -2,16 +2,16 @@
 use mathlib.Core.Path.{◌≡◌, refl, sym, ap, subst, ◌∙◌}
 use mathlib.Core.Bool.{Bool, true, false, ◌&&◌}
 use mathlib.Core.List.{List, [], ◌∷◌}
-use Prim.Native.Nat.{ℕ, zero, suc, ◌+◌, ◌-◌, ◌*◌, ◌^◌, ◌≤◌, ◌<◌}
+use Prim.Native.Nat.{ℕ, zero, suc, ◌-◌, ◌^◌, ◌≤◌, ◌<◌}
 use native.Mathlib.Omega.{arith}
 use borrow.Author.Tests.{eq-eqb, ne_eqb, le-leb, lt-leb, eqb-true, leb-true}
 use lib.Dec.{leb, eqb}
 use lib.IntN.{ℤ, pos}
 use lib.ListN.{length, get_or}
 use Rattle.answer.specs.Answer.{Answer, done, refused, check, check_count, count_limit, counts_fit, is_done}
-use Rattle.blocks.specs.Block.{block_width, file_length, check_size, div_answer}
+use Rattle.blocks.specs.Block.{file_length, check_size, size_answer}
 use Rattle.answer.proofs.AnswerLaws.{check_passes, check_refuses, count_passes, both_fit, counts_refuse, check_done, count_done, check_other, Stage, check_stage, then_stage, heard, stays}
-use Rattle.blocks.proofs.Widths.{Sized, width_given, size_stage}
+use Rattle.blocks.proofs.Widths.{size_refuses, size_passes, size_is}
 use Rattle.bed_file.specs.File.{check_open, open_answer, check_mode, is_mode1, items, blocks, check_length, length_answer, check_file, accept_answer}
 
 -- ---- 1 and 2, by the tests in order
@@ -87,32 +87,22 @@ file_other file iids sids later m vs h e =
     (check_other (eqb (get_or file 0 0) 0x6C && eqb (get_or file 1 0) 0x1B) 2 _ m vs (λ q. omega (arith, q))
     (check_other (leb 3 (length file)) 1 _ m vs (λ q. omega (arith, q)) e))))
 
--- ---- the length's checks, by the answer of `try_div_4`
-module _ (file_len n b : ℕ) where
-  pub length_refused : (k : ℕ) → refused k [] ≡ div_answer n b → refused k [] ≡ length_answer file_len n b
-  unfolding length_answer div_answer
-  length_refused k e = sym (stays (size_stage n b) _ k [] (sym e) (check (eqb file_len (file_length n b)) 2 (done [])))
+-- ---- the length's checks, by the answer of `try_file_length`
+module _ (file_len items blocks : ℕ) where
+  pub length_refused : (k : ℕ) → refused k [] ≡ size_answer items blocks → refused k [] ≡ length_answer file_len items blocks
+  unfolding length_answer check_length
+  length_refused k e = sym (size_refuses items blocks _ k e)
 
-  module _ (w : ℕ) (e : done (pos w ∷ []) ≡ div_answer n b) where
-    size : Sized n b w
-    size = width_given n b w e
+  module _ (n : ℕ) (e : done (pos n ∷ []) ≡ size_answer items blocks) where
+    length_left : length_answer file_len items blocks ≡ check (eqb file_len n) 2 (done [])
+    unfolding length_answer check_length
+    length_left = size_passes items blocks _ n e ∙ ap (λ (k : ℕ). check (eqb file_len k) 2 (done [])) (sym (size_is items blocks n e))
 
-    whole : w * b + 3 ≡ file_length n b
-    whole = let k : w * b ≡ block_width n * b = ap (λ (x : ℕ). x * b) size.width_is in omega arith
+    pub length_right : file_len ≡ n → done [] ≡ length_answer file_len items blocks
+    length_right h = sym (length_left ∙ check_passes (eqb file_len n) 2 (done []) (eq-eqb file_len n h))
 
-    pub product_fits : w * b + 3 < 2 ^ 64
-    product_fits = let k = size.length_fits in let h = whole in omega arith
-
-    after_size : length_answer file_len n b ≡ check (eqb file_len (file_length n b)) 2 (done [])
-    unfolding length_answer div_answer
-    after_size = heard (size_stage n b) _ (sym (ap is_done e)) (check (eqb file_len (file_length n b)) 2 (done []))
-
-    pub length_right : file_len ≡ w * b + 3 → done [] ≡ length_answer file_len n b
-    length_right h = sym (after_size ∙ check_passes (eqb file_len (file_length n b)) 2 (done []) (eq-eqb file_len (file_length n b) (h ∙ whole)))
-
-    pub length_wrong : (file_len ≡ w * b + 3 → ⊥) → refused 2 [] ≡ length_answer file_len n b
-    length_wrong h =
-        sym (after_size ∙ check_refuses (eqb file_len (file_length n b)) 2 (done []) (ne_eqb file_len (file_length n b) (λ q. h (q ∙ sym whole))))
+    pub length_wrong : (file_len ≡ n → ⊥) → refused 2 [] ≡ length_answer file_len items blocks
+    length_wrong h = sym (length_left ∙ check_refuses (eqb file_len n) 2 (done []) (ne_eqb file_len n h))
 
 -- ---- acceptance, by the tests in order
 module _ (file : List ℕ) (iids sids : ℕ) where

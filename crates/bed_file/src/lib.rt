@@ -16,6 +16,7 @@ pub enum OpenError {
 }
 
 // The mode of a file: its byte 2.
+#[tactic(auto, using(crate::proofs::FileLaws::opens_short, crate::proofs::FileLaws::opens_first, crate::proofs::FileLaws::opens_second, crate::proofs::FileLaws::opens_good))]
 pub fn open_and_check(file: &[u8]) -> Result<u8, OpenError>
     ensures { open_says result ≡ open_answer file.now }
 {
@@ -78,17 +79,19 @@ impl From<DivError> for FileError {
 }
 
 // 18, then 4, then 2 for the length.
+#[tactic(auto, using(crate::proofs::FileLaws::length_refused, crate::proofs::FileLaws::length_right, crate::proofs::FileLaws::length_wrong))]
 pub fn check_length(file_len: usize, items: usize, blocks: usize) -> Result<(), FileError>
     ensures { accept_says result ≡ length_answer file_len items blocks }
 {
-    let width = blocks::try_div_4(items, blocks)?;
-    if file_len != width * blocks + 3 {
+    let length = blocks::try_file_length(items, blocks)?;
+    if file_len != length {
         return Err(FileError::IllFormed);
     }
     Ok(())
 }
 
 // Whether a file is accepted for two counts.
+#[tactic(auto, using(crate::proofs::FileLaws::accept_too_large, crate::proofs::FileLaws::accept_not_open, crate::proofs::FileLaws::accept_bad_mode, crate::proofs::FileLaws::accept_mode_1, crate::proofs::FileLaws::accept_mode_0))]
 pub fn accept(file: &[u8], iid_count: usize, sid_count: usize) -> Result<(), FileError>
     ensures { accept_says result ≡ accept_answer file.now iid_count sid_count }
 {

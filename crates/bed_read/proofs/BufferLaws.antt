@@ -1,8 +1,9 @@
 -- The later value buffer of reading, once over the width of values.
 use mathlib.Core.Path.{◌≡◌, sym, ap, ◌∙◌}
-use mathlib.Core.Bool.{Bool, true, false}
+use mathlib.Core.Bool.{Bool, true, false, not, cond}
 use mathlib.Core.List.{List, map}
 use Prim.Native.Nat.{ℕ, ◌*◌, ◌/◌, ◌%◌, ◌<◌}
+use native.Mathlib.Omega.{arith}
 use lib.IntN.{ℤ}
 use lib.ListN.{length, get_or}
 use Rattle.answer.specs.Answer.{is_done}
@@ -16,13 +17,14 @@ use Rattle.answer.proofs.MatrixLaws.{length_matrix, get_d_matrix, map_matrix}
 use Rattle.answer.proofs.Tabulate.{tabulate_ext, map_tabulate}
 use Rattle.bed_file.proofs.FileLaws.{accepted}
 use Rattle.calls.specs.declared.Shape.{Shape}
-use Rattle.calls.specs.Places.{IsShape, Shaped}
+use Rattle.calls.specs.Places.{IsShape}
 use Rattle.calls.proofs.PlaceLaws.{shape_read}
 use Rattle.bed_read.specs.Reading.{read_code, read_answer, codes_read, values_read, read_buffer}
-use Rattle.bed_read.specs.Private.{Ready, value_in, lines_read}
+use Rattle.calls.specs.Lists.{count_of, Ready}
+use Rattle.bed_read.specs.Private.{value_in, ByCode, lines_read}
 use Rattle.calls.proofs.CallLaws.{call_below}
-use Rattle.bed_read.proofs.ReadLaws.{Readable}
-use Rattle.bed_read.proofs.TableLaws.{made_value}
+use Rattle.bed_read.proofs.ReadLaws.{Checked}
+use Rattle.bed_read.proofs.TableLaws.{made_value, made_by_code}
 
 -- every code that is read is a code
 pub read_below : (file : List ℕ) (iids sids : ℕ) (il sl : List ℤ) (k m : ℕ) → read_code file iids sids il sl k m < 4
@@ -42,6 +44,11 @@ map_codes f g e false file iids sids il sl =
     map_tabulate f (length il * length sl) (λ p. read_code file iids sids il sl (p % length il) (p / length il))
     ∙ tabulate_ext (length il * length sl) _ _ (λ p h. e (read_code file iids sids il sl (p % length il) (p / length il)) (read_below file iids sids il sl (p % length il) (p / length il)))
     ∙ sym (map_tabulate g (length il * length sl) (λ p. read_code file iids sids il sl (p % length il) (p / length il)))
+
+-- a table of the values has one for each code
+pub table_made :
+    {V : Type 0} (W : Width V) (flag : Bool) (missing d : V) (items table : List V) → table ≡ items → items ≡ map (value_of W flag missing) code_table → ByCode table d
+table_made W flag missing d items table e f = made_by_code d (value_of W flag missing) table (e ∙ f)
 
 -- the matrix by a table of the values
 pub table_read :
@@ -82,23 +89,34 @@ unfolding read_buffer
 buffer_values w file iids sids flag il sl missing order old d = new_if_done (read_answer file iids sids il sl (length old)) _ old d
 
 -- ---- from the checks
-module _ (file : List ℕ) (iids sids : ℕ) (il sl : List ℤ) (n : ℕ) (r : Readable file iids sids il sl n) (shape : Shape) (e : IsShape file iids sids shape) where
-  pub shaped : Shaped file shape
-  shaped = shape_read file iids sids shape e (accepted file iids sids r.is_accepted).length_is
-
-  iids_good : first_bad shape.iids il ≡ None
-  iids_good = ap (λ (x : ℕ). first_bad x il) e.iids_are ∙ r.iids_good
-
-  sids_good : first_bad shape.sids sl ≡ None
-  sids_good = ap (λ (x : ℕ). first_bad x sl) e.sids_are ∙ r.sids_good
-
+module _ (m : ℕ) (file : List ℕ) (iids sids : ℕ) (il sl : List ℤ) (n : ℕ) (r : Checked m file iids sids il sl n) (shape : Shape) (e : IsShape file iids sids shape) where
   -- lines of animals, and lines of markers
-  pub ready_iids : Ready file shape true il sl
-  ready_iids = record { shaped = shaped; outer_good = iids_good; inner_good = sids_good }
+  pub ready_lines : (animals : Bool) → Ready file shape animals (cond animals il sl) (cond animals sl il)
+  ready_lines animals =
+      let a = accepted file iids sids r.is_accepted in
+      record {
+        shaped = shape_read file iids sids shape e a.length_is;
+        iids_fit = (let i = e.iids_are in let f = a.iids_fit in omega arith);
+        sids_fit = (let s = e.sids_are in let f = a.sids_fit in omega arith);
+        outer_good = outer animals;
+        inner_good = inner animals;
+      }
+    where
+      iids_good : first_bad shape.iids il ≡ None
+      iids_good = ap (λ (x : ℕ). first_bad x il) e.iids_are ∙ r.iids_good
 
-  pub ready_sids : Ready file shape false sl il
-  ready_sids = record { shaped = shaped; outer_good = sids_good; inner_good = iids_good }
+      sids_good : first_bad shape.sids sl ≡ None
+      sids_good = ap (λ (x : ℕ). first_bad x sl) e.sids_are ∙ r.sids_good
 
+      outer : (b : Bool) → first_bad (count_of b shape) (cond b il sl) ≡ None
+      outer true = iids_good
+      outer false = sids_good
+
+      inner : (b : Bool) → first_bad (count_of (not b) shape) (cond b sl il) ≡ None
+      inner true = sids_good
+      inner false = iids_good
+
+module _ (file : List ℕ) (iids sids : ℕ) (il sl : List ℤ) (shape : Shape) (e : IsShape file iids sids shape) where
   -- the buffer where reading is done
   pub buffer_read :
       {V : Type 0} (W : Width V) (flag : Bool) (missing : V) (order b : Bool) (old new : List V)

@@ -9,9 +9,11 @@ use lib.IntN.{ℤ}
 use lib.ListN.{length, get_or}
 use Rattle.calls.specs.declared.Shape.{Shape}
 use Rattle.calls.specs.Places.{is_block}
-use Rattle.bed_read.specs.declared.tile.Tile.{Tile}
-use Rattle.bed_read.specs.Private.{Ready, entry_byte, entry_place, AllInOrder, EntryParts, Inside, value_in, place_value, line_value, lines_read, Drawn, ReadTo}
-use Rattle.bed_read.proofs.PartLaws.{block_line, tile_inside, tile_value_law, order_value}
+use Rattle.calls.specs.declared.parts.Parts.{Parts}
+use Rattle.calls.specs.Lists.{Ready, entry_byte, entry_place, is_along_block, EntryParts, Inside}
+use Rattle.calls.proofs.ListLaws.{block_place, parts_inside}
+use Rattle.bed_read.specs.Private.{value_in, place_value, line_value, lines_read, Drawn, ReadTo}
+use Rattle.bed_read.proofs.PartLaws.{parts_value, along_value}
 use Rattle.bed_read.proofs.TileLaws.{Tiled, tile_more, rows_none, rows_all, all_read}
 
 -- the matrix that is read: every line up to `from`, and the lines before line o up to `until`
@@ -26,7 +28,7 @@ module _ {A : Type 0} (table : List A) (d : A) (file : List ℕ) (shape : Shape)
     (val new : List A) (o : ℕ) where
   -- a line whose places are items in animals
   pub block_read :
-      AllInOrder shape (not animals) inner → (byte : ℕ) → byte ≡ entry_byte shape animals outer o → o < length outer
+      is_along_block shape (not animals) inner ≡ true → (byte : ℕ) → byte ≡ entry_byte shape animals outer o → o < length outer
       → Drawn d 1 (length inner) (λ _ k. o * length inner + k) (λ _ k. place_value (value_in table d) file (byte + k / 4) (k % 4)) val (length inner) new
       → ReadTile animals table d file shape outer inner val 0 (length inner) o
       → ReadTile animals table d file shape outer inner new 0 (length inner) (o + 1)
@@ -34,7 +36,7 @@ module _ {A : Type 0} (table : List A) (d : A) (file : List ℕ) (shape : Shape)
       tile_more _ d _ _ val new 0 (length inner) o 1 (length inner) _ _ (omega arith) t f (omega arith) (omega arith)
       (λ j k b c. let e = placed o j k 0 (length inner) in let z : j * length inner ≡ 0 = first j b in omega arith)
       (λ j k b c.
-      order_value file shape animals outer inner r i o byte h eb (value_in table d) k (omega arith)
+      along_value (value_in table d) file shape animals outer inner r i o byte h eb k (omega arith)
       ∙ ap (λ (x : ℕ). line_value animals (value_in table d) file shape outer inner x k) (let z = only j b in omega arith)
       ∙ ap (line_value animals (value_in table d) file shape outer inner (o + j)) (omega arith))
     where
@@ -45,18 +47,18 @@ module _ {A : Type 0} (table : List A) (d : A) (file : List ℕ) (shape : Shape)
       first zero b = omega arith
       first (suc j) b = absurd (omega arith)
 
-  module _ (from until : ℕ) (tile : Tile) (u : until ≤ length inner) (s : EntryParts shape (not animals) inner from until tile)
+  module _ (from until : ℕ) (parts : Parts) (u : until ≤ length inner) (s : EntryParts shape (not animals) inner from until parts)
       (t : ReadTile animals table d file shape outer inner val from until o) where
     -- a line with a resolved tile
     pub line_read :
         (byte place : ℕ) → byte ≡ entry_byte shape animals outer o → place ≡ entry_place shape animals outer o → o < length outer
-        → Drawn d 1 (until - from) (λ _ k. o * length inner + from + k) (λ _ k. place_value (value_in table d) file (byte + get_or tile.bytes k 0) (place + get_or tile.places k 0)) val (until - from) new
+        → Drawn d 1 (until - from) (λ _ k. o * length inner + from + k) (λ _ k. place_value (value_in table d) file (byte + get_or parts.bytes k 0) (place + get_or parts.places k 0)) val (until - from) new
         → ReadTile animals table d file shape outer inner new from until (o + 1)
     line_read byte place eb ep h f =
         tile_more _ d _ _ val new from until o 1 (until - from) _ _ refl t f (omega arith) u
         (λ j k b c. let e = placed o j k from (length inner) in let z : j * length inner ≡ 0 = first j b in omega arith)
         (λ j k b c.
-        tile_value_law file shape animals outer inner r from until tile s u o byte place h eb ep (value_in table d) k c
+        parts_value (value_in table d) file shape animals outer inner r from until parts s u o byte place h eb ep k c
         ∙ ap (λ (x : ℕ). line_value animals (value_in table d) file shape outer inner x (from + k)) (let z = only j b in omega arith))
       where
         only : (j : ℕ) → j < 1 → j ≡ 0
@@ -69,20 +71,20 @@ module _ {A : Type 0} (table : List A) (d : A) (file : List ℕ) (shape : Shape)
     -- four lines that are blocks
     module _ (starts : List ℕ) (es : (j : ℕ) → j < 4 → get_or starts j 0 ≡ entry_byte shape animals outer (o + j)) (blocks : is_block shape.mode1 animals ≡ true)
         (h : o + 4 ≤ length outer) where
-      pub four_inside : (j : ℕ) → j < 4 → Inside file (get_or starts j 0) 0 tile (until - from)
+      pub four_inside : (j : ℕ) → j < 4 → Inside file (get_or starts j 0) 0 parts (until - from)
       four_inside j b =
-          tile_inside file shape animals outer inner r from until tile s u (o + j) (get_or starts j 0) 0 (omega arith) (es j b)
-          (sym (block_line shape animals outer (o + j) blocks))
+          parts_inside file shape animals outer inner r from until parts s u (o + j) (get_or starts j 0) 0 (omega arith) (es j b)
+          (sym (block_place shape animals outer (o + j) blocks))
 
       pub four_read :
-          Drawn d 4 (until - from) (λ j k. o * length inner + from + j * length inner + k) (λ j k. place_value (value_in table d) file (get_or starts j 0 + get_or tile.bytes k 0) (get_or tile.places k 0)) val (until - from) new
+          Drawn d 4 (until - from) (λ j k. o * length inner + from + j * length inner + k) (λ j k. place_value (value_in table d) file (get_or starts j 0 + get_or parts.bytes k 0) (get_or parts.places k 0)) val (until - from) new
           → ReadTile animals table d file shape outer inner new from until (o + 4)
       four_read f =
           tile_more _ d _ _ val new from until o 4 (until - from) _ _ refl t f h u (λ j k b c. placed o j k from (length inner))
           (λ j k b c.
-          ap (place_value (value_in table d) file (get_or starts j 0 + get_or tile.bytes k 0)) (omega arith)
-          ∙ tile_value_law file shape animals outer inner r from until tile s u (o + j) (get_or starts j 0) 0 (omega arith) (es j b)
-          (sym (block_line shape animals outer (o + j) blocks)) (value_in table d) k c)
+          ap (place_value (value_in table d) file (get_or starts j 0 + get_or parts.bytes k 0)) (omega arith)
+          ∙ parts_value (value_in table d) file shape animals outer inner r from until parts s u (o + j) (get_or starts j 0) 0 (omega arith) (es j b)
+          (sym (block_place shape animals outer (o + j) blocks)) k c)
 
 -- ---- the whole matrix
 module _ {A : Type 0} (table : List A) (d : A) (file : List ℕ) (shape : Shape) (animals : Bool) (outer inner : List ℤ) (val : List A) where

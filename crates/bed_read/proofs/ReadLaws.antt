@@ -5,7 +5,7 @@ use mathlib.Core.List.{List, [], ◌∷◌}
 use Rattle.std.specs.Prelude.{Some, None, Result, Ok, Err, IsErrAnd}
 use Prim.Native.Nat.{ℕ, ◌*◌, ◌^◌, ◌<◌, ◌≤◌}
 use native.Mathlib.Omega.{arith}
-use borrow.Author.Tests.{eq-eqb, eqb-true}
+use borrow.Author.Tests.{eq-eqb, eqb-true, le-leb}
 use lib.Dec.{eqb}
 use lib.IntN.{ℤ}
 use lib.ListN.{length}
@@ -13,9 +13,9 @@ use lib.Signed.{mag}
 use mir.Syntax.{w64}
 use mir.Val.{of_z, to_z}
 use mir.ValLaws.{to_z-of_z}
-use Rattle.answer.specs.Answer.{Answer, done, refused, check, count_limit, is_done}
+use Rattle.answer.specs.Answer.{Answer, done, refused, check, count_limit, counts_fit, is_done}
 use Rattle.entries.specs.Entry.{first_bad}
-use Rattle.answer.proofs.AnswerLaws.{check_passes, check_refuses, count_passes, count_refuses, entry_passes, entry_refuses, check_done, count_done, entry_done, entry_other, Stage, lets, refuses, entry_stage, then_stage, stays, before_later}
+use Rattle.answer.proofs.AnswerLaws.{check_passes, check_refuses, count_passes, both_fit, counts_refuse, entry_passes, entry_refuses, check_done, count_done, entry_done, entry_other, Stage, lets, refuses, entry_stage, then_stage, stays, before_later}
 use Rattle.bed_file.specs.File.{check_file, accept_answer}
 use Rattle.bed_file.specs.declared.FileError.{FileError}
 use Rattle.bed_file.specs.Says.{file_number}
@@ -25,37 +25,35 @@ use Rattle.bed_read.specs.Says.{read_says}
 use Rattle.bed_read.specs.Reading.{check_lists, lists_answer, checks_answer, read_answer}
 use Rattle.bed_file.proofs.FileLaws.{accepted, accept_file, file_stage}
 
+fit_both : (a b : ℕ) → a ≤ count_limit → b ≤ count_limit → counts_fit a b ≡ true
+fit_both a b h k = rw (le-leb a count_limit h) (le-leb b count_limit k)
+
 -- ---- the lists' checks, in order
 module _ (iids sids : ℕ) (il sl : List ℤ) where
-  pub lists_first : count_limit < iids → refused 18 [] ≡ lists_answer iids sids il sl
+  pub lists_too_large : counts_fit iids sids ≡ false → refused 18 [] ≡ lists_answer iids sids il sl
   unfolding lists_answer
-  lists_first h = sym (count_refuses iids _ h)
+  lists_too_large e = sym (counts_refuse iids sids _ e)
 
-  module _ (hi : iids ≤ count_limit) where
-    pub lists_second : count_limit < sids → refused 18 [] ≡ lists_answer iids sids il sl
+  module _ (fits : counts_fit iids sids ≡ true) where
+    lists_counted : lists_answer iids sids il sl ≡ check_lists iids sids il sl (done [])
     unfolding lists_answer
-    lists_second h = sym (count_passes iids _ hi ∙ count_refuses sids _ h)
+    lists_counted = let h = both_fit iids sids fits in count_passes iids _ h.0 ∙ count_passes sids _ h.1
 
-    module _ (hs : sids ≤ count_limit) where
-      lists_counted : lists_answer iids sids il sl ≡ check_lists iids sids il sl (done [])
-      unfolding lists_answer
-      lists_counted = count_passes iids _ hi ∙ count_passes sids _ hs
+    -- an entry held in 64 bits is the entry
+    pub lists_5 : (e : ℤ) → first_bad iids il ≡ Some e → mag e < 2 ^ 63 → refused 5 (to_z w64 (of_z w64 e) ∷ []) ≡ lists_answer iids sids il sl
+    unfolding check_lists
+    lists_5 e b f = ap (λ (x : ℤ). refused 5 (x ∷ [])) (to_z-of_z w64 e (record { sfits = f })) ∙ sym (lists_counted ∙ entry_refuses (first_bad iids il) 5 _ e b)
 
-      -- an entry held in 64 bits is the entry
-      pub lists_5 : (e : ℤ) → first_bad iids il ≡ Some e → mag e < 2 ^ 63 → refused 5 (to_z w64 (of_z w64 e) ∷ []) ≡ lists_answer iids sids il sl
+    module _ (g : first_bad iids il ≡ None) where
+      pub lists_6 : (e : ℤ) → first_bad sids sl ≡ Some e → mag e < 2 ^ 63 → refused 6 (to_z w64 (of_z w64 e) ∷ []) ≡ lists_answer iids sids il sl
       unfolding check_lists
-      lists_5 e b f = ap (λ (x : ℤ). refused 5 (x ∷ [])) (to_z-of_z w64 e (record { sfits = f })) ∙ sym (lists_counted ∙ entry_refuses (first_bad iids il) 5 _ e b)
+      lists_6 e b f =
+          ap (λ (x : ℤ). refused 6 (x ∷ [])) (to_z-of_z w64 e (record { sfits = f }))
+          ∙ sym (lists_counted ∙ entry_passes (first_bad iids il) 5 _ g ∙ entry_refuses (first_bad sids sl) 6 _ e b)
 
-      module _ (g : first_bad iids il ≡ None) where
-        pub lists_6 : (e : ℤ) → first_bad sids sl ≡ Some e → mag e < 2 ^ 63 → refused 6 (to_z w64 (of_z w64 e) ∷ []) ≡ lists_answer iids sids il sl
-        unfolding check_lists
-        lists_6 e b f =
-            ap (λ (x : ℤ). refused 6 (x ∷ [])) (to_z-of_z w64 e (record { sfits = f }))
-            ∙ sym (lists_counted ∙ entry_passes (first_bad iids il) 5 _ g ∙ entry_refuses (first_bad sids sl) 6 _ e b)
-
-        pub lists_good : first_bad sids sl ≡ None → done [] ≡ lists_answer iids sids il sl
-        unfolding check_lists
-        lists_good b = sym (lists_counted ∙ entry_passes (first_bad iids il) 5 _ g ∙ entry_passes (first_bad sids sl) 6 _ b)
+      pub lists_good : first_bad sids sl ≡ None → done [] ≡ lists_answer iids sids il sl
+      unfolding check_lists
+      lists_good b = sym (lists_counted ∙ entry_passes (first_bad iids il) 5 _ g ∙ entry_passes (first_bad sids sl) 6 _ b)
 
 -- a refusal by a number above 6 is not the lists'
 pub lists_other : (iids sids : ℕ) (il sl : List ℤ) (later : Answer) (n : ℕ) (vs : List ℤ) → 6 < n → check_lists iids sids il sl later ≡ refused n vs → later ≡ refused n vs
@@ -68,32 +66,28 @@ module _ (m : ℕ) (file : List ℕ) (iids sids : ℕ) (il sl : List ℤ) (val_l
   abbrev lists : Answer
   lists = check_lists iids sids il sl (done [])
 
-  pub read_first : count_limit < iids → refused 18 [] ≡ checks_answer m file iids sids il sl val_length
-  read_first h = sym (count_refuses iids _ h)
+  pub read_too_large : counts_fit iids sids ≡ false → refused 18 [] ≡ checks_answer m file iids sids il sl val_length
+  read_too_large e = sym (counts_refuse iids sids _ e)
 
-  module _ (hi : iids ≤ count_limit) where
-    pub read_second : count_limit < sids → refused 18 [] ≡ checks_answer m file iids sids il sl val_length
-    read_second h = sym (count_passes iids _ hi ∙ count_refuses sids _ h)
+  module _ (fits : counts_fit iids sids ≡ true) where
+    after_counts : checks_answer m file iids sids il sl val_length ≡ check (eqb (m * length sl) val_length) 15 (check_file file iids sids lists)
+    after_counts = let h = both_fit iids sids fits in count_passes iids _ h.0 ∙ count_passes sids _ h.1
 
-    module _ (hs : sids ≤ count_limit) where
-      after_counts : checks_answer m file iids sids il sl val_length ≡ check (eqb (m * length sl) val_length) 15 (check_file file iids sids lists)
-      after_counts = count_passes iids _ hi ∙ count_passes sids _ hs
+    module _ (b : Bool) (e : b ≡ eqb (m * length sl) val_length) where
+      pub read_mismatch : b ≡ false → refused 15 [] ≡ checks_answer m file iids sids il sl val_length
+      read_mismatch f = sym (after_counts ∙ check_refuses (eqb (m * length sl) val_length) 15 (check_file file iids sids lists) (sym e ∙ f))
 
-      module _ (b : Bool) (e : b ≡ eqb (m * length sl) val_length) where
-        pub read_mismatch : b ≡ false → refused 15 [] ≡ checks_answer m file iids sids il sl val_length
-        read_mismatch f = sym (after_counts ∙ check_refuses (eqb (m * length sl) val_length) 15 (check_file file iids sids lists) (sym e ∙ f))
+      module _ (t : b ≡ true) where
+        after_product : checks_answer m file iids sids il sl val_length ≡ check_file file iids sids lists
+        after_product = after_counts ∙ check_passes (eqb (m * length sl) val_length) 15 (check_file file iids sids lists) (sym e ∙ t)
 
-        module _ (t : b ≡ true) where
-          after_product : checks_answer m file iids sids il sl val_length ≡ check_file file iids sids lists
-          after_product = after_counts ∙ check_passes (eqb (m * length sl) val_length) 15 (check_file file iids sids lists) (sym e ∙ t)
+        pub read_not_accepted : (n : ℕ) → refused n [] ≡ accept_answer file iids sids → refused n [] ≡ checks_answer m file iids sids il sl val_length
+        read_not_accepted n a =
+            sym (after_product ∙ stays (file_stage file iids sids) [] n [] (sym (a ∙ accept_file file iids sids fits)) lists)
 
-          pub read_not_accepted : (n : ℕ) → refused n [] ≡ accept_answer file iids sids → refused n [] ≡ checks_answer m file iids sids il sl val_length
-          read_not_accepted n a =
-              sym (after_product ∙ stays (file_stage file iids sids) [] n [] (sym (a ∙ accept_file file iids sids hi hs)) lists)
-
-          pub read_lists : (a : Answer) → done [] ≡ accept_answer file iids sids → a ≡ lists_answer iids sids il sl → a ≡ checks_answer m file iids sids il sl val_length
-          read_lists a d l =
-              l ∙ lists_counted iids sids il sl hi hs ∙ sym (after_product ∙ (accepted file iids sids (sym (ap is_done d))).heard_later lists)
+        pub read_lists : (a : Answer) → done [] ≡ accept_answer file iids sids → a ≡ lists_answer iids sids il sl → a ≡ checks_answer m file iids sids il sl val_length
+        read_lists a d l =
+            l ∙ lists_counted iids sids il sl fits ∙ sym (after_product ∙ (accepted file iids sids (sym (ap is_done d))).heard_later lists)
 
 -- reading's, by them
 pub read_checks : (file : List ℕ) (iids sids : ℕ) (il sl : List ℤ) (val_length : ℕ) → read_answer file iids sids il sl val_length ≡ checks_answer (length il) file iids sids il sl val_length
@@ -107,7 +101,7 @@ pub read_accepted :
 read_accepted file iids sids il sl val_length d =
     let a = accepted file iids sids d in
     read_checks file iids sids il sl val_length
-    ∙ after_counts (length il) file iids sids il sl val_length a.iids_fit a.sids_fit
+    ∙ after_counts (length il) file iids sids il sl val_length (fit_both iids sids a.iids_fit a.sids_fit)
     ∙ ap (check (eqb (length il * length sl) val_length) 15) (a.heard_later (check_lists iids sids il sl (done [])))
 
 -- the lists' checks by their parts
@@ -151,7 +145,7 @@ checked m file iids sids il sl val_length d =
     let a = count_done iids _ d in
     let b = count_done sids _ a.1 in
     let c = check_done (eqb (m * length sl) val_length) 15 _ b.1 in
-    let acc : is_done (accept_answer file iids sids) ≡ true = ap is_done (accept_file file iids sids a.0 b.0) ∙ before_later (file_stage file iids sids) _ c.1 in
+    let acc : is_done (accept_answer file iids sids) ≡ true = ap is_done (accept_file file iids sids (fit_both iids sids a.0 b.0)) ∙ before_later (file_stage file iids sids) _ c.1 in
     let l = lists_done iids sids il sl (done []) (subst (λ (x : Answer). is_done x ≡ true) ((accepted file iids sids acc).heard_later (check_lists iids sids il sl (done []))) c.1) in
     record {
       product = eqb-true (m * length sl) val_length c.0;

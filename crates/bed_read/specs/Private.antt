@@ -1,69 +1,19 @@
 -- What only private functions speak in.
-use Rattle.std.specs.Prelude.{◌≡◌, Bool, true, false, not, cond, List, map, ℕ, ◌+◌, ◌-◌, ◌*◌, ◌/◌, ◌%◌, ◌<◌, ◌≤◌, ℤ, pos, length, get_or, set}
-use Rattle.std.specs.Prelude.{None}
+use Rattle.std.specs.Prelude.{◌≡◌, Bool, true, false, cond, List, map, ℕ, ◌+◌, ◌*◌, ◌/◌, ◌%◌, ◌<◌, ◌≤◌, ℤ, length, get_or, set}
 use Rattle.codes.specs.Code.{code_at, code_table}
-use Rattle.entries.specs.Entry.{first_bad, means}
-use Rattle.calls.specs.declared.Part.{Part}
 use Rattle.calls.specs.declared.Shape.{Shape}
-use Rattle.calls.specs.Places.{Shaped, is_block, part_byte, part_place}
-use Rattle.bed_read.specs.declared.tile.Tile.{Tile}
+use Rattle.calls.specs.declared.parts.Parts.{Parts}
+use Rattle.calls.specs.Lists.{entry_byte, Inside}
 use Rattle.bed_read.specs.Reading.{read_code, codes_read}
 
--- ---- the two lists: one names the lines of the matrix, the outer one, and the other the places of each line, the inner one
--- how many animals (true) or markers a file has
-abbrev pub count_of : Bool → Shape → ℕ
-count_of animals shape = cond animals shape.iids shape.sids
-
--- an accepted file, and both lists are good: the outer list is of animals (true) or of markers, the inner list of the other kind
-pub record Ready (file : List ℕ) (shape : Shape) (animals : Bool) (outer inner : List ℤ) : Type 0 where
-  pub shaped : Shaped file shape
-  pub outer_good : first_bad (count_of animals shape) outer ≡ None
-  pub inner_good : first_bad (count_of (not animals) shape) inner ≡ None
-
--- ---- what the entries of a list of animals (true) or of markers add to where a call stands
--- the number that entry k means
-unfoldable pub entry_number : Shape → Bool → List ℤ → ℕ → ℕ
-entry_number shape animals list k = means (count_of animals shape) (get_or list k (pos 0))
-
--- what that number adds to the byte
-unfoldable pub entry_byte : Shape → Bool → List ℤ → ℕ → ℕ
-entry_byte shape animals list k = part_byte (is_block shape.mode1 animals) shape.width (entry_number shape animals list k)
-
--- and to the place in it
-unfoldable pub entry_place : Shape → Bool → List ℤ → ℕ → ℕ
-entry_place shape animals list k = part_place (is_block shape.mode1 animals) (entry_number shape animals list k)
-
--- what entry k adds
-pub record IsEntryPart (shape : Shape) (animals : Bool) (list : List ℤ) (k : ℕ) (part : Part) : Type 0 where
-  pub byte_is : part.byte ≡ entry_byte shape animals list k
-  pub place_is : part.place ≡ entry_place shape animals list k
-
--- what the entries from `from` to `until` add
-pub record EntryParts (shape : Shape) (animals : Bool) (list : List ℤ) (from until : ℕ) (tile : Tile) : Type 0 where
-  pub byte_is : (k : ℕ) → k < until - from → get_or tile.bytes k 0 ≡ entry_byte shape animals list (from + k)
-  pub place_is : (k : ℕ) → k < until - from → get_or tile.places k 0 ≡ entry_place shape animals list (from + k)
-
+-- ---- lines and their places
 -- what the four entries from o on add to the byte
 abbrev pub FourBytes : Shape → Bool → List ℤ → ℕ → List ℕ → Type 0
 FourBytes shape animals list o bytes = (j : ℕ) → j < 4 → get_or bytes j 0 ≡ entry_byte shape animals list (o + j)
 
--- the first n entries are the items 0, 1, 2 and so on
-pub record InOrder (shape : Shape) (animals : Bool) (list : List ℤ) (n : ℕ) : Type 0 where
-  pub byte_is : (k : ℕ) → k < n → entry_byte shape animals list k ≡ k / 4
-  pub place_is : (k : ℕ) → k < n → entry_place shape animals list k ≡ k % 4
-
--- all entries are
-abbrev pub AllInOrder : Shape → Bool → List ℤ → Type 0
-AllInOrder shape animals list = InOrder shape animals list (length list)
-
--- bytes in the file and places in a byte: a line's, with those of n entries
-pub record Inside (file : List ℕ) (byte place : ℕ) (tile : Tile) (n : ℕ) : Type 0 where
-  pub byte_in : (k : ℕ) → k < n → byte + get_or tile.bytes k 0 < length file
-  pub place_in : (k : ℕ) → k < n → place + get_or tile.places k 0 < 4
-
--- the same of four lines that are blocks
-abbrev pub FourInside : List ℕ → List ℕ → Tile → ℕ → Type 0
-FourInside file starts tile n = (j : ℕ) → j < 4 → Inside file (get_or starts j 0) 0 tile n
+-- bytes in the file and places in a byte: those of four lines that are blocks, with those of n entries
+abbrev pub FourInside : List ℕ → List ℕ → Parts → ℕ → Type 0
+FourInside file starts parts n = (j : ℕ) → j < 4 → Inside file (get_or starts j 0) 0 parts n
 
 -- ---- values
 -- the value that a table of 1,024 values has for a code: byte c has code c at place 0
@@ -79,12 +29,12 @@ unfoldable pub place_value : {A : Type 0} → (ℕ → A) → List ℕ → ℕ �
 place_value v file byte place = v (code_at (get_or file byte 0) place)
 
 -- the value of entry k in the block that starts at a byte
-abbrev pub entry_value : {A : Type 0} → List A → A → List ℕ → ℕ → Tile → ℕ → A
-entry_value table d file start tile k = place_value (value_in table d) file (start + get_or tile.bytes k 0) (get_or tile.places k 0)
+abbrev pub entry_value : {A : Type 0} → List A → A → List ℕ → ℕ → Parts → ℕ → A
+entry_value table d file start parts k = place_value (value_in table d) file (start + get_or parts.bytes k 0) (get_or parts.places k 0)
 
 -- and in block j of those that start at some bytes
-abbrev pub block_value : {A : Type 0} → List A → A → List ℕ → List ℕ → Tile → ℕ → ℕ → A
-block_value table d file starts tile j k = entry_value table d file (get_or starts j 0) tile k
+abbrev pub block_value : {A : Type 0} → List A → A → List ℕ → List ℕ → Parts → ℕ → ℕ → A
+block_value table d file starts parts j k = entry_value table d file (get_or starts j 0) parts k
 
 -- the value for place o of the outer list and place t of the inner one
 unfoldable pub line_value : {A : Type 0} → Bool → (ℕ → A) → List ℕ → Shape → List ℤ → List ℤ → ℕ → ℕ → A
@@ -121,9 +71,9 @@ DrawnInOrder table d file start at n old k new =
     Drawn d 1 n (λ _ i. at + i) (λ _ i. place_value (value_in table d) file (start + i / 4) (i % 4)) old k new
 
 -- of one line from place `at` on: resolved entries
-abbrev pub DrawnLine : {A : Type 0} → List A → A → List ℕ → ℕ → ℕ → Tile → ℕ → ℕ → List A → ℕ → List A → Type 0
-DrawnLine table d file byte place tile at n old k new =
-    Drawn d 1 n (λ _ i. at + i) (λ _ i. place_value (value_in table d) file (byte + get_or tile.bytes i 0) (place + get_or tile.places i 0)) old k new
+abbrev pub DrawnLine : {A : Type 0} → List A → A → List ℕ → ℕ → ℕ → Parts → ℕ → ℕ → List A → ℕ → List A → Type 0
+DrawnLine table d file byte place parts at n old k new =
+    Drawn d 1 n (λ _ i. at + i) (λ _ i. place_value (value_in table d) file (byte + get_or parts.bytes i 0) (place + get_or parts.places i 0)) old k new
 
 -- every line of a matrix is filled up to place `from`: g o t is what belongs at place t of line o
 pub record Rows {A : Type 0} (g : ℕ → ℕ → A) (d : A) (outer inner : ℕ) (val : List A) (from : ℕ) : Type 0 where

@@ -24,6 +24,7 @@ impl From<FileError> for ReadError {
 }
 
 // The lists' checks by themselves: 18, then 5 for the animal list, then 6 for the marker list.
+#[tactic(auto, using(crate::proofs::ReadLaws::lists_too_large, crate::proofs::ReadLaws::lists_5, crate::proofs::ReadLaws::lists_6, crate::proofs::ReadLaws::lists_good))]
 pub fn check_lists(
     iid_count: usize,
     sid_count: usize,
@@ -32,10 +33,7 @@ pub fn check_lists(
 ) -> Result<(), ReadError>
     ensures { read_says result ≡ lists_answer iid_count sid_count iid_index.now sid_index.now }
 {
-    if iid_count > answer::COUNT_LIMIT {
-        return Err(ReadError::File(FileError::CountTooLarge));
-    }
-    if sid_count > answer::COUNT_LIMIT {
+    if !answer::counts_fit(iid_count, sid_count) {
         return Err(ReadError::File(FileError::CountTooLarge));
     }
     if let Some(e) = entries::first_bad(iid_count, iid_index) {
@@ -48,6 +46,8 @@ pub fn check_lists(
 }
 
 // All checks of reading, and of counting: 18, 15 for a buffer that has not m values for each marker named, the file's own, 5 and 6.
+// The counts and the lists stay parameters: they are those of the original and of C, and in a struct each clause would name its fields.
+#[tactic(auto, using(crate::proofs::ReadLaws::file_told, crate::proofs::ReadLaws::read_too_large, crate::proofs::ReadLaws::read_mismatch, crate::proofs::ReadLaws::read_not_accepted, crate::proofs::ReadLaws::read_lists))]
 pub fn check_read(
     file: &[u8],
     iid_count: usize,
@@ -60,10 +60,7 @@ pub fn check_read(
     ensures { read_says result ≡ checks_answer m file.now iid_count sid_count
         iid_index.now sid_index.now val_len }
 {
-    if iid_count > answer::COUNT_LIMIT {
-        return Err(ReadError::File(FileError::CountTooLarge));
-    }
-    if sid_count > answer::COUNT_LIMIT {
+    if !answer::counts_fit(iid_count, sid_count) {
         return Err(ReadError::File(FileError::CountTooLarge));
     }
     if !blocks::product_is(m, sid_index.len(), val_len) {

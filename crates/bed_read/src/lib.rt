@@ -5,7 +5,7 @@ mod checks;
 mod lines;
 mod read;
 mod table;
-mod tile;
 
 pub use checks::{ReadError, check_lists, check_read};
-pub use read::{ReadVal, read_no_alloc};
+pub use read::read_no_alloc;
+pub use table::ReadVal;

@@ -1,18 +1,19 @@
-// Reading values. In the inner loops the file, the tile and the values are passed by themselves, so that none is loaded anew after a store.
-ghost use Rattle.std.specs.Prelude.{◌≡◌, not, map, ℕ, ◌+◌, ◌-◌, ◌*◌, ◌/◌, ◌%◌, ◌<◌, ◌≤◌, length};
+// Reading values. In the inner loops the file, the parts and the values are passed by themselves, so that none is loaded anew after a store.
+ghost use Rattle.std.specs.Prelude.{◌≡◌, true, not, map, ℕ, ◌+◌, ◌-◌, ◌*◌, ◌/◌, ◌%◌, ◌<◌, ◌≤◌, length};
 ghost use Rattle.codes.specs.Value.{value_of};
 ghost use Rattle.bed_read.specs.Reading.{Reads};
-ghost use Rattle.bed_read.specs.Private.{AllInOrder, EntryParts, Inside, FourInside, value_in, entry_value, block_value, lines_read};
+ghost use Rattle.calls.specs.Lists.{is_along_block, EntryParts, Inside};
+ghost use Rattle.bed_read.specs.Private.{FourInside, value_in, entry_value, block_value, lines_read};
 ghost use Rattle.bed_read.specs.Private.{set_two, set_pairs, Drawn, DrawnInOrder, DrawnLine, ReadTo};
 ghost use Rattle.bed_read.specs.Says.{read_says};
 
 use crate::lines::Lines;
-use crate::table::{Values, fill_table};
-use crate::tile::Tile;
+use crate::table::{ReadVal, Values};
 use crate::{ReadError, checks};
-use calls::{Part, Shape};
-use codes::BedVal;
+use calls::{Part, Parts};
+use codes::{BedVal, Coding};
 use entries::{IidIndex, Item, SidIndex};
+use std::convert::AsSlice;
 use std::marker::PhantomData;
 
 // The first n items of a block, from place `at` of the matrix on: four of a byte at a time.
@@ -50,104 +51,106 @@ fn read_in_order<T: BedVal>(
 fn read_line<T: BedVal>(
     file: &[u8],
     part: Part,
-    tile: &Tile,
+    parts: &Parts,
     values: Values<T>,
     at: usize,
     n: usize,
     val: &mut [T],
 )
-    requires { Inside file.now part.byte part.place tile.now n × (n ≤ 2048) × (at + n ≤ length val.old) }
+    requires { Inside file.now part.byte part.place parts.now n × (n ≤ 2048) × (at + n ≤ length val.old) }
     ensures { DrawnLine values.entry.table.now T.width.zero
-        file.now part.byte part.place tile.now at n val.old n val.new }
+        file.now part.byte part.place parts.now at n val.old n val.new }
 {
     for k in 0..n {
         val[at + k] = values.call_value(
             file,
-            part.byte + tile.bytes[k],
-            part.place + usize::from(tile.places[k]),
+            part.byte + parts.bytes[k],
+            part.place + usize::from(parts.places[k]),
         );
     }
 }
 
 // Entries k and k + 1 of one block, at neighbouring places.
+#[tactic(auto, using(crate::proofs::DrawLaws::two_set, crate::proofs::PartLaws::same_place))]
 fn read_pair<T: BedVal>(
     file: &[u8],
     start: usize,
-    tile: &Tile,
+    parts: &Parts,
     k: usize,
     values: Values<T>,
     at: usize,
     val: &mut [T],
 )
-    requires { Inside file.now start 0 tile.now (k + 2) × (k + 2 ≤ 2048) × (at + 1 < length val.old) }
+    requires { Inside file.now start 0 parts.now (k + 2) × (k + 2 ≤ 2048) × (at + 1 < length val.old) }
     ensures { val.new ≡ set_two val.old at
-        (entry_value values.entry.table.now T.width.zero file.now start tile.now k)
-        (entry_value values.entry.table.now T.width.zero file.now start tile.now (k + 1)) }
+        (entry_value values.entry.table.now T.width.zero file.now start parts.now k)
+        (entry_value values.entry.table.now T.width.zero file.now start parts.now (k + 1)) }
 {
     let next = k + 1;
-    let value = values.call_value(file, start + tile.bytes[k], usize::from(tile.places[k]));
+    let value = values.call_value(file, start + parts.bytes[k], usize::from(parts.places[k]));
     let next_value = values.call_value(
         file,
-        start + tile.bytes[next],
-        usize::from(tile.places[next]),
+        start + parts.bytes[next],
+        usize::from(parts.places[next]),
     );
     val[at] = value;
     val[at + 1] = next_value;
 }
 
 // The same of four blocks, whose lines are `inner` places apart.
+#[tactic(auto, using(crate::proofs::DrawLaws::pairs_set))]
 fn read_pairs<T: BedVal>(
     file: &[u8],
     starts: &[usize; 4],
-    tile: &Tile,
+    parts: &Parts,
     k: usize,
     values: Values<T>,
     at: usize,
     inner: usize,
     val: &mut [T],
 )
-    requires { FourInside file.now starts.now tile.now (k + 2) × (k + 2 ≤ 2048)
+    requires { FourInside file.now starts.now parts.now (k + 2) × (k + 2 ≤ 2048)
         × (at + 3 * inner + k + 2 ≤ length val.old) }
     ensures { val.new ≡ set_pairs val.old at inner k
-        (block_value values.entry.table.now T.width.zero file.now starts.now tile.now) }
+        (block_value values.entry.table.now T.width.zero file.now starts.now parts.now) }
 {
     let t0 = at + k;
     let t1 = t0 + inner;
     let t2 = t1 + inner;
     let t3 = t2 + inner;
-    read_pair(file, starts[0], tile, k, values, t0, val);
-    read_pair(file, starts[1], tile, k, values, t1, val);
-    read_pair(file, starts[2], tile, k, values, t2, val);
-    read_pair(file, starts[3], tile, k, values, t3, val);
+    read_pair(file, starts[0], parts, k, values, t0, val);
+    read_pair(file, starts[1], parts, k, values, t1, val);
+    read_pair(file, starts[2], parts, k, values, t2, val);
+    read_pair(file, starts[3], parts, k, values, t3, val);
 }
 
 // The same as `read_line` of four blocks: two entries a turn, and the last two, of which one may be done.
-// Inlined, so that the compiler sees that the tile, the table and the matrix are apart.
+// Inlined, so that the compiler sees that the parts, the table and the matrix are apart.
 #[inline(always)]
 fn read_four<T: BedVal>(
     file: &[u8],
     starts: &[usize; 4],
-    tile: &Tile,
+    parts: &Parts,
     values: Values<T>,
     at: usize,
     inner: usize,
     n: usize,
     val: &mut [T],
 )
-    requires { FourInside file.now starts.now tile.now n × (2 ≤ n) × (n ≤ 2048) × (at + 3 * inner + n ≤ length val.old) }
+    requires { FourInside file.now starts.now parts.now n × (2 ≤ n) × (n ≤ 2048) × (at + 3 * inner + n ≤ length val.old) }
     ensures { Drawn T.width.zero 4 n (λ j k. at + j * inner + k)
-        (block_value values.entry.table.now T.width.zero file.now starts.now tile.now)
+        (block_value values.entry.table.now T.width.zero file.now starts.now parts.now)
         val.old n val.new }
 {
     for pair in 0..n / 2 {
-        read_pairs(file, starts, tile, 2 * pair, values, at, inner, val);
+        read_pairs(file, starts, parts, 2 * pair, values, at, inner, val);
     }
-    read_pairs(file, starts, tile, n - 2, values, at, inner, val);
+    read_pairs(file, starts, parts, n - 2, values, at, inner, val);
 }
 
 // A matrix whose lines are blocks and whose places are all items in file order.
 fn read_blocks<T: BedVal, O: Item, I: Item>(lines: &Lines<O, I>, values: Values<T>, val: &mut [T])
-    requires { AllInOrder lines.now.shape (not O.is_animal) lines.now.inner.now
+    requires { (is_along_block lines.now.shape (not O.is_animal) lines.now.inner.now ≡ true)
         × ReadTo O.is_animal values.table.now T.width.zero
         lines.now.file.now lines.now.shape lines.now.outer.now lines.now.inner.now val.old 0 }
     ensures { ReadTo O.is_animal values.entry.table.now T.width.zero
@@ -165,11 +168,11 @@ fn read_tile<T: BedVal, O: Item, I: Item>(
     lines: &Lines<O, I>,
     from: usize,
     until: usize,
-    tile: &Tile,
+    parts: &Parts,
     values: Values<T>,
     val: &mut [T],
 )
-    requires { EntryParts lines.now.shape (not O.is_animal) lines.now.inner.now from until tile.now
+    requires { EntryParts lines.now.shape (not O.is_animal) lines.now.inner.now from until parts.now
         × (from < until) × (until ≤ length lines.now.inner.now) × (until - from ≤ 2048)
         × ReadTo O.is_animal values.table.now T.width.zero
         lines.now.file.now lines.now.shape lines.now.outer.now lines.now.inner.now val.old from }
@@ -186,7 +189,7 @@ fn read_tile<T: BedVal, O: Item, I: Item>(
         read_four(
             lines.file,
             &starts,
-            tile,
+            parts,
             values,
             o * inner + from,
             inner,
@@ -196,7 +199,7 @@ fn read_tile<T: BedVal, O: Item, I: Item>(
     }
     for o in 4 * fours..outer {
         let part = lines.outer_part(o);
-        read_line(lines.file, part, tile, values, o * inner + from, n, val);
+        read_line(lines.file, part, parts, values, o * inner + from, n, val);
     }
 }
 
@@ -206,62 +209,20 @@ fn read_matrix<T: BedVal, O: Item, I: Item>(lines: &Lines<O, I>, values: Values<
     ensures { val.new ≡ map (value_in values.entry.table.now T.width.zero)
         (lines_read O.is_animal lines.now.file.now lines.now.shape lines.now.outer.now lines.now.inner.now) }
 {
-    if lines.is_in_order() {
+    if calls::is_along_block::<I>(lines.shape, lines.inner) {
         read_blocks(lines, values, val);
         return;
     }
     let inner = lines.inner.len();
-    let mut tile = Tile {
+    let mut parts = Parts {
         bytes: [0; 2048],
         places: [0; 2048],
     };
-    let most = lines.tile();
+    let most = calls::at_once::<I>(lines.shape);
     for from in (0..inner).step_by(most) {
         let until = from + most.min(inner - from);
-        lines.resolve(from, until, &mut tile);
-        read_tile(lines, from, until, &tile, values, val);
-    }
-}
-
-// A type of values that is read. Each has the room for its table in its own method: an array of a type parameter owes a bound on its size.
-pub trait ReadVal: BedVal {
-    // The whole matrix, by a table of the values.
-    fn read_lines<O: Item, I: Item>(
-        lines: &Lines<O, I>,
-        is_a1_counted: bool,
-        missing_value: Self,
-        val: &mut [Self],
-    )
-        requires { length lines.now.outer.now * length lines.now.inner.now ≡ length val.old }
-        ensures { val.new ≡ map (value_of Self.width is_a1_counted missing_value)
-            (lines_read O.is_animal lines.now.file.now lines.now.shape lines.now.outer.now lines.now.inner.now) };
-}
-
-impl ReadVal for i8 {
-    fn read_lines<O: Item, I: Item>(
-        lines: &Lines<O, I>,
-        is_a1_counted: bool,
-        missing_value: i8,
-        val: &mut [i8],
-    ) {
-        let mut table = [0; 1024];
-        fill_table(is_a1_counted, missing_value, &mut table);
-        let values = Values { table: &table };
-        read_matrix(lines, values, val);
-    }
-}
-
-impl ReadVal for f64 {
-    fn read_lines<O: Item, I: Item>(
-        lines: &Lines<O, I>,
-        is_a1_counted: bool,
-        missing_value: f64,
-        val: &mut [f64],
-    ) {
-        let mut table = [0.0; 1024];
-        fill_table(is_a1_counted, missing_value, &mut table);
-        let values = Values { table: &table };
-        read_matrix(lines, values, val);
+        parts.resolve::<I>(lines.shape, &lines.inner[from..until]);
+        read_tile(lines, from, until, &parts, values, val);
     }
 }
 
@@ -290,6 +251,13 @@ pub fn read_no_alloc<T: ReadVal>(
         val.len(),
     )?;
     let shape = calls::shape_of(file, iid_count, sid_count);
+    let table = T::table(Coding {
+        is_a1_counted,
+        missing: missing_value,
+    });
+    let values = Values {
+        table: table.as_slice(),
+    };
     if animal_order {
         let lines: Lines<IidIndex, SidIndex> = Lines {
             file,
@@ -298,7 +266,7 @@ pub fn read_no_alloc<T: ReadVal>(
             inner: sid_index,
             items: PhantomData,
         };
-        T::read_lines(&lines, is_a1_counted, missing_value, val);
+        read_matrix(&lines, values, val);
     } else {
         let lines: Lines<SidIndex, IidIndex> = Lines {
             file,
@@ -307,7 +275,7 @@ pub fn read_no_alloc<T: ReadVal>(
             inner: iid_index,
             items: PhantomData,
         };
-        T::read_lines(&lines, is_a1_counted, missing_value, val);
+        read_matrix(&lines, values, val);
     }
     Ok(())
 }

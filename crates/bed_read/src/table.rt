@@ -1,20 +1,55 @@
 // The value of every code.
 ghost use Rattle.std.specs.Prelude.{◌≡◌, map, ◌<◌, length};
 ghost use Rattle.codes.specs.Code.{code_at, code_table};
-ghost use Rattle.codes.specs.Value.{value_of};
+ghost use Rattle.codes.specs.Value.{value_of, i8, float};
 ghost use Rattle.bed_read.specs.Private.{value_in, ByCode, place_value};
 
-use codes::{BedVal, CodeTable};
+use codes::{BedVal, CodeTable, Coding};
 use std::alloc::AllocError;
+use std::convert::AsSlice;
 
-// Fills a table with the value, by a flag and a missing value, of the code of every byte and place: place p of byte b at 4 × b + p.
+// A type of values that is read.
+pub trait ReadVal: BedVal {
+    // A type of its own: an array of a type parameter owes a bound on its size.
+    type Table: AsSlice<Self> + Drop;
+
+    // The value of the code of every byte and place: place p of byte b at 4 × b + p.
+    fn table(coding: Coding<Self>) -> Self::Table
+        ensures { Self.Table.items result ≡ map (value_of Self.width coding.is_a1_counted coding.missing) code_table };
+}
+
+impl ReadVal for i8 {
+    type Table = [i8; 1024];
+
+    fn table(coding: Coding<i8>) -> [i8; 1024]
+        ensures { result ≡ map (value_of i8 coding.is_a1_counted coding.missing) code_table }
+    {
+        let mut table = [0; 1024];
+        fill_table(coding, &mut table);
+        table
+    }
+}
+
+impl ReadVal for f64 {
+    type Table = [f64; 1024];
+
+    fn table(coding: Coding<f64>) -> [f64; 1024]
+        ensures { result ≡ map (value_of float coding.is_a1_counted coding.missing) code_table }
+    {
+        let mut table = [0.0; 1024];
+        fill_table(coding, &mut table);
+        table
+    }
+}
+
+// Fills such a table.
 // The table is a slice: an array of a type parameter owes a bound on its size wherever it is passed, also in a struct.
-pub(crate) fn fill_table<T: BedVal>(is_a1_counted: bool, missing_value: T, table: &mut [T])
+fn fill_table<T: BedVal>(coding: Coding<T>, table: &mut [T])
     requires { length table.old ≡ 1024 }
-    ensures { table.new ≡ map (value_of T.width is_a1_counted missing_value) code_table }
+    ensures { table.new ≡ map (value_of T.width coding.is_a1_counted coding.missing) code_table }
 {
     let codes = CodeTable::new();
-    let of_code = codes::set_up_two_bits_to_value(is_a1_counted, missing_value);
+    let of_code = coding.set_up_two_bits_to_value();
     for byte in 0..256 {
         for place in 0..4 {
             let code = codes.code_of_item(byte as u8, place);
@@ -40,6 +75,7 @@ impl<'a, T: BedVal> Clone for Values<'a, T> {
 
 impl<'a, T: BedVal> Values<'a, T> {
     // The value at a place of a byte of the file.
+    #[tactic(auto, unfolding(crate::specs::Private::place_value))]
     pub(crate) fn call_value(self, file: &[u8], byte: usize, place: usize) -> T
         requires { (byte < length file.now) × (place < 4) }
         ensures { result ≡ place_value (value_in self.entry.table.now T.width.zero) file.now byte place }
@@ -49,6 +85,7 @@ impl<'a, T: BedVal> Values<'a, T> {
 }
 
 // The value at a place of a byte. A function of its own: of a slice in a struct the check does not know that its offsets fit a word.
+#[tactic(auto, using(crate::proofs::TableLaws::by_code_long, crate::proofs::TableLaws::value_there))]
 fn value_at<T: BedVal>(table: &[T], byte: u8, place: usize) -> T
     requires { (place < 4) × ByCode table.now T.width.zero }
     ensures { result ≡ value_in table.now T.width.zero (code_at byte place) }

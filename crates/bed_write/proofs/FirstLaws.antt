@@ -8,7 +8,9 @@ use native.Mathlib.Omega.{arith}
 use lib.ListN.{length, get_or}
 use Rattle.std.specs.Option.{is_none}
 use Rattle.codes.specs.Value.{Width, code_of, same_or_nan}
+use Rattle.answer.specs.Matrix.{matrix_place}
 use Rattle.bed_write.specs.Packing.{place_code, or_zero, or_else, first_of, if_bad}
+use Rattle.bed_write.specs.Writing.{value_code}
 use Rattle.bed_write.specs.Groups.{or_four, CodesGood}
 use Rattle.answer.proofs.Tabulate.{get_d_inside}
 
@@ -118,6 +120,12 @@ code_small w flag missing v c e = by_tests_law flag (w.same v w.zero) (w.same v 
 pub place_coded : {V : Type 0} (w : Width V) (flag : Bool) (missing : V) (vals : List V) → Coded (place_code w flag missing vals)
 unfolding place_code
 place_coded w flag missing vals k c e = code_small w flag missing (get_or vals k missing) c e
+
+pub value_coded :
+    {V : Type 0} (w : Width V) (flag : Bool) (missing : V) (order : Bool) (iids sids : ℕ) (val : List V) (a m c : ℕ)
+    → value_code w flag missing order iids sids val a m ≡ Some c → c < 4
+unfolding value_code
+value_coded w flag missing order iids sids val a m c e = place_coded w flag missing val (matrix_place order iids sids a m) c e
 
 -- a value that is read: its code, if it has one, and that it has one
 module _ {V : Type 0} (w : Width V) (flag : Bool) (missing : V) (vals : List V) (k : ℕ) (v d : V) (h : k < length vals) (e : v ≡ get_or vals k d) where

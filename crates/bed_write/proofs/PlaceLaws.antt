@@ -1,8 +1,8 @@
 -- Laws of the places of a matrix: that they fit, the value at one, and the groups of four along them.
-use mathlib.Core.Path.{◌≡◌, refl, sym, ap, subst, ◌∙◌}
+use mathlib.Core.Path.{◌≡◌, ap, ◌∙◌}
 use mathlib.Core.Bool.{Bool, true, false, cond}
 use mathlib.Core.List.{List}
-use Rattle.std.specs.Prelude.{Option, Some, None}
+use Rattle.std.specs.Prelude.{Option, None}
 use Prim.Native.Nat.{ℕ, ◌+◌, ◌-◌, ◌*◌, ◌<◌}
 use native.Mathlib.Omega.{arith}
 use lib.ListN.{length, get_or}
@@ -11,13 +11,14 @@ use Rattle.codes.specs.Code.{group_byte, packed_byte}
 use Rattle.answer.specs.Lists.{tabulate}
 use Rattle.answer.specs.Matrix.{matrix_place}
 use Rattle.answer.proofs.MatrixLaws.{place_below}
-use Rattle.bed_write.specs.Packing.{place_code, or_zero}
+use Rattle.codes.specs.declared.values.Coding.{Coding}
+use Rattle.bed_write.specs.Packing.{place_code}
 use Rattle.bed_write.specs.Writing.{value_code}
-use Rattle.bed_write.specs.Groups.{or_four, in_group, Four}
-use Rattle.bed_write.specs.Private.{by_tests, first_over, placed}
-use Rattle.bed_write.proofs.FirstLaws.{value_read}
+use Rattle.bed_write.specs.Groups.{or_four}
+use Rattle.bed_write.specs.Private.{by_tests, strided, GoodFour, Finds, matrix_code}
+use Rattle.bed_write.proofs.FirstLaws.{value_read, value_coded}
 use Rattle.bed_write.proofs.GroupLaws.{good_four, group_byte_law}
-use Rattle.bed_write.proofs.SearchLaws.{none_over}
+use Rattle.bed_write.proofs.SearchLaws.{call_good}
 
 -- ---- places of a matrix, by strides
 module _ (order : Bool) (iids sids i m a b : ℕ) (ea : a ≡ cond order sids 1) (eb : b ≡ cond order 1 iids) where
@@ -42,52 +43,40 @@ module _ {V : Type 0} (w : Width V) (flag : Bool) (missing : V) (order : Bool) (
     pub read_number : (r : ℕ) → r ≡ or_four (code_of w flag missing v) → r ≡ or_four (value_code w flag missing order iids sids val a m)
     read_number r n = n ∙ ap or_four read_code
 
--- ---- a matrix whose numbers are found by place
-module _ (number : ℕ → ℕ) (order : Bool) (iids sids : ℕ) where
-  module _ (m b stride start : ℕ) (hm : m < sids) (hb : 4 * b < iids) (es : stride ≡ cond order sids 1) (st : start ≡ matrix_place order iids sids (4 * b) m) where
-    -- animal 4 × b + k stands k strides after the start
-    pub walk : (k : ℕ) → start + k * stride ≡ matrix_place order iids sids (4 * b + k) m
-    unfolding matrix_place
-    walk k = ap (λ (x : ℕ). x + k * stride) st ∙ ap (λ (x : ℕ). matrix_place order iids sids (4 * b) m + k * x) es ∙ by_order order k
-      where
-        by_order : (o : Bool) (k : ℕ) → matrix_place o iids sids (4 * b) m + k * cond o sids 1 ≡ matrix_place o iids sids (4 * b + k) m
-        by_order true k = omega arith
-        by_order false k = omega arith
+-- ---- the groups of four along a matrix
+module _ {V : Type 0} (w : Width V) (k : Coding V) (order : Bool) (iids sids : ℕ) (val : List V) (m b stride start : ℕ)
+    (hm : m < sids) (hb : 4 * b < iids) (es : stride ≡ cond order sids 1) (st : start ≡ matrix_place order iids sids (4 * b) m) where
+  -- animal 4 × b + j stands j strides after the start
+  walk : (j : ℕ) → start + j * stride ≡ matrix_place order iids sids (4 * b + j) m
+  unfolding matrix_place
+  walk j = ap (λ (x : ℕ). x + j * stride) st ∙ ap (λ (x : ℕ). matrix_place order iids sids (4 * b) m + j * x) es ∙ by_order order
+    where
+      by_order : (o : Bool) → matrix_place o iids sids (4 * b) m + j * cond o sids 1 ≡ matrix_place o iids sids (4 * b + j) m
+      by_order true = omega arith
+      by_order false = omega arith
 
-    pub walk_inside : (len : ℕ) → iids * sids ≡ len → (k : ℕ) → k < iids - 4 * b → start + k * stride < len
-    walk_inside len e k h =
-        let p : matrix_place order iids sids (4 * b + k) m < iids * sids = place_below iids sids (4 * b + k) m (omega arith) hm order in
-        let q = walk k in omega arith
+  pub walk_inside : iids * sids ≡ length val → (j : ℕ) → j < iids - 4 * b → start + j * stride < length val
+  walk_inside e j h =
+      let p : matrix_place order iids sids (4 * b + j) m < iids * sids = place_below iids sids (4 * b + j) m (omega arith) hm order in
+      let q = walk j in omega arith
 
-    -- where no value is bad, no number of the group is
-    pub walk_good : first_over iids sids (placed number order iids sids) ≡ None → (k : ℕ) → k < iids - 4 * b → number (start + k * stride) < 4
-    unfolding placed
-    walk_good good k h =
-        subst (λ (x : ℕ). number x < 4) (sym (walk k)) (none_over iids sids (placed number order iids sids) good (4 * b + k) m (omega arith) hm)
+  abbrev code : ℕ → Option ℕ
+  code a = value_code w k.is_a1_counted k.missing order iids sids val a m
 
-    -- the byte of a group without bad values
-    module _ (good : first_over iids sids (placed number order iids sids) ≡ None) (c0 c1 c2 c3 : ℕ)
-        (q : Four (in_group (iids - 4 * b) (λ j. number (start + j * stride))) c0 c1 c2 c3) where
-      abbrev code : ℕ → Option ℕ
-      code a = Some (placed number order iids sids a m)
+  abbrev number : ℕ → ℕ
+  number = strided (by_tests w k val) start stride
 
-      same : (k : ℕ) → k < 4 → k < iids - 4 * b → number (start + k * stride) ≡ or_four (code (4 * b + k))
-      unfolding or_four placed
-      same k h g = ap number (walk k)
+  same : (j : ℕ) → number j ≡ or_four (code (4 * b + j))
+  unfolding value_code
+  same j = ap (by_tests w k val) (walk j)
 
-      matrix_codes : (c0 < 4) × (c1 < 4) × (c2 < 4) × (c3 < 4)
-      unfolding or_four
-      matrix_codes =
-          good_four iids code b (λ j. number (start + j * stride)) same c0 c1 c2 c3 q
-          (λ k h. none_over iids sids (placed number order iids sids) good (4 * b + k) m h hm)
-
-      pub matrix_byte : (v : ℕ) → v ≡ group_byte c0 c1 c2 c3 → v ≡ packed_byte (tabulate iids (λ a. placed number order iids sids a m)) b
-      unfolding or_zero
-      matrix_byte v e = group_byte_law iids code b (λ j. number (start + j * stride)) same c0 c1 c2 c3 q v e matrix_codes
-
--- ---- the numbers of a matrix are those of its codes
-pub placed_same :
-    {V : Type 0} (w : Width V) (flag : Bool) (missing : V) (order : Bool) (iids sids : ℕ) (val : List V) (a m : ℕ) → a < iids → m < sids
-    → placed (by_tests w flag missing val) order iids sids a m ≡ or_four (value_code w flag missing order iids sids val a m)
-unfolding placed value_code
-placed_same w flag missing order iids sids val a m ha hm = refl
+  -- the byte of a group, where no value is bad
+  pub matrix_byte :
+      Finds w k order iids sids val None → (c0 c1 c2 c3 : ℕ) → GoodFour w k val start stride (iids - 4 * b) c0 c1 c2 c3
+      → (v : ℕ) → v ≡ group_byte c0 c1 c2 c3 → v ≡ packed_byte (tabulate iids (λ a. matrix_code w k order iids sids val a m)) b
+  matrix_byte good c0 c1 c2 c3 four v e =
+      let q = four (λ j h l. let s = same j in let g = there (4 * b + j) (omega arith) in omega arith) in
+      group_byte_law iids code b number (λ j g l. same j) c0 c1 c2 c3 q v e (good_four iids code b number (λ j g l. same j) c0 c1 c2 c3 q (λ j h. there (4 * b + j) h))
+    where
+      there : (a : ℕ) → a < iids → or_four (code a) < 4
+      there a h = call_good iids sids (value_code w k.is_a1_counted k.missing order iids sids val) (value_coded w k.is_a1_counted k.missing order iids sids val) good a m h hm

@@ -3,24 +3,21 @@ use mathlib.Core.Path.{◌≡◌, refl, sym, ap, ◌∙◌}
 use mathlib.Core.Bool.{Bool, true, false}
 use mathlib.Core.List.{List, [], ◌∷◌}
 use Rattle.std.specs.Prelude.{Option, Some, None, Result, Ok, Err, IsErrAnd}
-use Prim.Native.Nat.{ℕ, ◌+◌, ◌-◌, ◌*◌, ◌^◌, ◌<◌, ◌≤◌}
+use Prim.Native.Nat.{ℕ, ◌-◌, ◌*◌, ◌^◌, ◌≤◌}
 use native.Mathlib.Omega.{arith}
 use borrow.Author.Tests.{eqb-true, leb-true, eq-eqb, ne_eqb}
 use lib.Dec.{eqb, leb}
 use lib.IntN.{pos}
 use lib.ListN.{length}
-use Rattle.codes.specs.Value.{Width}
 use Rattle.answer.specs.Answer.{Answer, done, refused, check, count_limit, is_done}
-use Rattle.blocks.specs.Block.{block_width, file_length, check_size, div_answer}
-use Rattle.answer.specs.Matrix.{matrix_place}
-use Rattle.answer.proofs.AnswerLaws.{Stage, lets, refuses, check_stage, then_stage, heard, stays, check_passes, check_refuses, check_done, count_done, new_if_done, old_if_not}
-use Rattle.blocks.proofs.Widths.{Sized, width_given, size_stage}
+use Rattle.blocks.specs.Block.{file_length, check_size, size_answer}
+use Rattle.answer.proofs.AnswerLaws.{Stage, lets, refuses, check_stage, then_stage, heard, check_passes, check_refuses, check_done, count_done, new_if_done, old_if_not}
+use Rattle.blocks.proofs.Widths.{size_stage, size_refuses, size_passes, size_is}
 use Rattle.bed_write.specs.Packing.{or_zero}
-use Rattle.bed_write.specs.Writing.{value_code, first_bad_call, check_call, check_buffers, write_answer, bed_file, write_buffer}
+use Rattle.bed_write.specs.Writing.{first_bad_call, check_call, check_buffers, write_answer, bed_file, write_buffer}
 use Rattle.bed_write.specs.declared.write.WriteError.{WriteError}
 use Rattle.bed_write.specs.declared.write.WriteError.TheVariants as writes
 use Rattle.bed_write.specs.Says.{write_refusal, write_says}
-use Rattle.bed_write.proofs.FirstLaws.{place_coded}
 use Rattle.bed_write.proofs.SearchLaws.{call}
 
 -- ---- 18, 4, 15, 16, by the tests in order
@@ -30,43 +27,27 @@ buffers_stage iids sids val_length out_length =
     then_stage (size_stage iids sids) (then_stage (check_stage (eqb (iids * sids) val_length) 15) (check_stage (eqb out_length (file_length iids sids)) 16))
 
 module _ (iids sids val_length out_length : ℕ) where
-  after : Answer
-  after = check (eqb (iids * sids) val_length) 15 (check (eqb out_length (file_length iids sids)) 16 (done []))
+  pub buffers_refused : (k : ℕ) → refused k [] ≡ size_answer iids sids → refused k [] ≡ check_buffers iids sids val_length out_length (done [])
+  unfolding check_buffers
+  buffers_refused k e = sym (size_refuses iids sids _ k e)
 
-  pub buffers_refused : (k : ℕ) → refused k [] ≡ div_answer iids sids → refused k [] ≡ check_buffers iids sids val_length out_length (done [])
-  unfolding check_buffers div_answer after
-  buffers_refused k e = sym (stays (size_stage iids sids) _ k [] (sym e) after)
-
-  module _ (w : ℕ) (e : done (pos w ∷ []) ≡ div_answer iids sids) where
-    size : Sized iids sids w
-    size = width_given iids sids w e
-
-    pub whole_length : w * sids + 3 ≡ file_length iids sids
-    whole_length = let k : w * sids ≡ block_width iids * sids = ap (λ (x : ℕ). x * sids) size.width_is in omega arith
-
-    pub whole_fits : w * sids + 3 < 2 ^ 64
-    whole_fits = let k = size.length_fits in let h = whole_length in omega arith
-
-    after_size : check_buffers iids sids val_length out_length (done []) ≡ after
-    unfolding check_buffers div_answer after
-    after_size = heard (size_stage iids sids) _ (sym (ap is_done e)) after
+  module _ (n : ℕ) (e : done (pos n ∷ []) ≡ size_answer iids sids) where
+    after_size : check_buffers iids sids val_length out_length (done []) ≡ check (eqb (iids * sids) val_length) 15 (check (eqb out_length n) 16 (done []))
+    unfolding check_buffers
+    after_size =
+        size_passes iids sids _ n e ∙ ap (λ (k : ℕ). check (eqb (iids * sids) val_length) 15 (check (eqb out_length k) 16 (done []))) (sym (size_is iids sids n e))
 
     module _ (t : Bool) (p : t ≡ eqb (iids * sids) val_length) where
       pub buffers_mismatch : t ≡ false → refused 15 [] ≡ check_buffers iids sids val_length out_length (done [])
-      unfolding after
       buffers_mismatch f = sym (after_size ∙ check_refuses (eqb (iids * sids) val_length) 15 _ (sym p ∙ f))
 
-      pub buffers_length : t ≡ true → (out_length ≡ w * sids + 3 → ⊥) → refused 16 [] ≡ check_buffers iids sids val_length out_length (done [])
-      unfolding after
-      buffers_length f n =
-          sym (after_size ∙ check_passes (eqb (iids * sids) val_length) 15 _ (sym p ∙ f)
-          ∙ check_refuses (eqb out_length (file_length iids sids)) 16 (done []) (ne_eqb out_length (file_length iids sids) (λ q. n (q ∙ sym whole_length))))
+      pub buffers_length : t ≡ true → (out_length ≡ n → ⊥) → refused 16 [] ≡ check_buffers iids sids val_length out_length (done [])
+      buffers_length f h =
+          sym (after_size ∙ check_passes (eqb (iids * sids) val_length) 15 _ (sym p ∙ f) ∙ check_refuses (eqb out_length n) 16 (done []) (ne_eqb out_length n h))
 
-      pub buffers_done : t ≡ true → out_length ≡ w * sids + 3 → done [] ≡ check_buffers iids sids val_length out_length (done [])
-      unfolding after
-      buffers_done f n =
-          sym (after_size ∙ check_passes (eqb (iids * sids) val_length) 15 _ (sym p ∙ f)
-          ∙ check_passes (eqb out_length (file_length iids sids)) 16 (done []) (eq-eqb out_length (file_length iids sids) (n ∙ whole_length)))
+      pub buffers_done : t ≡ true → out_length ≡ n → done [] ≡ check_buffers iids sids val_length out_length (done [])
+      buffers_done f h =
+          sym (after_size ∙ check_passes (eqb (iids * sids) val_length) 15 _ (sym p ∙ f) ∙ check_passes (eqb out_length n) 16 (done []) (eq-eqb out_length n h))
 
 -- ---- the writer, by what was found
 module _ (iids sids : ℕ) (code : ℕ → ℕ → Option ℕ) (val_length : ℕ) (old : List ℕ) (d : done [] ≡ check_buffers iids sids val_length (length old) (done [])) where
@@ -102,13 +83,6 @@ unfolding write_answer write_buffer
 write_refused iids sids code val_length old a e n =
     let q = refused_stays (buffers_stage iids sids val_length (length old)) a (check_call (first_bad_call iids sids code) (done [])) e n in
     (q, sym (old_if_not _ _ old (sym (ap is_done q) ∙ n)))
-
--- ---- the code of a value of a matrix is a code
-pub value_coded :
-    {V : Type 0} (w : Width V) (flag : Bool) (missing : V) (order : Bool) (iids sids : ℕ) (val : List V) (a m c : ℕ)
-    → value_code w flag missing order iids sids val a m ≡ Some c → c < 4
-unfolding value_code
-value_coded w flag missing order iids sids val a m c e = place_coded w flag missing val (matrix_place order iids sids a m) c e
 
 -- ---- what is known where the buffers are right
 pub record Passed (iids sids val_length out_length : ℕ) (a : Answer) : Type 0 where

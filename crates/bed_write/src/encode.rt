@@ -7,7 +7,8 @@ ghost use Rattle.bed_write.specs.Says.{encode_says};
 use crate::group::Strided;
 use crate::matrix::Matrix;
 use crate::search;
-use crate::value_codes::{Coding, EncodeVal};
+use crate::value_codes::EncodeVal;
+use codes::Coding;
 use entries::IidIndex;
 
 // What `encode1` refuses: 16, or 7.

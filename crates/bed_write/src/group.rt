@@ -3,10 +3,7 @@ ghost use Rattle.std.specs.Prelude.{◌<◌, length};
 ghost use Rattle.bed_write.specs.Private.{FourInside, GoodPlace, GoodFour};
 
 use crate::value_codes::Coder;
-use codes::{BedVal, Group};
-
-// "Pads are zero".
-const PAD: u8 = 0;
+use codes::{BedVal, Group, PAD};
 
 // A group of values that stand `stride` apart from `start` on, of which `left` are there.
 #[derive(Drop)]
@@ -22,7 +19,7 @@ impl<'a, T: BedVal> Strided<'a, T> {
     // The code of place k, if no value is bad.
     fn held<C: Coder<T>>(&self, k: usize, coder: &C) -> u8
         requires { k < 4 }
-        ensures { GoodPlace T.width (C.flag coder.now) (C.missing coder.now) self.now.val.now self.now.start self.now.stride self.now.left k result }
+        ensures { GoodPlace T.width (C.coding coder.now) self.now.val.now self.now.start self.now.stride self.now.left k result }
     {
         if k < self.left {
             let at = self.start + k * self.stride;
@@ -34,7 +31,7 @@ impl<'a, T: BedVal> Strided<'a, T> {
 
     // The codes of the whole group, if no value is bad.
     pub(crate) fn codes<C: Coder<T>>(&self, coder: &C) -> Group
-        ensures { GoodFour T.width (C.flag coder.now) (C.missing coder.now) self.now.val.now self.now.start self.now.stride self.now.left
+        ensures { GoodFour T.width (C.coding coder.now) self.now.val.now self.now.start self.now.stride self.now.left
             result.c0 result.c1 result.c2 result.c3 }
     {
         Group {

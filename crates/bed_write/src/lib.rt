@@ -9,5 +9,6 @@ mod value_codes;
 mod write;
 
 pub use encode::{EncodeError, encode1};
-pub use value_codes::{Coder, Coding, EncodeVal, WriteVal};
+pub use matrix::TILE;
+pub use value_codes::{Coder, EncodeVal, WriteVal};
 pub use write::{WriteError, write_val};

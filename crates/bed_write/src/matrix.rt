@@ -5,6 +5,19 @@ ghost use Rattle.answer.specs.Matrix.{matrix_place};
 use codes::BedVal;
 use entries::{IidIndex, SidIndex};
 
+// How many markers are packed together where the values of a matrix or the blocks of a file stand animal by animal: each animal is read along, and 16 blocks are written.
+pub const TILE: usize = 16;
+
+// How values are gone through in one order.
+#[derive(Clone, Copy)]
+pub(crate) struct Layout {
+    // How far apart the values of two neighbouring animals stand, and those of two neighbouring markers.
+    pub animal_stride: usize,
+    pub marker_stride: usize,
+    // How many markers are packed together.
+    pub tile: usize,
+}
+
 #[derive(Drop)]
 pub(crate) struct Matrix<'a, T: BedVal> {
     pub val: &'a [T],
@@ -15,18 +28,23 @@ pub(crate) struct Matrix<'a, T: BedVal> {
 }
 
 impl<'a, T: BedVal> Matrix<'a, T> {
-    // How far apart the values of two neighbouring animals stand.
-    pub(crate) fn animal_stride(&self) -> usize
-        ensures { result ≡ cond self.now.animal_order self.now.sid_count 1 }
+    pub(crate) fn layout(&self) -> Layout
+        ensures { (result.animal_stride ≡ cond self.now.animal_order self.now.sid_count 1)
+            × (result.marker_stride ≡ cond self.now.animal_order 1 self.now.iid_count) × (0 < result.tile) }
     {
-        if self.animal_order { self.sid_count } else { 1 }
-    }
-
-    // The same of two neighbouring markers.
-    fn marker_stride(&self) -> usize
-        ensures { result ≡ cond self.now.animal_order 1 self.now.iid_count }
-    {
-        if self.animal_order { 1 } else { self.iid_count }
+        if self.animal_order {
+            Layout {
+                animal_stride: self.sid_count,
+                marker_stride: 1,
+                tile: TILE,
+            }
+        } else {
+            Layout {
+                animal_stride: 1,
+                marker_stride: self.iid_count,
+                tile: 1,
+            }
+        }
     }
 
     // The place of an animal and a marker, by strides, which a loop finds once.
@@ -34,6 +52,7 @@ impl<'a, T: BedVal> Matrix<'a, T> {
         requires { (iid.0 < self.now.iid_count) × (sid.0 < self.now.sid_count) }
         ensures { result ≡ matrix_place self.now.animal_order self.now.iid_count self.now.sid_count iid.0 sid.0 }
     {
-        iid.0 * self.animal_stride() + sid.0 * self.marker_stride()
+        let layout = self.layout();
+        iid.0 * layout.animal_stride + sid.0 * layout.marker_stride
     }
 }

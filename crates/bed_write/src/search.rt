@@ -4,12 +4,13 @@ ghost use Rattle.bed_write.specs.Private.{by_tests, Finds, bad_says};
 
 use crate::matrix::Matrix;
 use crate::value_codes;
-use crate::value_codes::{Coding, EncodeVal};
+use crate::value_codes::EncodeVal;
+use codes::Coding;
 use entries::{IidIndex, SidIndex};
 
 // Whether any value is bad, looked at in the order in which they stand, and to the end, so that several are looked at at once.
 fn any_bad<T: EncodeVal>(val: &[T], coding: Coding<T>) -> bool
-    ensures { result ≡ false → (k : ℕ) → k < length val.now → by_tests T.width coding.is_a1_counted coding.missing val.now k < 4 }
+    ensures { result ≡ false → (k : ℕ) → k < length val.now → by_tests T.width coding val.now k < 4 }
 {
     let mut bad = false;
     for &value in val {
@@ -20,7 +21,7 @@ fn any_bad<T: EncodeVal>(val: &[T], coding: Coding<T>) -> bool
 
 // The first marker, and in it the first animal, with a bad value.
 fn first_bad<T: EncodeVal>(matrix: &Matrix<T>, coding: Coding<T>) -> Option<(IidIndex, SidIndex)>
-    ensures { Finds T.width coding.is_a1_counted coding.missing matrix.now.animal_order matrix.now.iid_count matrix.now.sid_count
+    ensures { Finds T.width coding matrix.now.animal_order matrix.now.iid_count matrix.now.sid_count
         matrix.now.val.now (bad_says result) }
 {
     'markers: {
@@ -41,7 +42,7 @@ pub(crate) fn search<T: EncodeVal>(
     matrix: &Matrix<T>,
     coding: Coding<T>,
 ) -> Option<(IidIndex, SidIndex)>
-    ensures { Finds T.width coding.is_a1_counted coding.missing matrix.now.animal_order matrix.now.iid_count matrix.now.sid_count
+    ensures { Finds T.width coding matrix.now.animal_order matrix.now.iid_count matrix.now.sid_count
         matrix.now.val.now (bad_says result) }
 {
     if any_bad(matrix.val, coding) {

@@ -1,50 +1,44 @@
 // The code of a value.
-ghost use Rattle.std.specs.Prelude.{◌≡◌, Bool, cond, ◌<◌};
+ghost use Rattle.std.specs.Prelude.{◌≡◌, refl, Bool, cond, ◌<◌};
 ghost use Rattle.codes.specs.Value.{code_of};
+ghost use Rattle.codes.specs.declared.values.Coding.{Coding};
 ghost use Rattle.bed_write.specs.Groups.{or_four, GoodCode, CodesGood};
+ghost use Rattle.bed_write.specs.Private.{number_code};
 ghost use Rattle.std.specs.Option.{is_none};
+ghost use Rattle.codes.proofs.ValueLaws.{same_int_is};
 
-use codes::BedVal;
+use codes::{BedVal, Coding};
 
 mod byte_table;
 
 use byte_table::ByteTable;
 
-// How values are coded: the flag, and the value that stands for missing.
-#[derive(Clone, Copy)]
-pub struct Coding<T: BedVal> {
-    pub is_a1_counted: bool,
-    pub missing: T,
-}
-
 // A way to code values none of which is bad.
 pub trait Coder<T: BedVal>: Drop {
-    ghost flag: { Self → Bool };
-
-    ghost missing: { Self → T };
+    ghost coding: { Self → Coding T };
 
     fn code(&self, value: T) -> u8
-        ensures { CodesGood T.width (flag self.now) (missing self.now) value result };
+        ensures { CodesGood T.width (coding self.now).is_a1_counted (coding self.now).missing value result };
 }
 
 // A type of values that are packed.
-pub trait EncodeVal: BedVal {
-    // Whether two values are the same number.
+pub trait EncodeVal: BedVal + PartialEq {
+    // Whether two values are the same number. Only a NaN is not the same as itself.
     fn same(self, other: Self) -> bool
-        ensures { result ≡ Self.width.same self other };
+        ensures { result ≡ Self.width.same self other }
+    {
+        self == other
+    }
+
+    ghost is_same: { (a b : Self) → Self.PartialEq.eq a b ≡ Self.width.same a b };
 }
 
 impl EncodeVal for i8 {
-    fn same(self, other: i8) -> bool {
-        self == other
-    }
+    ghost is_same = { same_int_is };
 }
 
 impl EncodeVal for f64 {
-    // Only a NaN is not the same as itself.
-    fn same(self, other: f64) -> bool {
-        self == other
-    }
+    ghost is_same = { λ _ _. refl };
 }
 
 // A type of values that are written as a file.
@@ -53,7 +47,7 @@ pub trait WriteVal: EncodeVal {
     type Across: Coder<Self>;
 
     fn across(coding: Coding<Self>) -> Self::Across
-        ensures { (Self.Across.flag result ≡ coding.is_a1_counted) × (Self.Across.missing result ≡ coding.missing) };
+        ensures { Self.Across.coding result ≡ coding };
 }
 
 impl WriteVal for i8 {
@@ -61,9 +55,9 @@ impl WriteVal for i8 {
     type Across = ByteTable;
 
     fn across(coding: Coding<i8>) -> ByteTable
-        ensures { (result.coding.is_a1_counted ≡ coding.is_a1_counted) × (result.coding.missing ≡ coding.missing) }
+        ensures { result.coding ≡ coding }
     {
-        ByteTable::new(coding.is_a1_counted, coding.missing)
+        ByteTable::new(coding)
     }
 }
 
@@ -71,7 +65,7 @@ impl WriteVal for f64 {
     type Across = Coding<f64>;
 
     fn across(coding: Coding<f64>) -> Coding<f64>
-        ensures { (result.is_a1_counted ≡ coding.is_a1_counted) × (result.missing ≡ coding.missing) }
+        ensures { result ≡ coding }
     {
         coding
     }
@@ -79,64 +73,64 @@ impl WriteVal for f64 {
 
 // By three tests: what is none of 0, 1, 2 is missing.
 impl<T: EncodeVal> Coder<T> for Coding<T> {
-    ghost flag = { λ coding. coding.is_a1_counted };
-
-    ghost missing = { λ coding. coding.missing };
+    ghost coding = { λ coding. coding };
 
     fn code(&self, value: T) -> u8 {
         good_code(value, self.is_a1_counted)
     }
 }
 
+// The code of 0.
 fn code_of_zero(is_a1_counted: bool) -> u8
     ensures { result ≡ cond is_a1_counted 3 0 }
 {
     if is_a1_counted { 3 } else { 0 }
 }
 
+// The code of 2.
 fn code_of_two(is_a1_counted: bool) -> u8
     ensures { result ≡ cond is_a1_counted 0 3 }
 {
     if is_a1_counted { 0 } else { 3 }
 }
 
-// One of two codes by a test, both of them made before.
+// One of two codes by a test, both of them made before. So every test is made: as a chain of `else if`, of which some are jumped over, coding takes 3 to 14 times as long.
 fn choose(test: bool, yes: u8, no: u8) -> u8
     ensures { result ≡ cond test yes no }
 {
     if test { yes } else { no }
 }
 
-// The code of a value that is known not to be bad. Every test is made: as a chain of `else if`, of which some are jumped over, it takes 3 to 14 times as long.
-fn good_code<T: EncodeVal>(value: T, is_a1_counted: bool) -> u8
-    ensures { GoodCode T.width is_a1_counted value result }
+// The code of 0, 1 or 2, else another number.
+fn number_code<T: EncodeVal>(value: T, is_a1_counted: bool, other: u8) -> u8
+    ensures { result ≡ number_code T.width is_a1_counted value other }
 {
-    let two = choose(value.same(T::two()), code_of_two(is_a1_counted), 1);
+    let two = choose(value.same(T::two()), code_of_two(is_a1_counted), other);
     let one = choose(value.same(T::one()), 2, two);
     choose(value.same(T::zero()), code_of_zero(is_a1_counted), one)
 }
 
+// The code of a value that is known not to be bad.
+#[tactic(auto, using(crate::proofs::ChooseLaws::good_chosen))]
+fn good_code<T: EncodeVal>(value: T, is_a1_counted: bool) -> u8
+    ensures { GoodCode T.width is_a1_counted value result }
+{
+    number_code(value, is_a1_counted, 1)
+}
+
 // The code of a value, or 4. Where values are looked at one by one, as by the search, this is faster than `is_bad`.
+#[tactic(auto, using(crate::proofs::ChooseLaws::code_chosen))]
 pub(crate) fn code_or_four<T: EncodeVal>(value: T, coding: Coding<T>) -> u8
     ensures { result ≡ or_four (code_of T.width coding.is_a1_counted coding.missing value) }
 {
     let nan = choose(coding.missing.same(coding.missing), 4, 1);
     let unknown = choose(value.same(value), 4, nan);
     let absent = choose(value.same(coding.missing), 1, unknown);
-    let two = choose(
-        value.same(T::two()),
-        code_of_two(coding.is_a1_counted),
-        absent,
-    );
-    let one = choose(value.same(T::one()), 2, two);
-    choose(
-        value.same(T::zero()),
-        code_of_zero(coding.is_a1_counted),
-        one,
-    )
+    number_code(value, coding.is_a1_counted, absent)
 }
 
 // Whether a value is none of 0, 1, 2 and missing. Every test is made, so that several values are looked at at once.
+#[tactic(auto, using(crate::proofs::ChooseLaws::none_chosen))]
 pub(crate) fn is_bad<T: EncodeVal>(value: T, missing: T) -> bool
     ensures { (flag : Bool) → result ≡ is_none (code_of T.width flag missing value) }
 {

@@ -1,18 +1,20 @@
 // Writing a whole file.
-ghost use Rattle.std.specs.Prelude.{◌≡◌, [], ◌*◌, ◌<◌, ◌≤◌, cond, length};
+ghost use Rattle.std.specs.Prelude.{◌≡◌, [], ◌*◌, ◌<◌, None, length};
 ghost use Rattle.answer.specs.Answer.{done, refused};
 ghost use Rattle.blocks.specs.Block.{block_width, file_length};
 ghost use Rattle.blocks.specs.Says.{div_number};
+ghost use Rattle.answer.specs.Lists.{tabulate};
+ghost use Rattle.codes.specs.Code.{packed_byte};
 ghost use Rattle.bed_write.specs.Writing.{check_buffers, bed_file, Writes};
 ghost use Rattle.bed_write.specs.Says.{write_says, write_refusal};
-ghost use Rattle.bed_write.specs.Private.{by_tests, placed, GoodMatrix, block_byte};
+ghost use Rattle.bed_write.specs.Private.{Finds, matrix_code};
 
 use crate::group::Strided;
 use crate::matrix::Matrix;
 use crate::search;
-use crate::value_codes::{Coder, Coding, WriteVal};
+use crate::value_codes::{Coder, WriteVal};
 use blocks::DivError;
-use codes::BedVal;
+use codes::{BedVal, Coding};
 use entries::{IidIndex, SidIndex};
 
 // What `write_val` refuses: 18, 4, 15, 16, or 7.
@@ -45,11 +47,11 @@ fn check_write(
 ) -> Result<(), WriteError>
     ensures { write_says result ≡ check_buffers iid_count sid_count val_len out_len (done []) }
 {
-    let width = blocks::try_div_4(iid_count, sid_count)?;
+    let length = blocks::try_file_length(iid_count, sid_count)?;
     if !blocks::product_is(iid_count, sid_count, val_len) {
         return Err(WriteError::IndexMismatch);
     }
-    if out_len == width * sid_count + 3 {
+    if out_len == length {
         Ok(())
     } else {
         Err(WriteError::EncodingLength)
@@ -61,39 +63,31 @@ fn check_write(
 struct Writer<'a, T: BedVal, C: Coder<T>> {
     matrix: Matrix<'a, T>,
     coder: C,
-    ghost is_good: { GoodMatrix (by_tests T.width (C.flag coder) (C.missing coder) matrix.val.now) matrix.animal_order matrix.iid_count matrix.sid_count (length matrix.val.now) },
+    ghost is_good: { Finds T.width (C.coding coder) matrix.animal_order matrix.iid_count matrix.sid_count matrix.val.now None },
 }
 
 impl<'a, T: BedVal, C: Coder<T>> Writer<'a, T, C> {
     // Byte b of the packed block of marker m.
     fn byte_at(&self, m: usize, b: usize) -> u8
         requires { (m < self.now.matrix.sid_count) × (4 * b < self.now.matrix.iid_count) }
-        ensures { result ≡ block_byte (by_tests T.width (C.flag self.now.coder) (C.missing self.now.coder) self.now.matrix.val.now)
-            self.now.matrix.animal_order self.now.matrix.iid_count self.now.matrix.sid_count m b }
+        ensures { result ≡ packed_byte (tabulate self.now.matrix.iid_count (λ a. matrix_code T.width (C.coding self.now.coder)
+            self.now.matrix.animal_order self.now.matrix.iid_count self.now.matrix.sid_count self.now.matrix.val.now a m)) b }
     {
         let first = 4 * b;
         let group = Strided {
             val: self.matrix.val,
             start: self.matrix.place(IidIndex(first), SidIndex(m)),
-            stride: self.matrix.animal_stride(),
+            stride: self.matrix.layout().animal_stride,
             left: self.matrix.iid_count - first,
         };
         codes::byte_of(group.codes(&self.coder))
     }
 
-    // How many markers are packed together: one in marker order, and 16 in animal order, whose rows are read along.
-    fn tile(&self) -> usize
-        ensures { 0 < result }
-    {
-        if self.matrix.animal_order { 16 } else { 1 }
-    }
-
     // The file.
     fn write(&self, out: &mut [u8])
         requires { length out.old ≡ file_length self.now.matrix.iid_count self.now.matrix.sid_count }
-        ensures { out.new ≡ bed_file self.now.matrix.iid_count self.now.matrix.sid_count
-            (placed (by_tests T.width (C.flag self.now.coder) (C.missing self.now.coder) self.now.matrix.val.now)
-            self.now.matrix.animal_order self.now.matrix.iid_count self.now.matrix.sid_count) }
+        ensures { out.new ≡ bed_file self.now.matrix.iid_count self.now.matrix.sid_count (matrix_code T.width (C.coding self.now.coder)
+            self.now.matrix.animal_order self.now.matrix.iid_count self.now.matrix.sid_count self.now.matrix.val.now) }
     {
         out[0] = 0x6C;
         out[1] = 0x1B;
@@ -102,7 +96,7 @@ impl<'a, T: BedVal, C: Coder<T>> Writer<'a, T, C> {
         if width == 0 {
             return;
         }
-        let tile = self.tile();
+        let tile = self.matrix.layout().tile;
         for from in (0..self.matrix.sid_count).step_by(tile) {
             let until = from + tile.min(self.matrix.sid_count - from);
             for b in 0..width {

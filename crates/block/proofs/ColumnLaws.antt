@@ -22,10 +22,9 @@ use Rattle.block.proofs.CheckLaws.{decodable}
 use Rattle.codes.proofs.ValueLaws.{four_values}
 
 -- the code of an item is one of four
-pub code_inside :
-    {V : Type 0} (vs : List V) (bytes : List ℕ) → length vs ≡ 4 → (k code c : ℕ) → code ≡ c → c ≡ code_at (get_or bytes (k / 4) 0) (k % 4) → code < length vs
+pub code_inside : (bytes : List ℕ) (k code c : ℕ) → code ≡ c → c ≡ code_at (get_or bytes (k / 4) 0) (k % 4) → code < 4
 unfolding item_code
-code_inside vs bytes l k code c q r = let b : item_code bytes k < 4 = item_below bytes k in let e : code ≡ item_code bytes k = q ∙ r in omega arith
+code_inside bytes k code c q r = let b : item_code bytes k < 4 = item_below bytes k in let e : code ≡ item_code bytes k = q ∙ r in omega arith
 
 -- ---- a column that is filled animal by animal, by the list of the four values
 module _ {V : Type 0} (vs : List V) (bytes : List ℕ) (d : V) where

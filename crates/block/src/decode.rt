@@ -1,12 +1,10 @@
 // Decoding a block, with plain parameters.
-ghost use Rattle.std.specs.Prelude.{◌≡◌, length, get_or};
-ghost use Rattle.answer.specs.Lists.{tabulate};
+ghost use Rattle.std.specs.Prelude.{◌≡◌, length};
 ghost use Rattle.blocks.specs.Block.{block_width};
-ghost use Rattle.codes.specs.Code.{item_code};
 ghost use Rattle.block.specs.Blocks.{code_answer, decode_answer, column_of, Decodes};
 ghost use Rattle.block.specs.Says.{code_says, decode_says};
 
-use codes::{BedVal, CodeTable};
+use codes::{BedVal, CodeTable, Coding};
 use entries::IidIndex;
 
 // What `code` refuses: 18, 16, or 5.
@@ -58,11 +56,12 @@ fn check_decode(byte_count: usize, iid_count: usize, out_len: usize) -> Result<(
     Ok(())
 }
 
-// The value of each animal's code, by the four values.
-fn fill<T: BedVal>(bytes: &[u8], values: &[T], out: &mut [T])
-    requires { (length bytes.now ≡ block_width (length out.old)) × (length values.now ≡ 4) }
-    ensures { (d : T) → out.new ≡ tabulate (length out.old) (λ a. get_or values.now (item_code bytes.now a) d) }
+// The value of each animal's code.
+fn fill_column<T: BedVal>(bytes: &[u8], coding: Coding<T>, out: &mut [T])
+    requires { length bytes.now ≡ block_width (length out.old) }
+    ensures { out.new ≡ column_of T.width coding.is_a1_counted coding.missing bytes.now (length out.old) }
 {
+    let values = coding.set_up_two_bits_to_value();
     let table = CodeTable::new();
     for a in 0..out.len() {
         let code = table.code_of_item(bytes[a / 4], a);
@@ -70,39 +69,16 @@ fn fill<T: BedVal>(bytes: &[u8], values: &[T], out: &mut [T])
     }
 }
 
-// A type of values that is decoded. Each makes its four values in its own method: an array of a type parameter owes a bound on its size.
-pub trait DecodeVal: BedVal {
-    // The column of a block.
-    fn fill_column(bytes: &[u8], is_a1_counted: bool, missing_value: Self, out: &mut [Self])
-        requires { length bytes.now ≡ block_width (length out.old) }
-        ensures { out.new ≡ column_of Self.width is_a1_counted missing_value bytes.now (length out.old) };
-}
-
-impl DecodeVal for i8 {
-    fn fill_column(bytes: &[u8], is_a1_counted: bool, missing_value: i8, out: &mut [i8]) {
-        let values = codes::set_up_two_bits_to_value(is_a1_counted, missing_value);
-        fill(bytes, &values, out);
-    }
-}
-
-impl DecodeVal for f64 {
-    fn fill_column(bytes: &[u8], is_a1_counted: bool, missing_value: f64, out: &mut [f64]) {
-        let values = codes::set_up_two_bits_to_value(is_a1_counted, missing_value);
-        fill(bytes, &values, out);
-    }
-}
-
 // Decodes a block into a lent column.
-pub(crate) fn decode1<T: DecodeVal>(
+pub(crate) fn decode1<T: BedVal>(
     bytes: &[u8],
     iid_count: usize,
-    is_a1_counted: bool,
-    missing_value: T,
+    coding: Coding<T>,
     out: &mut [T],
 ) -> Result<(), DecodeError>
-    ensures { Decodes T.width is_a1_counted missing_value bytes.now iid_count (decode_says result) out.old out.new }
+    ensures { Decodes T.width coding.is_a1_counted coding.missing bytes.now iid_count (decode_says result) out.old out.new }
 {
     check_decode(bytes.len(), iid_count, out.len())?;
-    T::fill_column(bytes, is_a1_counted, missing_value, out);
+    fill_column(bytes, coding, out);
     Ok(())
 }

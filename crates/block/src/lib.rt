@@ -10,7 +10,8 @@ mod decode;
 mod pack;
 
 use bed_write::EncodeVal;
-pub use decode::{CodeError, DecodeError, DecodeVal};
+use codes::{BedVal, Coding};
+pub use decode::{CodeError, DecodeError};
 use entries::IidIndex;
 pub use pack::PackError;
 
@@ -43,7 +44,7 @@ impl<'a> MarkerBlock<'a> {
     }
 
     // Every animal's value, into a lent column.
-    pub fn decode<T: DecodeVal>(
+    pub fn decode<T: BedVal>(
         self,
         is_a1_counted: bool,
         missing_value: T,
@@ -52,13 +53,11 @@ impl<'a> MarkerBlock<'a> {
         ensures { Decodes T.width is_a1_counted missing_value self.entry.bytes.now self.entry.iid_count
             (decode_says result) out.old out.new }
     {
-        decode::decode1(
-            self.bytes,
-            self.iid_count,
+        let coding = Coding {
             is_a1_counted,
-            missing_value,
-            out,
-        )
+            missing: missing_value,
+        };
+        decode::decode1(self.bytes, self.iid_count, coding, out)
     }
 }
 
@@ -80,13 +79,11 @@ impl<'a> MarkerBlockMut<'a> {
             (pack_says result) self.entry.bytes.now self.exit.0.now }
     {
         let iid_count = self.iid_count;
-        pack::pack1(
-            &mut *self.bytes,
-            iid_count,
-            in_vector,
+        let coding = Coding {
             is_a1_counted,
             missing,
-        )
+        };
+        pack::pack1(&mut *self.bytes, iid_count, in_vector, coding)
     }
 }
 
@@ -97,7 +94,7 @@ pub fn code_in_block(bytes: &[u8], iid_count: usize, iid: IidIndex) -> Result<u8
     MarkerBlock::new(bytes, iid_count).code(iid)
 }
 
-pub fn decode_block<T: DecodeVal>(
+pub fn decode_block<T: BedVal>(
     bytes: &[u8],
     iid_count: usize,
     is_a1_counted: bool,

@@ -5,6 +5,7 @@ ghost use Rattle.block.specs.Blocks.{Packs};
 ghost use Rattle.block.specs.Says.{pack_says, pack_refusal};
 
 use bed_write::{EncodeError, EncodeVal};
+use codes::Coding;
 use entries::IidIndex;
 
 // What a block's `encode1` refuses: 18, 16, 15, or 7.
@@ -32,10 +33,9 @@ pub(crate) fn pack1<T: EncodeVal>(
     bytes: &mut [u8],
     iid_count: usize,
     in_vector: &[T],
-    is_a1_counted: bool,
-    missing: T,
+    coding: Coding<T>,
 ) -> Result<(), PackError>
-    ensures { Packs T.width is_a1_counted missing in_vector.now iid_count (pack_says result) bytes.old bytes.new }
+    ensures { Packs T.width coding.is_a1_counted coding.missing in_vector.now iid_count (pack_says result) bytes.old bytes.new }
 {
     if iid_count > answer::COUNT_LIMIT {
         return Err(PackError::CountTooLarge);
@@ -46,6 +46,6 @@ pub(crate) fn pack1<T: EncodeVal>(
     if in_vector.len() != iid_count {
         return Err(PackError::IndexMismatch);
     }
-    bed_write::encode1(in_vector, bytes, is_a1_counted, missing)?;
+    bed_write::encode1(in_vector, bytes, coding.is_a1_counted, coding.missing)?;
     Ok(())
 }

@@ -8,9 +8,9 @@ use borrow.Author.Tests.{ne_eqb, eq-eqb, le-leb, lt-leb, leb-true}
 use lib.Dec.{leb}
 use lib.IntN.{pos}
 use mathlib.Core.List.{[], ◌∷◌}
-use Rattle.answer.specs.Answer.{done, refused, count_limit, counts_fit, is_done, check_count}
-use Rattle.blocks.specs.Block.{block_width, file_length, div_answer, check_size}
-use Rattle.answer.proofs.AnswerLaws.{both_fit, counts_refuse, check_done, count_done, Stage, check_stage, count_stage, then_stage}
+use Rattle.answer.specs.Answer.{Answer, done, refused, count_limit, counts_fit, is_done, check_count}
+use Rattle.blocks.specs.Block.{block_width, file_length, div_answer, size_answer, check_size}
+use Rattle.answer.proofs.AnswerLaws.{both_fit, counts_refuse, check_done, count_done, Stage, check_stage, count_stage, then_stage, heard, stays}
 
 -- "Block width is 0 for nothing in a block"
 pub width_none : (n : ℕ) → n ≡ 0 → block_width n ≡ 0
@@ -92,3 +92,34 @@ width_given i s w e =
 pub size_stage : (items blocks : ℕ) → Stage (λ later. check_count items (check_count blocks (check_size items blocks later)))
 unfolding check_size
 size_stage items blocks = then_stage (count_stage items) (then_stage (count_stage blocks) (check_stage (leb (file_length items blocks) (2 ^ 64 - 1)) 4))
+
+-- ---- the length of a file, by what `try_div_4` says
+module _ (i s : ℕ) where
+  pub length_refused : (k : ℕ) → refused k [] ≡ div_answer i s → refused k [] ≡ size_answer i s
+  unfolding size_answer div_answer
+  length_refused k e = sym (stays (size_stage i s) _ k [] (sym e) _)
+
+  module _ (w : ℕ) (e : done (pos w ∷ []) ≡ div_answer i s) where
+    whole : w * s + 3 ≡ file_length i s
+    whole = let k : w * s ≡ block_width i * s = ap (λ (x : ℕ). x * s) (width_given i s w e).width_is in omega arith
+
+    pub length_fits : w * s + 3 < 2 ^ 64
+    length_fits = let k = (width_given i s w e).length_fits in let h = whole in omega arith
+
+    pub length_told : done (pos (w * s + 3) ∷ []) ≡ size_answer i s
+    unfolding size_answer div_answer
+    length_told = ap (λ (n : ℕ). done (pos n ∷ [])) whole ∙ sym (heard (size_stage i s) _ (sym (ap is_done e)) _)
+
+-- what that answer says of the same checks before others
+module _ (i s : ℕ) (later : Answer) where
+  pub size_refuses : (k : ℕ) → refused k [] ≡ size_answer i s → check_count i (check_count s (check_size i s later)) ≡ refused k []
+  unfolding size_answer
+  size_refuses k e = stays (size_stage i s) _ k [] (sym e) later
+
+  pub size_passes : (n : ℕ) → done (pos n ∷ []) ≡ size_answer i s → check_count i (check_count s (check_size i s later)) ≡ later
+  unfolding size_answer
+  size_passes n e = heard (size_stage i s) _ (sym (ap is_done e)) later
+
+pub size_is : (i s n : ℕ) → done (pos n ∷ []) ≡ size_answer i s → n ≡ file_length i s
+unfolding size_answer
+size_is i s n e = let q : done (pos n ∷ []) ≡ done (pos (file_length i s) ∷ []) = e ∙ size_passes i s _ n e in cc

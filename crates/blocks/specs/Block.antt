@@ -19,3 +19,8 @@ check_size items blocks later = check (leb (file_length items blocks) (2 ^ 64 - 
 unfoldable pub div_answer : ℕ → ℕ → Answer
 unfolding check_count check_size
 div_answer items blocks = check_count items (check_count blocks (check_size items blocks (done (pos (block_width items) ∷ []))))
+
+-- the same checks, for how many bytes the file has
+unfoldable pub size_answer : ℕ → ℕ → Answer
+unfolding check_count check_size
+size_answer items blocks = check_count items (check_count blocks (check_size items blocks (done (pos (file_length items blocks) ∷ []))))

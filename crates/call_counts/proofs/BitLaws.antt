@@ -10,7 +10,8 @@ use Rattle.answer.specs.Lists.{tabulate}
 use Rattle.answer.proofs.Tabulate.{get_d_tabulate}
 use Rattle.codes.specs.Code.{code_at}
 use Rattle.codes.proofs.CodeLaws.{place_code_law}
-use Rattle.call_counts.specs.Private.{total, total_items, in_byte, weight, tally, tally_items, low_bit, high_bit, both_bits, BitsCounted, TallyOf}
+use Rattle.call_counts.specs.declared.bits.BitCounts.{BitCounts}
+use Rattle.call_counts.specs.Private.{total, total_items, in_byte, weight, tally, tally_items, low_bit, high_bit, both_bits, BitsCounted, Ordered, bits_sum, TallyOf}
 use Rattle.call_counts.proofs.TallyLaws.{total_ext}
 use Rattle.call_counts.proofs.BlockLaws.{byte_more}
 
@@ -186,7 +187,7 @@ module _ (h : ℕ → ℕ) (file : List ℕ) where
 
 -- ---- rows so far
 module _ (file : List ℕ) (start : ℕ) where
-  pub bits_none : BitsCounted file start 0 0 0 0
+  pub bits_none : BitsCounted file start 0 (record { low = 0; high = 0; both = 0 })
   unfolding total
   bits_none = record { low_is = refl; high_is = refl; both_is = refl }
 
@@ -201,28 +202,20 @@ module _ (file : List ℕ) (start : ℕ) where
       let t = ap (total_items h file start) b in
       omega (arith, e, f, p, s, t)
 
-  -- k rows more
+  -- k rows more: n codes after r rows make m
   pub bits_more :
-      (r k low high both low' high' both' : ℕ) → BitsCounted file start (64 * r) low high both → BitsCounted file (start + 16 * r) (64 * k) low' high' both'
-      → BitsCounted file start (64 * (r + k)) (low + low') (high + high') (both + both')
-  bits_more r k low high both low' high' both' b c =
-      record {
-        low_is = add_rows low_bit r k low low' b.low_is c.low_is;
-        high_is = add_rows high_bit r k high high' b.high_is c.high_is;
-        both_is = add_rows both_bits r k both both' b.both_is c.both_is;
-      }
-
-  -- three rows more
-  pub triple_more :
-      (t low high both low' high' both' : ℕ) → BitsCounted file start (192 * t) low high both → BitsCounted file (start + 48 * t) 192 low' high' both'
-      → BitsCounted file start (192 * (t + 1)) (low + low') (high + high') (both + both')
-  triple_more t low high both low' high' both' b c =
-      let n : 192 * t ≡ 64 * (3 * t) = omega arith in
-      let a : start + 48 * t ≡ start + 16 * (3 * t) = omega arith in
-      let m : 64 * (3 * t + 3) ≡ 192 * (t + 1) = omega arith in
-      let b' = subst (λ (x : ℕ). BitsCounted file start x low high both) n b in
-      let c' = subst (λ (x : ℕ). BitsCounted file x 192 low' high' both') a c in
-      subst (λ (x : ℕ). BitsCounted file start x (low + low') (high + high') (both + both')) m (bits_more (3 * t) 3 low high both low' high' both' b' c')
+      (r k n m at : ℕ) (bits more sum : BitCounts) → sum ≡ bits_sum bits more → at ≡ start + 16 * r → n ≡ 64 * r → m ≡ 64 * (r + k)
+      → BitsCounted file start n bits → BitsCounted file at (64 * k) more → BitsCounted file start m sum
+  bits_more r k n m at bits more sum e a en em b c =
+      let b' = subst (λ (x : ℕ). BitsCounted file start x bits) en b in
+      let c' = subst (λ (x : ℕ). BitsCounted file x (64 * k) more) a c in
+      subst (BitsCounted file start m) (sym e)
+      (subst (λ (x : ℕ). BitsCounted file start x (bits_sum bits more)) (sym em)
+      (record {
+        low_is = add_rows low_bit r k bits.low more.low b'.low_is c'.low_is;
+        high_is = add_rows high_bit r k bits.high more.high b'.high_is c'.high_is;
+        both_is = add_rows both_bits r k bits.both more.both b'.both_is c'.both_is;
+      }))
 
 -- ---- the tally by the bits
 module _ (z o t b : ℕ) where
@@ -230,9 +223,9 @@ module _ (z o t b : ℕ) where
   abbrev four : ℕ
   four = z * 4294967296 + o * 281474976710656 + t * 65536 + b
 
-  four_tally : (n low high : ℕ) → low ≡ o + b → high ≡ t + b → n ≡ z + (low + t) → TallyOf n low high b four
+  four_tally : (n : ℕ) (bits : BitCounts) → bits.low ≡ o + b → bits.high ≡ t + b → bits.both ≡ b → n ≡ z + (bits.low + t) → TallyOf n bits four
   unfolding weight
-  four_tally n low high el eh en = omega arith
+  four_tally n bits el eh eb en = omega arith
 
   four_room : z + o + t + b < 65536 → four < 2 ^ 64
   four_room h =
@@ -244,50 +237,55 @@ module _ (z o t b : ℕ) where
       room : (u v : ℕ) → u ≤ z * 281474976710656 → v ≤ t * 281474976710656 → b ≤ b * 281474976710656 → u + o * 281474976710656 + v + b < 2 ^ 64
       room u v x y w = omega arith
 
-module _ (n low high both : ℕ) (l : both ≤ low) (h : both ≤ high) (m : low + high ≤ n + both) where
-  pub tally_is : TallyOf n low high both (four (n - (low + (high - both))) (low - both) (high - both) both)
-  tally_is = four_tally (n - (low + (high - both))) (low - both) (high - both) both n low high (omega arith) (omega arith) (omega arith)
+module _ (n : ℕ) (bits : BitCounts) (o : Ordered n bits) where
+  pub tally_is : TallyOf n bits (four (n - (bits.low + (bits.high - bits.both))) (bits.low - bits.both) (bits.high - bits.both) bits.both)
+  tally_is = four_tally (n - (bits.low + (bits.high - bits.both))) (bits.low - bits.both) (bits.high - bits.both) bits.both n bits (omega arith) (omega arith) refl (omega arith)
 
-  pub tally_fits : n < 65536 → four (n - (low + (high - both))) (low - both) (high - both) both < 2 ^ 64
-  tally_fits f = four_room (n - (low + (high - both))) (low - both) (high - both) both (omega arith)
+  pub tally_fits : n < 65536 → four (n - (bits.low + (bits.high - bits.both))) (bits.low - bits.both) (bits.high - bits.both) bits.both < 2 ^ 64
+  tally_fits f = four_room (n - (bits.low + (bits.high - bits.both))) (bits.low - bits.both) (bits.high - bits.both) bits.both (omega arith)
 
-code_order : (x : ℕ) → (both_bits x ≤ low_bit x) × (both_bits x ≤ high_bit x) × (low_bit x + high_bit x ≤ 1 + both_bits x)
+-- one code
+abbrev one_code : ℕ → BitCounts
+one_code x = record { low = low_bit x; high = high_bit x; both = both_bits x }
+
+code_order : (x : ℕ) → Ordered 1 (one_code x)
 unfolding low_bit high_bit both_bits
 code_order zero = (omega arith, omega arith, omega arith)
 code_order (suc zero) = (omega arith, omega arith, omega arith)
 code_order (suc (suc zero)) = (omega arith, omega arith, omega arith)
 code_order (suc (suc (suc n))) = (omega arith, omega arith, omega arith)
 
-code_tally : (x : ℕ) → TallyOf 1 (low_bit x) (high_bit x) (both_bits x) (weight x)
+code_tally : (x : ℕ) → TallyOf 1 (one_code x) (weight x)
 unfolding low_bit high_bit both_bits weight
 code_tally zero = refl
 code_tally (suc zero) = refl
 code_tally (suc (suc zero)) = refl
 code_tally (suc (suc (suc n))) = refl
 
+-- n codes
 module _ (code : ℕ → ℕ) where
-  abbrev ordered : ℕ → ℕ → ℕ → ℕ → Type 0
-  ordered n low high both = (both ≤ low) × (both ≤ high) × (low + high ≤ n + both)
+  abbrev bits_of : ℕ → BitCounts
+  bits_of n = record { low = total low_bit code n; high = total high_bit code n; both = total both_bits code n }
 
-  pub bits_order : (n : ℕ) → ordered n (total low_bit code n) (total high_bit code n) (total both_bits code n)
+  bits_order : (n : ℕ) → Ordered n (bits_of n)
   unfolding total
   bits_order zero = (omega arith, omega arith, omega arith)
   bits_order (suc n) = let r = bits_order n in let o = code_order (code n) in (omega arith, omega arith, omega arith)
 
-  bits_tally : (n : ℕ) → TallyOf n (total low_bit code n) (total high_bit code n) (total both_bits code n) (tally code n)
+  bits_tally : (n : ℕ) → TallyOf n (bits_of n) (tally code n)
   unfolding total weight
   bits_tally zero = refl
   bits_tally (suc n) = let r = bits_tally n in let o = code_tally (code n) in omega arith
 
-module _ (file : List ℕ) (start n low high both : ℕ) (r : BitsCounted file start n low high both) where
-  pub counted_most : (low ≤ n) × (high ≤ n) × (both ≤ n)
+module _ (file : List ℕ) (start n : ℕ) (bits : BitCounts) (r : BitsCounted file start n bits) where
+  pub counted_most : (bits.low ≤ n) × (bits.high ≤ n) × (bits.both ≤ n)
   counted_most =
       let a = items_most low_bit file is_low start n in
       let b = items_most high_bit file is_high start n in
       let c = items_most both_bits file is_both start n in
       (omega (arith, r.low_is), omega (arith, r.high_is), omega (arith, r.both_is))
 
-  pub counted_order : (both ≤ low) × (both ≤ high) × (low + high ≤ n + both)
+  pub counted_order : Ordered n bits
   counted_order =
       let o = bits_order (λ i. code_at (get_or file (start + i / 4) 0) (i % 4)) n in
       let a = r.low_is in
@@ -295,7 +293,7 @@ module _ (file : List ℕ) (start n low high both : ℕ) (r : BitsCounted file s
       let c = r.both_is in
       (omega arith, omega arith, omega arith)
 
-  pub counted_tally : (t : ℕ) → TallyOf n low high both t → t ≡ tally_items file start n
+  pub counted_tally : (t : ℕ) → TallyOf n bits t → t ≡ tally_items file start n
   unfolding weight
   counted_tally t e =
       let o = bits_tally (λ i. code_at (get_or file (start + i / 4) 0) (i % 4)) n in

@@ -1,26 +1,18 @@
 -- Laws of a marker's block: its tally by bytes, and where its items stand.
-use mathlib.Core.Path.{◌≡◌, sym, ap, subst, ◌∙◌}
-use mathlib.Core.Bool.{Bool, true, false}
+use mathlib.Core.Path.{◌≡◌, sym, ap, ◌∙◌}
+use mathlib.Core.Bool.{true, false}
 use mathlib.Core.List.{List}
-use Rattle.std.specs.Prelude.{None}
 use Prim.Native.Nat.{ℕ, suc, ◌+◌, ◌-◌, ◌*◌, ◌/◌, ◌%◌, ◌^◌, ◌<◌, ◌≤◌}
 use native.Mathlib.Omega.{arith}
-use lib.IntN.{ℤ, pos}
+use lib.IntN.{ℤ}
 use lib.ListN.{length, get_or}
-use Rattle.answer.proofs.Tests.{by_lt}
 use Rattle.answer.proofs.Tabulate.{get_d_tabulate}
-use Rattle.blocks.specs.Block.{block_width}
-use Rattle.entries.specs.Entry.{first_bad}
-use Rattle.entries.proofs.EntryLaws.{means_below, all_good}
 use Rattle.codes.specs.Code.{code_at}
-use Rattle.bed_file.specs.File.{items, blocks}
-use Rattle.calls.specs.Calls.{call_code}
 use Rattle.calls.specs.declared.Shape.{Shape}
-use Rattle.calls.specs.Places.{Shaped, is_block, part_byte, in_word}
-use Rattle.calls.proofs.CallLaws.{call_at, byte_inside}
-use Rattle.calls.proofs.PlaceLaws.{sid_byte_law}
+use Rattle.calls.specs.Lists.{entry_number, entry_byte, is_along_block, Ready}
+use Rattle.calls.proofs.ListLaws.{along_inside, along_code}
 use Rattle.call_counts.specs.Counts.{code_named}
-use Rattle.call_counts.specs.Private.{InOrder, total, total_items, in_byte, weight, byte_tallies, tally_items, tally_named}
+use Rattle.call_counts.specs.Private.{total, total_items, in_byte, weight, byte_tallies, tally_items, tally_named}
 use Rattle.call_counts.proofs.TallyLaws.{tally_most, total_ext}
 
 -- ---- the tally of a byte, by the table
@@ -73,49 +65,23 @@ module _ (file : List ℕ) (start : ℕ) where
         let g = block_more_law in
         omega (arith, m, g)
 
--- ---- entries in file order, in mode 1: n of them from `from` on are items of the marker's block
-module _ (file : List ℕ) (shape : Shape) (sh : Shaped file shape) (il : List ℤ) (gi : first_bad shape.iids il ≡ None) (mode : shape.mode1 ≡ true)
-    (order : InOrder shape.iids il (length il)) (m from n start : ℕ) (hm : m < shape.sids) (l : from + n ≤ length il) (whole : from % 4 ≡ 0)
-    (fits : length file < 2 ^ 64) (em : start ≡ in_word (part_byte (is_block shape.mode1 false) shape.width m)) (small : m < 2 ^ 64) where
-  width_is : shape.width ≡ block_width shape.iids
-  unfolding items
-  width_is = sh.width_is ∙ ap (λ (b : Bool). block_width (items b shape.iids shape.sids)) mode
-
-  start_is : start ≡ 3 + m * block_width shape.iids
-  unfolding part_byte
-  start_is =
-      em
-      ∙ sid_byte_law file shape sh fits m hm small
-      ∙ ap (λ (b : Bool). part_byte (is_block b false) shape.width m) mode
-      ∙ ap (λ (w : ℕ). 3 + m * w) width_is
-
-  animal_below : (k : ℕ) → k < length il → k < shape.iids
-  animal_below k h = subst (λ (x : ℕ). x < shape.iids) (order k h) (means_below shape.iids (get_or il k (pos 0)) (all_good shape.iids il k gi h))
-
-  pub named_item :
-      (i : ℕ) → i < n → code_named file shape.iids shape.sids il m (from + i) ≡ code_at (get_or file (start + from / 4 + i / 4) 0) (i % 4)
-  unfolding code_named items
+-- ---- n entries from `from` on that are items of a marker's block, in order
+module _ (file : List ℕ) (shape : Shape) (il sl : List ℤ) (r : Ready file shape false sl il) (along : is_along_block shape true il ≡ true)
+    (m from n start : ℕ) (hm : m < length sl) (l : from + n ≤ length il) (whole : from % 4 ≡ 0) (em : start ≡ entry_byte shape false sl m) where
+  named_item :
+      (i : ℕ) → i < n
+      → code_named file shape.iids shape.sids il (entry_number shape false sl m) (from + i) ≡ code_at (get_or file (start + from / 4 + i / 4) 0) (i % 4)
+  unfolding code_named entry_number
   named_item i h =
-      let k : from + i < length il = omega arith in
-      let p : 3 + m * block_width shape.iids + (from + i) / 4 ≡ start + from / 4 + i / 4 = (let s = start_is in omega arith) in
+      let p : start + (from + i) / 4 ≡ start + from / 4 + i / 4 = omega arith in
       let q : (from + i) % 4 ≡ i % 4 = omega arith in
-      ap (λ (a : ℕ). call_code file shape.iids shape.sids a m) (order (from + i) k)
-      ∙ call_at file shape.iids shape.sids (from + i) m true (sym mode ∙ sh.mode_is) (animal_below (from + i) k) hm
+      sym (along_code file shape false sl il r along m start hm em (from + i) (omega arith))
       ∙ ap (λ (x : ℕ). code_at (get_or file x 0) ((from + i) % 4)) p
       ∙ ap (code_at (get_or file (start + from / 4 + i / 4) 0)) q
 
-  pub block_tally : (r : ℕ) → r ≡ tally_items file (start + from / 4) n → r ≡ tally_named file shape.iids shape.sids il m from n
-  block_tally r e = e ∙ sym (total_ext weight _ _ n named_item)
+  pub block_tally : (t : ℕ) → t ≡ tally_items file (start + from / 4) n → t ≡ tally_named file shape.iids shape.sids il (entry_number shape false sl m) from n
+  block_tally t e = e ∙ sym (total_ext weight _ _ n named_item)
 
   -- and stand in the file
   pub block_inside : n ≤ 4 * (length file - (start + from / 4))
-  unfolding items blocks
-  block_inside = by_lt 0 n inside (λ h. omega arith)
-    where
-      inside : 0 < n → n ≤ 4 * (length file - (start + from / 4))
-      inside h =
-          let size : length file ≡ 3 + block_width shape.iids * shape.sids =
-          sh.length_is ∙ ap (λ (b : Bool). 3 + block_width (items b shape.iids shape.sids) * blocks b shape.iids shape.sids) mode in
-          let b = byte_inside file shape.iids shape.sids m (from + n - 1) size hm (animal_below (from + n - 1) (omega arith)) in
-          let s = start_is in
-          omega arith
+  block_inside = let i = along_inside file shape false sl il r along m start hm em in omega arith

@@ -63,8 +63,8 @@ module _ (file : List ℕ) (iids sids : ℕ) (il sl : List ℤ) where
   unfolding count_at how_many
   counted_none counts size l z = record { long = l; holds = λ p h. z p (omega arith) }
 
-  -- n entries more, by the tally of a marker
-  module _ (from n k m packed : ℕ) (h : n < 65536) (e : m ≡ means sids (get_or sl k (pos 0))) (t : packed ≡ tally_named file iids sids il m from n) where
+  -- n entries more, by the tally at the marker that entry k means
+  module _ (from n k packed : ℕ) (h : n < 65536) (t : packed ≡ tally_named file iids sids il (means sids (get_or sl k (pos 0))) from n) where
     pub count_more : (j : ℕ) → j < 4 → count_at file iids sids il sl (from + n) (4 * k + j) ≡ count_at file iids sids il sl from (4 * k + j) + in_tally packed j
     unfolding count_at
     count_more j b =
@@ -77,12 +77,11 @@ module _ (file : List ℕ) (iids sids : ℕ) (il sl : List ℤ) where
             → how_many (from + n) (λ i. same_copies (counted y) (copies (code_named file iids sids il (means sids (get_or sl x (pos 0))) i)))
             ≡ how_many from (λ i. same_copies (counted y) (copies (code_named file iids sids il (means sids (get_or sl x (pos 0))) i))) + in_tally packed j
         at x y q r =
-            let s : m ≡ means sids (get_or sl x (pos 0)) = e ∙ ap (λ (z : ℕ). means sids (get_or sl z (pos 0))) (sym q) in
+            let s : packed ≡ tally_named file iids sids il (means sids (get_or sl x (pos 0))) from n = t ∙ ap (λ (z : ℕ). tally_named file iids sids il (means sids (get_or sl z (pos 0))) from n) (sym q) in
             many_add from n (λ i. same_copies (counted y) (copies (code_named file iids sids il (means sids (get_or sl x (pos 0))) i)))
             ∙ ap (λ (z : ℕ). how_many from (λ i. same_copies (counted y) (copies (code_named file iids sids il (means sids (get_or sl x (pos 0))) i))) + z)
             (sym (in_tally_law (λ i. code_named file iids sids il (means sids (get_or sl x (pos 0))) (from + i)) n y h (omega arith))
-            ∙ ap (λ (z : ℕ). in_tally (tally_named file iids sids il z from n) y) (sym s)
-            ∙ ap (λ (z : ℕ). in_tally z y) (sym t)
+            ∙ ap (λ (z : ℕ). in_tally z y) (sym s)
             ∙ ap (in_tally packed) r)
 
     -- no count passes 64 bits, since none passes the length of the animal list

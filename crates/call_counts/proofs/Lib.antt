@@ -1,4 +1,3 @@
-pub mod CheckLaws
 pub mod TallyLaws
 pub mod BlockLaws
 pub mod BitLaws

@@ -21,7 +21,7 @@ use Rattle.bed_file.proofs.FileLaws.{accepted}
 use Rattle.calls.specs.Calls.{call_code}
 use Rattle.bed_read.specs.Reading.{check_lists, file_order, read_code}
 use Rattle.call_counts.specs.Counts.{counts_answer, same_copies, code_named, calls_with, counted, new_counts, later_counts}
-use Rattle.call_counts.proofs.CheckLaws.{countable}
+use Rattle.bed_read.proofs.ReadLaws.{checked}
 use Rattle.answer.proofs.HowMany.{many_most, many_ext}
 use Rattle.call_counts.proofs.TallyLaws.{four_add}
 
@@ -129,8 +129,8 @@ module _ (f g : List ℕ) (iids sids : ℕ) (df : is_done (accept_answer f iids 
       (agree _ _ (means_below iids (get_or il k (pos 0)) (all_good iids il k gi h)) (means_below sids (get_or sl (p / 4) (pos 0)) (all_good sids sl (p / 4) gs (omega arith))))))
 
   pub agree_counts : (old : List ℕ) → later_counts f iids sids il sl old ≡ later_counts g iids sids il sl old
-  unfolding later_counts
+  unfolding later_counts counts_answer
   agree_counts old =
       same_if_done (counts_answer f iids sids il sl (length old)) _ _ old
-      (λ d. let c = countable f iids sids il sl (length old) d in same_counts c.iids_good c.sids_good)
+      (λ d. let c = checked 4 f iids sids il sl (length old) d in same_counts c.iids_good c.sids_good)
       ∙ ap (λ (a : Answer). if_done a (new_counts g iids sids il sl) old) (agree_answer (length old))

@@ -1,40 +1,12 @@
 -- What only private functions speak in.
-use Rattle.std.specs.Prelude.{◌≡◌, true, List, [], ◌∷◌, ℕ, zero, suc, ◌+◌, ◌*◌, ◌/◌, ◌%◌, ◌<◌, ◌≤◌, ℤ, pos, length, get_or}
-use Rattle.std.specs.Prelude.{None}
+use Rattle.std.specs.Prelude.{◌≡◌, List, [], ◌∷◌, ℕ, zero, suc, ◌+◌, ◌*◌, ◌/◌, ◌%◌, ◌<◌, ◌≤◌, ℤ, pos, length, get_or}
 use Rattle.answer.specs.Lists.{tabulate, how_many}
-use Rattle.entries.specs.Entry.{first_bad, means}
+use Rattle.entries.specs.Entry.{means}
 use Rattle.codes.specs.Code.{copies, code_at}
-use Rattle.calls.specs.declared.Shape.{Shape}
 use Rattle.calls.specs.declared.Part.{Part}
-use Rattle.calls.specs.Places.{Shaped, is_block, part_byte, part_place, in_word}
-use Rattle.call_counts.specs.declared.run.RunParts.{RunParts}
+use Rattle.calls.specs.declared.parts.Parts.{Parts}
+use Rattle.call_counts.specs.declared.bits.BitCounts.{BitCounts}
 use Rattle.call_counts.specs.Counts.{same_copies, code_named, counted}
-
--- an accepted file, and both lists are good
-pub record Ready (file : List ℕ) (shape : Shape) (iid_list sid_list : List ℤ) : Type 0 where
-  pub shaped : Shaped file shape
-  pub iids_good : first_bad shape.iids iid_list ≡ None
-  pub sids_good : first_bad shape.sids sid_list ≡ None
-
--- the first n entries of a list mean 0, 1, 2 and so on
-abbrev pub InOrder : ℕ → List ℤ → ℕ → Type 0
-InOrder count list n = (k : ℕ) → k < n → means count (get_or list k (pos 0)) ≡ k
-
--- a marker is a block, and the entries of the animal list are its items in order
-abbrev pub Along : Shape → List ℤ → Type 0
-Along shape iid_list = (shape.mode1 ≡ true) × InOrder shape.iids iid_list (length iid_list)
-
--- what n entries of the animal list, from `from` on, add to where a call stands
-pub record EntryParts (shape : Shape) (iid_list : List ℤ) (from n : ℕ) (run : RunParts) : Type 0 where
-  pub byte_is :
-      (k : ℕ) → k < n
-      → get_or run.bytes k 0 ≡ in_word (part_byte (is_block shape.mode1 true) shape.width (means shape.iids (get_or iid_list (from + k) (pos 0))))
-  pub place_is : (k : ℕ) → k < n → get_or run.places k 0 ≡ part_place (is_block shape.mode1 true) (means shape.iids (get_or iid_list (from + k) (pos 0)))
-
--- with those of a marker: bytes in the file, and places in a byte
-pub record Inside (file : List ℕ) (part : Part) (run : RunParts) (n : ℕ) : Type 0 where
-  pub byte_in : (k : ℕ) → k < n → part.byte + get_or run.bytes k 0 < length file
-  pub place_in : (k : ℕ) → k < n → part.place + get_or run.places k 0 < 4
 
 -- ---- a number of each code, added up
 -- the sum of h over n codes
@@ -71,8 +43,8 @@ abbrev pub code_weights : List ℕ
 code_weights = weight 0 ∷ weight 1 ∷ weight 2 ∷ weight 3 ∷ []
 
 -- the tally of n resolved entries
-abbrev pub tally_parts : List ℕ → Part → RunParts → ℕ → ℕ
-tally_parts file part run n = tally (λ k. code_at (get_or file (part.byte + get_or run.bytes k 0) 0) (part.place + get_or run.places k 0)) n
+abbrev pub tally_parts : List ℕ → Part → Parts → ℕ → ℕ
+tally_parts file part parts n = tally (λ k. code_at (get_or file (part.byte + get_or parts.bytes k 0) 0) (part.place + get_or parts.places k 0)) n
 
 -- the tally of n items of the block that starts at a byte
 abbrev pub tally_items : List ℕ → ℕ → ℕ → ℕ
@@ -102,15 +74,24 @@ both_bits (suc (suc zero)) = 0
 both_bits (suc (suc (suc n))) = 1
 
 -- how many of n items of the block that starts at a byte have each
-pub record BitsCounted (file : List ℕ) (start n low high both : ℕ) : Type 0 where
-  pub low_is : low ≡ total_items low_bit file start n
-  pub high_is : high ≡ total_items high_bit file start n
-  pub both_is : both ≡ total_items both_bits file start n
+pub record BitsCounted (file : List ℕ) (start n : ℕ) (bits : BitCounts) : Type 0 where
+  pub low_is : bits.low ≡ total_items low_bit file start n
+  pub high_is : bits.high ≡ total_items high_bit file start n
+  pub both_is : bits.both ≡ total_items both_bits file start n
+
+-- of n codes those with both bits have each, and the others at most one
+abbrev pub Ordered : ℕ → BitCounts → Type 0
+Ordered n bits = (bits.both ≤ bits.low) × (bits.both ≤ bits.high) × (bits.low + bits.high ≤ n + bits.both)
+
+-- the bits of two lists of codes
+abbrev pub bits_sum : BitCounts → BitCounts → BitCounts
+bits_sum a b = record { low = a.low + b.low; high = a.high + b.high; both = a.both + b.both }
 
 -- t is the tally of n codes of which so many have each: code 1 has the low bit alone, code 2 the high one alone, code 3 both, code 0 neither
-abbrev pub TallyOf : ℕ → ℕ → ℕ → ℕ → ℕ → Type 0
-TallyOf n low high both t =
-    t + weight 0 * (low + high) + (weight 1 + weight 2) * both ≡ weight 0 * (n + both) + weight 1 * low + weight 2 * high + weight 3 * both
+abbrev pub TallyOf : ℕ → BitCounts → ℕ → Type 0
+TallyOf n bits t =
+    t + weight 0 * (bits.low + bits.high) + (weight 1 + weight 2) * bits.both
+    ≡ weight 0 * (n + bits.both) + weight 1 * bits.low + weight 2 * bits.high + weight 3 * bits.both
 
 -- count j of a tally
 unfoldable pub in_tally : ℕ → ℕ → ℕ

@@ -1,6 +1,6 @@
 // The two bits of each code, counted in many bytes at once.
-ghost use Rattle.std.specs.Prelude.{◌≡◌, ◌+◌, ◌-◌, ◌*◌, ◌<◌, ◌≤◌, length};
-ghost use Rattle.call_counts.specs.Private.{in_byte, low_bit, high_bit, both_bits, BitsCounted, TallyOf, tally_items};
+ghost use Rattle.std.specs.Prelude.{◌≡◌, ◌+◌, ◌-◌, ◌*◌, ◌^◌, ◌<◌, ◌≤◌, length};
+ghost use Rattle.call_counts.specs.Private.{in_byte, low_bit, high_bit, both_bits, BitsCounted, Ordered, bits_sum, TallyOf, tally_items};
 
 // How many codes have the low bit, the high bit, and both.
 #[derive(Clone, Copy)]
@@ -8,6 +8,31 @@ struct BitCounts {
     low: u64,
     high: u64,
     both: u64,
+}
+
+impl BitCounts {
+    // Of these codes and of more.
+    fn plus(self, more: BitCounts) -> BitCounts
+        requires { (self.low + more.low < 2 ^ 64) × (self.high + more.high < 2 ^ 64) × (self.both + more.both < 2 ^ 64) }
+        ensures { result ≡ bits_sum self more }
+    {
+        BitCounts {
+            low: self.low + more.low,
+            high: self.high + more.high,
+            both: self.both + more.both,
+        }
+    }
+
+    // The tally of n codes of which so many have each bit.
+    fn tally_of(self, n: u64) -> u64
+        requires { Ordered n self × (n < 65536) }
+        ensures { TallyOf n self result }
+    {
+        let ones = self.low - self.both;
+        let twos = self.high - self.both;
+        let zeros = n - (self.low + twos);
+        zeros * 4294967296 + ones * 281474976710656 + twos * 65536 + self.both
+    }
 }
 
 // The sum of the four codes of a byte.
@@ -42,7 +67,7 @@ fn both_bits(x: u8, y: u8, z: u8) -> u8
 // The bits of a row of 16 bytes, which is one vector.
 fn count_row(file: &[u8], at: usize) -> BitCounts
     requires { at + 16 ≤ length file.now }
-    ensures { BitsCounted file.now at 64 result.low result.high result.both }
+    ensures { BitsCounted file.now at 64 result }
 {
     let mut low: u8 = 0;
     let mut high: u8 = 0;
@@ -63,7 +88,7 @@ fn count_row(file: &[u8], at: usize) -> BitCounts
 // The bits of three rows together: no sum passes a byte.
 fn count_three_rows(file: &[u8], at: usize) -> BitCounts
     requires { at + 48 ≤ length file.now }
-    ensures { BitsCounted file.now at 192 result.low result.high result.both }
+    ensures { BitsCounted file.now at 192 result }
 {
     let mut low: u8 = 0;
     let mut high: u8 = 0;
@@ -83,37 +108,22 @@ fn count_three_rows(file: &[u8], at: usize) -> BitCounts
     }
 }
 
-// The tally of n codes of which so many have each bit.
-fn tally_of(n: u64, low: u64, high: u64, both: u64) -> u64
-    requires { (both ≤ low) × (both ≤ high) × (low + high ≤ n + both) × (n < 65536) }
-    ensures { TallyOf n low high both result }
-{
-    let ones = low - both;
-    let twos = high - both;
-    let zeros = n - (low + twos);
-    zeros * 4294967296 + ones * 281474976710656 + twos * 65536 + both
-}
-
 // The tally of so many rows, from the byte `start` on.
 pub(crate) fn tally_rows(file: &[u8], start: usize, rows: usize) -> u64
     requires { (16 * rows ≤ length file.now - start) × (64 * rows < 65536) }
     ensures { result ≡ tally_items file.now start (64 * rows) }
 {
-    let mut low: u64 = 0;
-    let mut high: u64 = 0;
-    let mut both: u64 = 0;
+    let mut bits = BitCounts {
+        low: 0,
+        high: 0,
+        both: 0,
+    };
     let triples = rows / 3;
     for triple in 0..triples {
-        let bits = count_three_rows(file, start + 48 * triple);
-        low = low + bits.low;
-        high = high + bits.high;
-        both = both + bits.both;
+        bits = bits.plus(count_three_rows(file, start + 48 * triple));
     }
     for row in 3 * triples..rows {
-        let bits = count_row(file, start + 16 * row);
-        low = low + bits.low;
-        high = high + bits.high;
-        both = both + bits.both;
+        bits = bits.plus(count_row(file, start + 16 * row));
     }
-    tally_of((64 * rows) as u64, low, high, both)
+    bits.tally_of((64 * rows) as u64)
 }

@@ -1,16 +1,16 @@
 // The file and the two lists that calls are counted by.
-ghost use Rattle.std.specs.Prelude.{◌^◌, ◌<◌};
-ghost use Rattle.call_counts.specs.Private.{Ready};
+ghost use Rattle.std.specs.Prelude.{false};
+ghost use Rattle.calls.specs.Lists.{Ready};
 
 use calls::Shape;
 
-// An accepted file and two good lists. The counts of animals and of markers fit a word, as the machine holds them.
+// An accepted file and two good lists.
+// Not bed_read's `Lines`: a definition names that by its two types of items and what their trait says of each, and both lists have their names here.
 #[derive(Drop)]
 pub(crate) struct Lists<'a> {
     pub file: &'a [u8],
     pub shape: Shape,
     pub iid_index: &'a [i64],
     pub sid_index: &'a [i64],
-    ghost words: { (shape.iids < 2 ^ 64) × (shape.sids < 2 ^ 64) },
-    ghost ready: { Ready file.now shape iid_index.now sid_index.now },
+    ghost ready: { Ready file.now shape false sid_index.now iid_index.now },
 }

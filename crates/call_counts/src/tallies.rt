@@ -1,11 +1,11 @@
 // Tallies: the counts of a marker over a part of the animal list, in one number.
 ghost use Rattle.std.specs.Prelude.{◌≡◌, ℕ, ◌+◌, ◌-◌, ◌*◌, ◌^◌, ◌<◌, ◌≤◌, length, get_or};
-ghost use Rattle.call_counts.specs.Private.{Inside, tally_items, tally_parts, in_tally, Added};
+ghost use Rattle.calls.specs.Lists.{Inside};
+ghost use Rattle.call_counts.specs.Private.{tally_items, tally_parts, in_tally, Added};
 
 use crate::bits;
-use crate::run::RunParts;
 use crate::table::TallyTable;
-use calls::Part;
+use calls::{Part, Parts};
 
 // The tally of the first n items of the block that starts at a byte: by rows of 16 bytes, then byte by byte, then the items of the last one; pads are not counted.
 pub(crate) fn tally_block(file: &[u8], start: usize, n: usize, table: &TallyTable) -> u64
@@ -28,17 +28,17 @@ pub(crate) fn tally_block(file: &[u8], start: usize, n: usize, table: &TallyTabl
 pub(crate) fn tally_parts(
     file: &[u8],
     part: Part,
-    run: &RunParts,
+    parts: &Parts,
     n: usize,
     table: &TallyTable,
 ) -> u64
-    requires { Inside file.now part run.now n × (n ≤ 2048) }
-    ensures { result ≡ tally_parts file.now part run.now n }
+    requires { Inside file.now part.byte part.place parts.now n × (n ≤ 2048) }
+    ensures { result ≡ tally_parts file.now part parts.now n }
 {
     let mut sum: u64 = 0;
     for k in 0..n {
-        let byte = file[part.byte + run.bytes[k]];
-        sum = sum + table.weight_at(byte, part.place + usize::from(run.places[k]));
+        let byte = file[part.byte + parts.bytes[k]];
+        sum = sum + table.weight_at(byte, part.place + usize::from(parts.places[k]));
     }
     sum
 }

@@ -1,6 +1,6 @@
 -- Laws of where a call stands: the mode and the width of a file, and what animals and markers add.
 use mathlib.Core.Path.{◌≡◌, refl, sym, ap, subst, ◌∙◌}
-use mathlib.Core.Bool.{Bool, true, false, cond, beq}
+use mathlib.Core.Bool.{Bool, true, false, cond}
 use mathlib.Core.List.{List}
 use Prim.Native.Nat.{ℕ, ◌+◌, ◌-◌, ◌*◌, ◌/◌, ◌%◌, ◌^◌, ◌<◌, ◌≤◌}
 use native.Mathlib.Nat.{mul_comm, mul-le-mul, mul-le-mul_right}
@@ -60,16 +60,6 @@ pub word_outside : (n size : ℕ) → size < 2 ^ 64 → size ≤ in_word n → s
 word_outside n size l h = by_lt n (2 ^ 64) (λ k. let e = in_word_law n k in omega arith) (λ k. omega arith)
 
 -- ---- what a number adds
-apart : false ≡ true → ⊥
-apart q = let z : ◌≡◌ {A = ℕ} 0 1 = cc in omega arith
-
--- an animal in mode 1 and a marker in mode 0 are items
-pub same_is_item : (mode1 animals : Bool) → beq mode1 animals ≡ true → false ≡ is_block mode1 animals
-same_is_item true true e = refl
-same_is_item false false e = refl
-same_is_item true false e = absurd (apart e)
-same_is_item false true e = absurd (apart e)
-
 pub item_adds : (w n : ℕ) (part : Part) → n < 2 ^ 64 → part.byte ≡ n / 4 → part.place ≡ n % 4 → IsPart false w n part
 unfolding part_byte part_place
 item_adds w n part h b p = record { byte_is = b ∙ sym (in_word_law (n / 4) (omega arith)); place_is = p }
@@ -120,6 +110,9 @@ pub part_below : (b : Bool) (n : ℕ) → part_place b n < 4
 unfolding part_place
 part_below true n = omega arith
 part_below false n = omega arith
+
+pub place_below : (b : Bool) (w n : ℕ) (part : Part) → IsPart b w n part → part.place < 4
+place_below b w n part p = let q = p.place_is in let r = part_below b n in omega arith
 
 -- ---- what a number below its count adds, in an accepted file, fits a word
 start_fits : (n count w size : ℕ) → n < count → size ≡ 3 + w * count → size < 2 ^ 64 → 3 + n * w < 2 ^ 64

@@ -1,6 +1,8 @@
 // Where the calls of a file stand.
 #![tactic(auto)]
 
+mod parts;
+
 ghost use Rattle.std.specs.Prelude.{◌≡◌, true, false, ◌+◌, ◌*◌, ◌/◌, ◌%◌, leb, take, drop};
 ghost use Rattle.codes.specs.Code.{item_code};
 ghost use Rattle.bed_file.specs.File.{is_mode1};
@@ -8,6 +10,7 @@ ghost use Rattle.calls.specs.Calls.{call_code};
 ghost use Rattle.calls.specs.Places.{IsShape, is_block, IsPart};
 
 use entries::{IidIndex, Item, SidIndex};
+pub use parts::{Parts, at_once, entry_part, is_along_block};
 
 // How a file holds its calls: its mode, the width of a block, the counts of animals and markers.
 #[derive(Clone, Copy, Debug, PartialEq, Eq)]
@@ -80,13 +83,20 @@ fn block_part(width: usize, block: usize) -> Part
 }
 
 // An animal is an item of every block in mode 1, a block in mode 0; a marker is a block in mode 1, an item in mode 0.
+pub fn are_blocks<I: Item>(shape: Shape) -> bool
+    ensures { result ≡ is_block shape.mode1 I.is_animal }
+{
+    shape.mode1 != I::is_animal()
+}
+
+// What the number of an animal or of a marker adds.
 pub fn part_of<I: Item>(shape: Shape, item: I) -> Part
     ensures { IsPart (is_block shape.mode1 I.is_animal) shape.width (I.number item) result }
 {
-    if shape.mode1 == I::is_animal() {
-        return item_part(item.number());
+    if are_blocks::<I>(shape) {
+        return block_part(shape.width, item.number());
     }
-    block_part(shape.width, item.number())
+    item_part(item.number())
 }
 
 // The code of an item of a block of `width` bytes; 0 if the block or the file has no such byte.

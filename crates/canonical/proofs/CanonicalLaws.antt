@@ -2,51 +2,22 @@
 use mathlib.Core.Path.{◌≡◌, sym, ap, subst, ◌∙◌}
 use mathlib.Core.Bool.{true, false}
 use mathlib.Core.List.{List, [], ◌∷◌}
-use Prim.Native.Nat.{ℕ, ◌+◌, ◌-◌, ◌*◌, ◌^◌, ◌<◌, ◌≤◌}
-use native.Mathlib.Omega.{arith}
+use Prim.Native.Nat.{ℕ, ◌-◌, ◌^◌, ◌≤◌}
 use borrow.Author.Tests.{eqb-true, eq-eqb, ne_eqb, leb-true}
 use lib.Dec.{eqb, leb}
 use lib.IntN.{pos}
 use lib.ListN.{length}
 use Rattle.answer.specs.Answer.{Answer, done, refused, check, check_count, is_done}
-use Rattle.blocks.specs.Block.{block_width, file_length, check_size, div_answer}
+use Rattle.blocks.specs.Block.{file_length, check_size, size_answer}
 use Rattle.answer.proofs.AnswerLaws.{Stage, count_stage, then_stage, heard, stays, check_passes, check_refuses, check_done, count_done, count_passes, new_if_done, old_if_not, before_later}
-use Rattle.blocks.proofs.Widths.{Sized, width_given, size_stage}
+use Rattle.blocks.proofs.Widths.{size_refuses, size_passes, size_is}
 use Rattle.bed_file.specs.File.{check_file, accept_answer}
 use Rattle.bed_file.proofs.FileLaws.{Accepted, accepted, file_stage}
 use Rattle.calls.specs.declared.Shape.{Shape}
-use Rattle.calls.specs.Places.{IsShape, Shaped}
-use Rattle.calls.proofs.PlaceLaws.{shape_read}
+use Rattle.calls.specs.Places.{IsShape}
 use Rattle.canonical.specs.Canonical.{canonical_answer, canonical_file, canonical_buffer}
-use Rattle.canonical.specs.Private.{written_answer}
 
--- ---- the length to be written: 18, 4, 16
-module _ (iids sids out_length : ℕ) where
-  pub written_refused : (k : ℕ) → refused k [] ≡ div_answer iids sids → refused k [] ≡ written_answer iids sids out_length
-  unfolding written_answer div_answer
-  written_refused k e = sym (stays (size_stage iids sids) _ k [] (sym e) _)
-
-  module _ (w : ℕ) (e : done (pos w ∷ []) ≡ div_answer iids sids) where
-    size : Sized iids sids w
-    size = width_given iids sids w e
-
-    whole : w * sids + 3 ≡ file_length iids sids
-    whole = let k : w * sids ≡ block_width iids * sids = ap (λ (x : ℕ). x * sids) size.width_is in omega arith
-
-    pub written_fits : w * sids + 3 < 2 ^ 64
-    written_fits = let k = size.length_fits in let h = whole in omega arith
-
-    after_size : written_answer iids sids out_length ≡ check (eqb out_length (file_length iids sids)) 16 (done [])
-    unfolding written_answer div_answer
-    after_size = heard (size_stage iids sids) _ (sym (ap is_done e)) _
-
-    pub written_done : out_length ≡ w * sids + 3 → done [] ≡ written_answer iids sids out_length
-    written_done h = sym (after_size ∙ check_passes (eqb out_length (file_length iids sids)) 16 (done []) (eq-eqb out_length (file_length iids sids) (h ∙ whole)))
-
-    pub written_length : (out_length ≡ w * sids + 3 → ⊥) → refused 16 [] ≡ written_answer iids sids out_length
-    written_length h = sym (after_size ∙ check_refuses (eqb out_length (file_length iids sids)) 16 (done []) (ne_eqb out_length (file_length iids sids) (λ q. h (q ∙ sym whole))))
-
--- ---- all checks, by what `accept` says
+-- ---- the checks, by what `accept` and then `try_file_length` say
 module _ (file : List ℕ) (iids sids out_length : ℕ) where
   read_stage : Stage (λ later. check_count iids (check_count sids (check_file file iids sids later)))
   read_stage = then_stage (count_stage iids) (then_stage (count_stage sids) (file_stage file iids sids))
@@ -55,13 +26,29 @@ module _ (file : List ℕ) (iids sids out_length : ℕ) where
   unfolding canonical_answer accept_answer
   canonical_refused k e = sym (stays read_stage [] k [] (sym e) _)
 
-  pub canonical_accepted : (a : Answer) → done [] ≡ accept_answer file iids sids → a ≡ written_answer iids sids out_length → a ≡ canonical_answer file iids sids out_length
-  unfolding canonical_answer accept_answer written_answer
-  canonical_accepted a d e =
-      let acc = accepted file iids sids (sym (ap is_done d)) in
-      let later = check_size iids sids (check (eqb out_length (file_length iids sids)) 16 (done [])) in
-      e ∙ count_passes iids _ acc.iids_fit ∙ count_passes sids _ acc.sids_fit
-      ∙ sym (heard read_stage [] (sym (ap is_done d)) later)
+  module _ (d : done [] ≡ accept_answer file iids sids) where
+    abbrev later : ℕ → Answer
+    later n = check (eqb out_length n) 16 (done [])
+
+    left : canonical_answer file iids sids out_length ≡ check_count iids (check_count sids (check_size iids sids (later (file_length iids sids))))
+    unfolding canonical_answer accept_answer
+    left =
+        let acc = accepted file iids sids (sym (ap is_done d)) in
+        heard read_stage [] (sym (ap is_done d)) (check_size iids sids (later (file_length iids sids)))
+        ∙ sym (count_passes iids _ acc.iids_fit ∙ count_passes sids _ acc.sids_fit)
+
+    pub size_refused : (k : ℕ) → refused k [] ≡ size_answer iids sids → refused k [] ≡ canonical_answer file iids sids out_length
+    size_refused k e = sym (left ∙ size_refuses iids sids _ k e)
+
+    module _ (n : ℕ) (e : done (pos n ∷ []) ≡ size_answer iids sids) where
+      after_size : canonical_answer file iids sids out_length ≡ later n
+      after_size = left ∙ size_passes iids sids _ n e ∙ ap later (sym (size_is iids sids n e))
+
+      pub length_right : out_length ≡ n → done [] ≡ canonical_answer file iids sids out_length
+      length_right h = sym (after_size ∙ check_passes (eqb out_length n) 16 (done []) (eq-eqb out_length n h))
+
+      pub length_wrong : (out_length ≡ n → ⊥) → refused 16 [] ≡ canonical_answer file iids sids out_length
+      length_wrong h = sym (after_size ∙ check_refuses (eqb out_length n) 16 (done []) (ne_eqb out_length n h))
 
 -- ---- what is known where the canonical call is done
 pub record Writable (file : List ℕ) (iids sids out_length : ℕ) : Type 0 where
@@ -84,16 +71,6 @@ writable file iids sids out_length d =
     let d3 = check_done (leb (file_length iids sids) (2 ^ 64 - 1)) 4 _ d2 in
     let d4 = check_done (eqb out_length (file_length iids sids)) 16 _ d3.1 in
     record { accepts = acc; fits = leb-true (file_length iids sids) (2 ^ 64 - 1) d3.0; out_long = eqb-true out_length (file_length iids sids) d4.0 }
-
--- by the shape of the file
-pub writable_by :
-    (file : List ℕ) (iids sids out_length w : ℕ) (shape : Shape) → Writable file iids sids out_length → IsShape file iids sids shape → w ≡ block_width iids
-    → Shaped file shape × (w ≡ block_width shape.iids) × (out_length ≡ 3 + w * shape.sids)
-writable_by file iids sids out_length w shape g e f = (
-  shape_read file iids sids shape e g.accepts.length_is,
-  f ∙ ap block_width (sym e.iids_are),
-  g.out_long ∙ ap (λ (x : ℕ). 3 + x * sids) (sym f) ∙ ap (λ (x : ℕ). 3 + w * x) (sym e.sids_are),
-)
 
 -- ---- the later buffer
 pub canonical_wrote :

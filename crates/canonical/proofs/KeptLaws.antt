@@ -50,22 +50,6 @@ kept_whole (suc (suc zero)) byte h = absurd (omega arith)
 kept_whole (suc (suc (suc zero))) byte h = absurd (omega arith)
 kept_whole (suc (suc (suc (suc left)))) byte h = refl
 
-pub kept_three : (left byte : ℕ) → left ≡ 3 → byte % 64 ≡ kept_byte left byte
-unfolding kept_byte
-kept_three left byte e = ap (λ (n : ℕ). kept_byte n byte) (sym e)
-
-pub kept_two : (left byte : ℕ) → left ≡ 2 → byte % 16 ≡ kept_byte left byte
-unfolding kept_byte
-kept_two left byte e = ap (λ (n : ℕ). kept_byte n byte) (sym e)
-
-pub kept_one : (left byte : ℕ) → 0 < left → left ≤ 3 → (left ≡ 3 → ⊥) → (left ≡ 2 → ⊥) → byte % 4 ≡ kept_byte left byte
-unfolding kept_byte
-kept_one zero byte p h n3 n2 = absurd (omega arith)
-kept_one (suc zero) byte p h n3 n2 = refl
-kept_one (suc (suc zero)) byte p h n3 n2 = absurd (n2 refl)
-kept_one (suc (suc (suc zero))) byte p h n3 n2 = absurd (n3 refl)
-kept_one (suc (suc (suc (suc left)))) byte p h n3 n2 = absurd (omega arith)
-
 -- byte b of the block of marker m
 module _ (file : List ℕ) (shape : Shape) (sh : Shaped file shape) (e : shape.mode1 ≡ true) (m b : ℕ) (hm : m < shape.sids) (hb : 4 * b < shape.iids) where
   abbrev iids : ℕ
@@ -133,17 +117,16 @@ module _ (file : List ℕ) (shape : Shape) (sh : Shaped file shape) (e : shape.m
       by_left (suc (suc (suc (suc left)))) h =
           put byte _ _ _ _ _ _ _ _ (four_codes byte f) first (there 1 (omega arith) (omega arith)) (there 2 (omega arith) (omega arith)) (there 3 (omega arith) (omega arith))
 
-  -- the block starts where the marker's part says
-  pub kept_start : (start : ℕ) → length file < 2 ^ 64 → m < 2 ^ 64 → start ≡ in_word (part_byte (is_block shape.mode1 false) w m) → start ≡ 3 + m * w
-  unfolding part_byte
-  kept_start start l f s = s ∙ sid_byte_law file shape sh l m hm f ∙ ap (λ (x : Bool). part_byte (is_block x false) w m) e
+  -- where the marker's part says that its block starts
+  module _ (start : ℕ) (l : length file < 2 ^ 64) (f : m < 2 ^ 64) (p : start ≡ in_word (part_byte (is_block shape.mode1 false) w m)) where
+    start_is : start ≡ 3 + m * w
+    unfolding part_byte
+    start_is = p ∙ sid_byte_law file shape sh l m hm f ∙ ap (λ (x : Bool). part_byte (is_block x false) w m) e
 
-  -- as it is found there
-  module _ (start : ℕ) (s : start ≡ 3 + m * w) where
     pub found_inside : start + b < length file
-    found_inside = subst (λ (x : ℕ). x + b < length file) (sym s) kept_inside
+    found_inside = subst (λ (x : ℕ). x + b < length file) (sym start_is) kept_inside
 
     pub found_is : (v : ℕ) → get_or file (start + b) 0 < 256 → v ≡ kept_byte (iids - 4 * b) (get_or file (start + b) 0) → v ≡ packed_byte codes b
     found_is v f q =
-        let g : get_or file (start + b) 0 ≡ byte = ap (λ (x : ℕ). get_or file (x + b) 0) s in
+        let g : get_or file (start + b) 0 ≡ byte = ap (λ (x : ℕ). get_or file (x + b) 0) start_is in
         q ∙ ap (kept_byte (iids - 4 * b)) g ∙ kept_is (subst (λ (x : ℕ). x < 256) g f)

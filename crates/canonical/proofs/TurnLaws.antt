@@ -1,40 +1,28 @@
 -- Laws of a group of four animals of a file of mode 0: the codes of their items make the byte of the packed block.
 use mathlib.Core.Path.{◌≡◌, refl, sym, ap, subst, ◌∙◌}
 use mathlib.Core.Bool.{Bool, true, false}
-use mathlib.Core.List.{List, [], ◌∷◌}
+use mathlib.Core.List.{List}
 use Rattle.std.specs.Prelude.{Option, Some}
-use Prim.Native.Nat.{ℕ, zero, suc, ◌+◌, ◌-◌, ◌*◌, ◌%◌, ◌^◌, ◌<◌}
+use Prim.Native.Nat.{ℕ, ◌+◌, ◌-◌, ◌*◌, ◌^◌, ◌<◌}
 use native.Mathlib.Omega.{arith}
 use lib.ListN.{length, get_or}
-use Rattle.codes.specs.Code.{group_byte, code_at, code_table, packed_byte}
+use Rattle.codes.specs.Code.{group_byte, code_at, packed_byte}
 use Rattle.answer.specs.Lists.{tabulate}
-use Rattle.codes.proofs.CodeLaws.{code_below, table_at}
+use Rattle.codes.proofs.CodeLaws.{code_below}
 use Rattle.answer.proofs.Tests.{by_lt}
 use Rattle.calls.specs.declared.Part.{Part}
 use Rattle.calls.specs.declared.Shape.{Shape}
 use Rattle.calls.specs.Calls.{call_code}
 use Rattle.calls.specs.Places.{Shaped, is_block, part_byte, part_place, IsPart}
-use Rattle.calls.proofs.PlaceLaws.{in_word_law, pair_inside, pair_code}
+use Rattle.calls.proofs.PlaceLaws.{part_below, in_word_law, pair_inside, pair_code}
 use Rattle.bed_write.specs.Groups.{or_four, in_group}
 use Rattle.bed_write.specs.Packing.{or_zero}
 use Rattle.bed_write.proofs.GroupLaws.{held_there, held_pad, group_byte_law}
-use Rattle.canonical.specs.Private.{Starts, code_there, group_code, GroupInside, four_byte}
-
--- the code at a place of a byte x of the file, by the table
-pub code_found :
-    (codes file : List ℕ) (start x : ℕ) (item : Part) → codes ≡ code_table → x ≡ get_or file (start + item.byte) 0 → x < 256 → item.place < 4
-    → get_or codes (x * 4 + item.place) 0 ≡ code_there file start item
-unfolding code_there
-code_found codes file start x item t e h p =
-    let m : item.place % 4 ≡ item.place = omega arith in
-    ap (λ (q : ℕ). get_or codes (x * 4 + q) 0) (sym m)
-    ∙ table_at codes x x item.place t refl h
-    ∙ ap (code_at x) m
-    ∙ ap (λ (y : ℕ). code_at y item.place) e
+use Rattle.canonical.specs.Private.{Starts, group_code, GroupInside, four_byte}
 
 -- what a group holds are codes
 held_below : (file starts : List ℕ) (item : Part) (left k c : ℕ) → c ≡ in_group left (group_code file starts item) k → c < 4
-unfolding code_there
+unfolding group_code
 held_below file starts item left k c e =
     by_lt k left
     (λ h. subst (λ (x : ℕ). x < 4) (sym (e ∙ sym (held_there left (group_code file starts item) k h))) (code_below (get_or file (get_or starts k 0 + item.byte) 0) item.place))
@@ -52,17 +40,6 @@ pub four_held :
 four_held left number c0 c1 c2 c3 h e0 e1 e2 e3 =
     four_same c0 c1 c2 c3 _ _ _ _ (e0 ∙ held_there left number 0 (omega arith)) (e1 ∙ held_there left number 1 (omega arith))
     (e2 ∙ held_there left number 2 (omega arith)) (e3 ∙ held_there left number 3 (omega arith))
-
--- four starts
-pub starts_are :
-    (shape : Shape) (first : ℕ) (start : ℕ → ℕ) (s0 s1 s2 s3 : ℕ) → (0 < shape.iids - first → s0 ≡ start (first + 0)) → (1 < shape.iids - first → s1 ≡ start (first + 1))
-    → (2 < shape.iids - first → s2 ≡ start (first + 2)) → (3 < shape.iids - first → s3 ≡ start (first + 3))
-    → (j : ℕ) → j < 4 → j < shape.iids - first → get_or (s0 ∷ s1 ∷ s2 ∷ s3 ∷ []) j 0 ≡ start (first + j)
-starts_are shape first start s0 s1 s2 s3 e0 e1 e2 e3 zero h = e0
-starts_are shape first start s0 s1 s2 s3 e0 e1 e2 e3 (suc zero) h = e1
-starts_are shape first start s0 s1 s2 s3 e0 e1 e2 e3 (suc (suc zero)) h = e2
-starts_are shape first start s0 s1 s2 s3 e0 e1 e2 e3 (suc (suc (suc zero))) h = e3
-starts_are shape first start s0 s1 s2 s3 e0 e1 e2 e3 (suc (suc (suc (suc j)))) h = absurd (omega arith)
 
 -- the group of byte b at marker m
 module _ (file : List ℕ) (shape : Shape) (sh : Shaped file shape) (l : length file < 2 ^ 64) (e : shape.mode1 ≡ false)
@@ -83,7 +60,7 @@ module _ (file : List ℕ) (shape : Shape) (sh : Shaped file shape) (l : length 
     stands : get_or starts j 0 + item.byte ≡ iid_byte + sid_byte
     stands =
         let i = pair_inside file shape sh (4 * b + j) m there hm in
-        ap (λ (x : ℕ). x + item.byte) (s.start_is j h4 h ∙ in_word_law iid_byte (omega arith))
+        ap (λ (x : ℕ). x + item.byte) (s.start_is j h4 ∙ in_word_law iid_byte (omega arith))
         ∙ ap (λ (x : ℕ). iid_byte + x) (p.byte_is ∙ in_word_law sid_byte (omega arith))
 
     in_place : item.place ≡ part_place (is_block shape.mode1 true) (4 * b + j) + part_place (is_block shape.mode1 false) m
@@ -96,14 +73,14 @@ module _ (file : List ℕ) (shape : Shape) (sh : Shaped file shape) (l : length 
     inside = subst (λ (x : ℕ). x < length file) (sym stands) (pair_inside file shape sh (4 * b + j) m there hm)
 
     code_there_law : group_code file starts item j ≡ call_code file shape.iids shape.sids (4 * b + j) m
-    unfolding code_there
+    unfolding group_code
     code_there_law =
         ap (λ (x : ℕ). code_at (get_or file x 0) item.place) stands
         ∙ ap (code_at (get_or file (iid_byte + sid_byte) 0)) in_place
         ∙ pair_code file shape sh (4 * b + j) m there hm
 
-  pub group_inside : GroupInside file starts item left
-  group_inside = record { byte_in = inside }
+  pub group_inside : GroupInside file starts left item
+  group_inside = record { byte_in = inside; place_in = subst (λ (x : ℕ). x < 4) (sym p.place_is) (part_below _ _) }
 
   abbrev code : ℕ → Option ℕ
   code a = Some (call_code file shape.iids shape.sids a m)

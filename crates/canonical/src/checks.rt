@@ -1,10 +1,8 @@
 // The checks of the canonical call.
-ghost use Rattle.std.specs.Prelude.{◌≡◌, []};
-ghost use Rattle.answer.specs.Answer.{refused};
+ghost use Rattle.std.specs.Prelude.{◌≡◌};
 ghost use Rattle.blocks.specs.Says.{div_number};
 ghost use Rattle.bed_file.specs.Says.{file_number};
 ghost use Rattle.canonical.specs.Canonical.{canonical_answer};
-ghost use Rattle.canonical.specs.Private.{written_answer};
 ghost use Rattle.canonical.specs.Says.{canonical_number, canonical_says};
 
 use bed_file::FileError;
@@ -33,18 +31,7 @@ impl From<DivError> for CanonicalError {
     }
 }
 
-// The length to be written: 4, then 16.
-fn check_written(iid_count: usize, sid_count: usize, out_len: usize) -> Result<(), CanonicalError>
-    ensures { canonical_says result ≡ written_answer iid_count sid_count out_len }
-{
-    let width = blocks::try_div_4(iid_count, sid_count)?;
-    if out_len != width * sid_count + 3 {
-        return Err(CanonicalError::EncodingLength);
-    }
-    Ok(())
-}
-
-// The reading's checks, then those of the length to be written.
+// The reading's checks, then those of the length to be written: 4, then 16.
 pub(crate) fn check_canonical(
     file: &[u8],
     iid_count: usize,
@@ -54,5 +41,9 @@ pub(crate) fn check_canonical(
     ensures { canonical_says result ≡ canonical_answer file.now iid_count sid_count out_len }
 {
     bed_file::accept(file, iid_count, sid_count)?;
-    check_written(iid_count, sid_count, out_len)
+    let length = blocks::try_file_length(iid_count, sid_count)?;
+    if out_len != length {
+        return Err(CanonicalError::EncodingLength);
+    }
+    Ok(())
 }

@@ -3,10 +3,11 @@ ghost use Rattle.std.specs.Prelude.{◌≡◌, true, ◌<◌};
 ghost use Rattle.canonical.specs.Canonical.{canonical_file};
 ghost use Rattle.canonical.specs.Private.{kept_byte, Begun};
 
-use calls::Shape;
+use crate::accepted::Accepted;
 use entries::SidIndex;
 
 // A byte of a block, with its pads cleared: `left` items have not stood in the bytes before it.
+#[tactic(auto, unfolding(crate::specs::Private::kept_byte))]
 fn kept_byte(byte: u8, left: usize) -> u8
     requires { 0 < left }
     ensures { result ≡ kept_byte left byte }
@@ -20,15 +21,17 @@ fn kept_byte(byte: u8, left: usize) -> u8
 }
 
 // The canonical file: block by block.
-pub(crate) fn keep_blocks(file: &[u8], shape: Shape, out_width: usize, out: &mut [u8])
-    requires { Begun file.now shape out_width out.old × (shape.mode1 ≡ true) }
-    ensures { out.new ≡ canonical_file file.now shape.iids shape.sids }
+pub(crate) fn keep_blocks(accepted: &Accepted, out: &mut [u8])
+    requires { Begun accepted.now.file.now accepted.now.shape out.old × (accepted.now.shape.mode1 ≡ true) }
+    ensures { out.new ≡ canonical_file accepted.now.file.now accepted.now.shape.iids accepted.now.shape.sids }
 {
+    let shape = accepted.shape;
+    let width = accepted.out_width;
     for m in 0..shape.sids {
         let start = calls::part_of(shape, SidIndex(m)).byte;
-        let at = 3 + m * out_width;
-        for b in 0..out_width {
-            out[at + b] = kept_byte(file[start + b], shape.iids - 4 * b);
+        let at = 3 + m * width;
+        for b in 0..width {
+            out[at + b] = kept_byte(accepted.file[start + b], shape.iids - 4 * b);
         }
     }
 }

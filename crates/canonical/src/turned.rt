@@ -1,100 +1,95 @@
 // A file of mode 0: the calls of four animals at a marker are gathered into a byte.
-ghost use Rattle.std.specs.Prelude.{◌≡◌, false, ◌+◌, ◌-◌, ◌*◌, ◌<◌, ◌≤◌, length};
+ghost use Rattle.std.specs.Prelude.{◌≡◌, false, ◌+◌, ◌<◌, ◌^◌};
 ghost use Rattle.bed_write.specs.Groups.{in_group};
 ghost use Rattle.canonical.specs.Canonical.{canonical_file};
-ghost use Rattle.canonical.specs.Private.{Begun, animal_start, Starts, code_there, group_code, GroupInside, four_byte};
+ghost use Rattle.canonical.specs.Private.{Begun, Starts, group_code, GroupInside, four_byte};
 
+use crate::accepted::Accepted;
+use bed_write::TILE;
 use calls::{Part, Shape};
-use codes::{CodeTable, Group};
+use codes::{CodeTable, Group, PAD};
 use entries::{IidIndex, SidIndex};
-
-// "Pads are zero".
-const PAD: u8 = 0;
-
-// The first byte of the block of animal `first` + k, if there is one.
-fn start_of(shape: Shape, first: usize, k: usize) -> usize
-    requires { first ≤ shape.iids }
-    ensures { k < shape.iids - first → result ≡ animal_start shape (first + k) }
-{
-    if k < shape.iids - first {
-        let animal = first + k;
-        return calls::part_of(shape, IidIndex(animal)).byte;
-    }
-    0
-}
+use std::array;
 
 // The first bytes of the blocks of four animals.
 fn four_starts(shape: Shape, first: usize) -> [usize; 4]
-    requires { first ≤ shape.iids }
+    requires { first + 4 < 2 ^ 64 }
     ensures { Starts shape first result }
 {
-    let a = start_of(shape, first, 0);
-    let b = start_of(shape, first, 1);
-    let c = start_of(shape, first, 2);
-    let d = start_of(shape, first, 3);
-    [a, b, c, d]
+    array::from_fn(|k| calls::part_of(shape, IidIndex(first + k)).byte)
 }
 
-// The code of an item of the block that starts there.
-fn code_there(file: &[u8], start: usize, item: Part, codes: &CodeTable) -> u8
-    requires { (start + item.byte < length file.now) × (item.place < 4) }
-    ensures { result ≡ code_there file.now start item }
-{
-    codes.code_of_item(file[start + item.byte], item.place)
+// One item of the blocks of four animals, of which `left` are there.
+#[derive(Drop)]
+struct Across<'a> {
+    file: &'a [u8],
+    starts: &'a [usize; 4],
+    left: usize,
+    item: Part,
+    codes: &'a CodeTable,
+    ghost inside: { GroupInside file.now starts.now left item },
 }
 
-// The same of animal k of a group, if it is one of the `left` animals there; else a pad.
-fn held_code(file: &[u8], start: usize, item: Part, left: usize, k: usize, codes: &CodeTable) -> u8
-    requires { (k < left → start + item.byte < length file.now) × (item.place < 4) }
-    ensures { result ≡ in_group left (λ _. code_there file.now start item) k }
-{
-    if k < left {
-        return code_there(file, start, item, codes);
+impl<'a> Across<'a> {
+    // The code of the item in block k.
+    fn code(&self, k: usize) -> u8
+        requires { (k < 4) × (k < self.now.left) }
+        ensures { result ≡ group_code self.now.file.now self.now.starts.now self.now.item k }
+    {
+        self.codes.code_of_item(self.file[self.starts[k] + self.item.byte], self.item.place)
     }
-    PAD
-}
 
-// The byte of a group of four animals at one marker.
-fn turned_byte(file: &[u8], starts: &[usize; 4], item: Part, left: usize, codes: &CodeTable) -> u8
-    requires { GroupInside file.now starts.now item left × (item.place < 4) }
-    ensures { result ≡ four_byte (in_group left (group_code file.now starts.now item)) }
-{
-    if left > 3 {
-        let c0 = code_there(file, starts[0], item, codes);
-        let c1 = code_there(file, starts[1], item, codes);
-        let c2 = code_there(file, starts[2], item, codes);
-        let c3 = code_there(file, starts[3], item, codes);
-        return codes::byte_of(Group { c0, c1, c2, c3 });
+    // The same if there is a block k, else a pad.
+    fn held(&self, k: usize) -> u8
+        requires { k < 4 }
+        ensures { result ≡ in_group self.now.left (group_code self.now.file.now self.now.starts.now self.now.item) k }
+    {
+        if k < self.left { self.code(k) } else { PAD }
     }
-    let c0 = held_code(file, starts[0], item, left, 0, codes);
-    let c1 = held_code(file, starts[1], item, left, 1, codes);
-    let c2 = held_code(file, starts[2], item, left, 2, codes);
-    codes::byte_of(Group {
-        c0,
-        c1,
-        c2,
-        c3: PAD,
-    })
-}
 
-// How many markers are packed together: 16, whose codes share four bytes of each block.
-const TILE: usize = 16;
+    // The byte of the four codes.
+    fn byte(&self) -> u8
+        ensures { result ≡ four_byte (in_group self.now.left (group_code self.now.file.now self.now.starts.now self.now.item)) }
+    {
+        if self.left > 3 {
+            return codes::byte_of(Group {
+                c0: self.code(0),
+                c1: self.code(1),
+                c2: self.code(2),
+                c3: self.code(3),
+            });
+        }
+        codes::byte_of(Group {
+            c0: self.held(0),
+            c1: self.held(1),
+            c2: self.held(2),
+            c3: PAD,
+        })
+    }
+}
 
 // The canonical file: tile by tile, and in it four animals at a time.
-pub(crate) fn turn_blocks(file: &[u8], shape: Shape, out_width: usize, out: &mut [u8])
-    requires { Begun file.now shape out_width out.old × (shape.mode1 ≡ false) }
-    ensures { out.new ≡ canonical_file file.now shape.iids shape.sids }
+pub(crate) fn turn_blocks(accepted: &Accepted, out: &mut [u8])
+    requires { Begun accepted.now.file.now accepted.now.shape out.old × (accepted.now.shape.mode1 ≡ false) }
+    ensures { out.new ≡ canonical_file accepted.now.file.now accepted.now.shape.iids accepted.now.shape.sids }
 {
+    let shape = accepted.shape;
+    let width = accepted.out_width;
     let codes = CodeTable::new();
     for from in (0..shape.sids).step_by(TILE) {
         let until = from + TILE.min(shape.sids - from);
-        for b in 0..out_width {
+        for b in 0..width {
             let first = 4 * b;
-            let left = shape.iids - first;
             let starts = four_starts(shape, first);
             for m in from..until {
-                let item = calls::part_of(shape, SidIndex(m));
-                out[3 + m * out_width + b] = turned_byte(file, &starts, item, left, &codes);
+                let group = Across {
+                    file: accepted.file,
+                    starts: &starts,
+                    left: shape.iids - first,
+                    item: calls::part_of(shape, SidIndex(m)),
+                    codes: &codes,
+                };
+                out[3 + m * width + b] = group.byte();
             }
         }
     }

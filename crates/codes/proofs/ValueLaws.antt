@@ -3,6 +3,8 @@ use mathlib.Core.Path.{◌≡◌, refl, sym, ap, subst, ◌∙◌}
 use mathlib.Core.Bool.{Bool, true, false, not, ◌&&◌, ◌||◌, cond}
 use mathlib.Core.List.{[], ◌∷◌}
 use Rattle.std.specs.Prelude.{Option, Some, None}
+use Rattle.std.specs.Ordering.{int_eq}
+use Rattle.std.proofs.lemmas.Bool.Decides.{Decides-int_eq, same_from_decides}
 use Prim.Native.Nat.{ℕ, zero, suc, ◌<◌}
 use native.Mathlib.Omega.{arith}
 use borrow.Author.Tests.{eqb-true, eq-eqb}
@@ -158,3 +160,7 @@ same_int_eq (pos m) (pos n) h = ap pos (eqb-true m n h)
 same_int_eq (pos m) (negsuc n) h = absurd (let q : ◌≡◌ {A = ℕ} 0 1 = cc in omega arith)
 same_int_eq (negsuc m) (pos n) h = absurd (let q : ◌≡◌ {A = ℕ} 0 1 = cc in omega arith)
 same_int_eq (negsuc m) (negsuc n) h = ap negsuc (eqb-true m n h)
+
+-- it is the language's `==`
+pub same_int_is : (a b : ℤ) → int_eq a b ≡ same_int a b
+same_int_is a b = same_from_decides (int_eq a b) (same_int a b) (Decides-int_eq a b) (same_int_eq a b, λ e. subst (λ (x : ℤ). same_int a x ≡ true) e (same_int_refl a))

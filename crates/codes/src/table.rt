@@ -46,6 +46,7 @@ pub struct CodeTable {
 }
 
 impl CodeTable {
+    #[tactic(auto, unfolding(crate::specs::Code::code_table, crate::specs::Code::code_at, answer::specs::Lists::tabulate))]
     pub fn new() -> CodeTable
         ensures { result.codes ≡ code_table }
     {
@@ -53,6 +54,7 @@ impl CodeTable {
     }
 
     // The code of an item that stands in this byte.
+    #[tactic(auto, using(crate::proofs::CodeLaws::table_at))]
     pub fn code_of_item(&self, byte: u8, item: usize) -> u8
         ensures { result ≡ code_at byte (item % 4) }
     {

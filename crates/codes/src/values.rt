@@ -1,5 +1,8 @@
 // The value of a code, at each width.
-ghost use Rattle.std.specs.Prelude.{◌≡◌};
+ghost use Rattle.std.specs.Prelude.{◌≡◌, ℕ, ◌*◌, ◌^◌, ◌<◌};
+ghost use Rattle.std.specs.Mem.{type_size};
+ghost use Rattle.std.proofs.Math.Dec.{lit≤};
+ghost use Rattle.std.proofs.Math.Nat.{mul-lt-mul_of_pos_right, lt_of_lt_of_le};
 ghost use Rattle.codes.specs.Value.{Width, i8, float, values};
 
 // A type of values.
@@ -14,10 +17,15 @@ pub trait BedVal: Copy {
 
     fn two() -> Self
         ensures { result ≡ width.two };
+
+    // Arrays of values fit in memory.
+    ghost array_fits: { (n : ℕ) → n < 2 ^ 60 → n * type_size Self.row < 2 ^ 63 };
 }
 
 impl BedVal for i8 {
     ghost width = { i8 };
+
+    ghost array_fits = { λ n h. lt_of_lt_of_le (mul-lt-mul_of_pos_right h (lit≤ tt)) (lit≤ tt) };
 
     fn zero() -> i8 {
         0
@@ -34,6 +42,8 @@ impl BedVal for i8 {
 
 impl BedVal for f64 {
     ghost width = { float };
+
+    ghost array_fits = { λ n h. mul-lt-mul_of_pos_right h (lit≤ tt) };
 
     fn zero() -> f64 {
         0.0
@@ -57,6 +67,7 @@ pub struct Coding<T: BedVal> {
 
 impl<T: BedVal> Coding<T> {
     // The value of each code.
+    #[tactic(auto, using(crate::proofs::ValueLaws::values_counted, crate::proofs::ValueLaws::values_other))]
     pub fn set_up_two_bits_to_value(self) -> [T; 4]
         ensures { result ≡ values T.width self.is_a1_counted self.missing }
     {

@@ -16,9 +16,9 @@ use Rattle.bed_file.specs.File.{accept_answer}
 use Rattle.calls.specs.Calls.{call_code}
 use Rattle.bed_write.specs.Packing.{or_zero, first_of, if_bad}
 use Rattle.bed_write.specs.Writing.{value_code, first_bad_call, check_call, check_buffers, write_answer, bed_file, write_buffer}
-use Rattle.bed_write.proofs.FirstLaws.{first_none, first_all, not_bad, zero_below}
+use Rattle.bed_write.proofs.FirstLaws.{first_none, first_all, not_bad, zero_below, value_coded}
 use Rattle.bed_write.proofs.BedLaws.{bed_ext}
-use Rattle.bed_write.proofs.WriteLaws.{buffers_stage, passed, Passed, value_coded, write_done}
+use Rattle.bed_write.proofs.WriteLaws.{buffers_stage, passed, Passed, write_done}
 use Rattle.canonical.specs.Canonical.{canonical_answer, canonical_file, canonical_buffer}
 use Rattle.canonical.proofs.Theorems.{canonical_left}
 use Rattle.canonical.proofs.WrittenLaws.{bed_call, bed_accepted, bed_canonical}

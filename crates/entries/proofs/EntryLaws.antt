@@ -1,38 +1,38 @@
 -- Laws of entries, over plain numbers and lists.
-use Rattle.std.proofs.Common.{◌≡◌, ℕ, zero, suc, ◌+◌, ◌-◌, ◌%◌, ◌^◌, ◌<◌, ◌≤◌, Bool, true, false, cond, ltb, List, [], ◌∷◌, length, get_or, drop, ℤ, pos, negsuc, sym, refl, ap, ◌∙◌, subst, add-one, arith, drop_of_length-le, drop-cons, w64, SFits, to_z, of_z, ltb-false, ltb-true, le-ltb, lt-ltb}
+use Rattle.std.proofs.Common.{◌≡◌, eqb, ne_eqb, eq-eqb, eqb-true, ◌&&◌, ℕ, zero, suc, ◌+◌, ◌-◌, ◌%◌, ◌^◌, ◌<◌, ◌≤◌, Bool, true, false, cond, ltb, List, [], ◌∷◌, length, get_or, drop, ℤ, pos, negsuc, sym, refl, ap, ◌∙◌, subst, add-one, arith, drop_of_length-le, drop-cons, w64, SFits, to_z, of_z, ltb-false, ltb-true, le-ltb, lt-ltb, nat_abs}
 use Rattle.std.specs.Prelude.{Option, Some, None}
 use lib.Signed.{mag, lt_z}
 use mir.ValLaws.{to_z-of_z}
 use Rattle.answer.specs.Answer.{done, refused, check_entry}
-use Rattle.entries.specs.Entry.{is_good, means, first_bad, entry_answer}
+use Rattle.answer.proofs.Tests.{both_true}
+use Rattle.entries.specs.Entry.{is_good, means, first_bad, in_order_from, in_order, entry_answer}
 
 -- ---- one entry
 -- an entry z ≥ 0 means itself
-from_front : (count : ℕ) (z : ℤ) → lt_z z (pos 0) ≡ false → (ltb (mag z) count ≡ is_good count z) × (mag z ≡ means count z)
+from_front : (count : ℕ) (z : ℤ) → lt_z z (pos 0) ≡ false → (ltb (nat_abs z) count ≡ is_good count z) × (nat_abs z ≡ means count z)
 unfolding is_good means
 from_front count (pos i) h = (refl, refl)
 from_front count (negsuc k) h = absurd (let q : ◌≡◌ {A = ℕ} 0 1 = cc in omega arith)
 
--- k before the last, with p the machine's count − (k + 1)
-wrapped : (count k p : ℕ) → k < 2 ^ 63 → p < 2 ^ 64 → (p + (k + 1)) % 2 ^ 64 ≡ count → (ltb p count ≡ ltb k count) × (ltb k count ≡ true → p ≡ count - suc k)
-wrapped count k p hk hp e = by_test (ltb k count) refl
+-- the entry k before the last, with p the machine's sum of it and the count
+wrapped : (count k p : ℕ) → count < 2 ^ 64 → k < 2 ^ 63 → p ≡ (count + (2 ^ 64 - suc k)) % 2 ^ 64 → (ltb p count ≡ ltb k count) × (ltb k count ≡ true → p ≡ count - suc k)
+wrapped count k p hc hk e = by_test (ltb k count) refl
   where
     by_test : (b : Bool) → ltb k count ≡ b → (ltb p count ≡ b) × (b ≡ true → p ≡ count - suc k)
     by_test true t = let h : k < count = ltb-true k count t in (lt-ltb p count (omega arith), λ _. omega arith)
     by_test false t = let h : count ≤ k = ltb-false k count t in (le-ltb p count (omega arith), λ b. absurd (let q : ◌≡◌ {A = ℕ} 0 1 = cc in omega arith))
 
 from_back :
-    (count : ℕ) (z : ℤ) (p : ℕ) → lt_z z (pos 0) ≡ true → mag z < 2 ^ 63 → p < 2 ^ 64 → (p + (mag z + 1)) % 2 ^ 64 ≡ count
+    (count : ℕ) (z : ℤ) (p : ℕ) → count < 2 ^ 64 → lt_z z (pos 0) ≡ true → mag z < 2 ^ 63 → p ≡ (count + of_z w64 z) % 2 ^ 64
     → (ltb p count ≡ is_good count z) × (is_good count z ≡ true → p ≡ means count z)
 unfolding is_good means
-from_back count (pos i) p h f hp e = absurd (let b : i < 0 = ltb-true i 0 h in omega arith)
-from_back count (negsuc k) p h f hp e = wrapped count k p f hp e
+from_back count (pos i) p hc h f e = absurd (let b : i < 0 = ltb-true i 0 h in omega arith)
+from_back count (negsuc k) p hc h f e = wrapped count k p hc f e
 
--- a bad entry from the back
-past_front : (count : ℕ) (z : ℤ) → lt_z z (pos 0) ≡ true → is_good count z ≡ false → 0 ≡ means count z
-unfolding is_good means
-past_front count (pos i) h b = absurd (let c : i < 0 = ltb-true i 0 h in omega arith)
-past_front count (negsuc k) h b = let c : count ≤ k = ltb-false k count b in omega arith
+means_from_back : (count : ℕ) (z : ℤ) → lt_z z (pos 0) ≡ true → count - nat_abs z ≡ means count z
+unfolding means
+means_from_back count (pos i) h = absurd (let b : i < 0 = ltb-true i 0 h in omega arith)
+means_from_back count (negsuc k) h = refl
 
 -- a good entry means a number below the count
 pub means_below : (count : ℕ) (z : ℤ) → is_good count z ≡ true → means count z < count
@@ -51,33 +51,34 @@ module _ (count : ℕ) (z : ℤ) (f : SFits w64 z) where
   front : lt_z (to_z w64 (of_z w64 z)) (pos 0) ≡ false → lt_z z (pos 0) ≡ false
   front = subst (λ (y : ℤ). lt_z y (pos 0) ≡ false) back
 
-  -- `place`, from the distance m that the cast gives
-  module _ (m : ℕ) (e : m ≡ mag z) where
-    pub distance_below : m < 2 ^ 63
-    distance_below = subst (λ (k : ℕ). k < 2 ^ 63) (sym e) f.sfits
+  pub place_back :
+      (p : ℕ) → p ≡ (count + of_z w64 (to_z w64 (of_z w64 z))) % 2 ^ 64 → count < 2 ^ 64 → lt_z (to_z w64 (of_z w64 z)) (pos 0) ≡ true
+      → (ltb p count ≡ is_good count z) × (is_good count z ≡ true → p ≡ means count z)
+  place_back p e hc h = from_back count z p hc (negative h) f.sfits (e ∙ ap (λ (y : ℤ). (count + of_z w64 y) % 2 ^ 64) back)
 
-    pub place_back :
-        (p : ℕ) → lt_z (to_z w64 (of_z w64 z)) (pos 0) ≡ true → p < 2 ^ 64 → (p + (m + 1)) % 2 ^ 64 ≡ count
-        → (ltb p count ≡ is_good count z) × (is_good count z ≡ true → p ≡ means count z)
-    place_back p h hp w = from_back count z p (negative h) f.sfits hp (ap (λ (k : ℕ). (p + (k + 1)) % 2 ^ 64) (sym e) ∙ w)
+  pub place_front :
+      lt_z (to_z w64 (of_z w64 z)) (pos 0) ≡ false
+      → (ltb (nat_abs (to_z w64 (of_z w64 z))) count ≡ is_good count z) × (is_good count z ≡ true → nat_abs (to_z w64 (of_z w64 z)) ≡ means count z)
+  place_front h = let r = from_front count z (front h) in (ap (λ (y : ℤ). ltb (nat_abs y) count) back ∙ r.0, λ _. ap nat_abs back ∙ r.1)
 
-    -- `number` of any entry from the front
+  -- `number`, from the magnitude m
+  module _ (m : ℕ) (e : m ≡ nat_abs (to_z w64 (of_z w64 z))) where
+    magnitude : m ≡ nat_abs z
+    magnitude = e ∙ ap nat_abs back
+
+    pub number_back : lt_z (to_z w64 (of_z w64 z)) (pos 0) ≡ true → count - m ≡ means count z
+    number_back h = ap (λ (k : ℕ). count - k) magnitude ∙ means_from_back count z (negative h)
+
     pub number_front : lt_z (to_z w64 (of_z w64 z)) (pos 0) ≡ false → m ≡ means count z
-    number_front h = e ∙ (from_front count z (front h)).1
+    number_front h = magnitude ∙ (from_front count z (front h)).1
 
-    pub place_front : lt_z (to_z w64 (of_z w64 z)) (pos 0) ≡ false → (ltb m count ≡ is_good count z) × (is_good count z ≡ true → m ≡ means count z)
-    place_front h = (ap (λ (k : ℕ). ltb k count) e ∙ (from_front count z (front h)).0, λ _. number_front h)
-
-  -- `is_good` and `number`, from the place p
+  -- `is_good` and the step, from the place p
   module _ (p : ℕ) (t : (ltb p count ≡ is_good count (to_z w64 (of_z w64 z))) × (is_good count (to_z w64 (of_z w64 z)) ≡ true → p ≡ means count (to_z w64 (of_z w64 z)))) where
+    pub placed : (ltb p count ≡ is_good count z) × (is_good count z ≡ true → p ≡ means count z)
+    placed = subst (λ (y : ℤ). (ltb p count ≡ is_good count y) × (is_good count y ≡ true → p ≡ means count y)) back t
+
     pub tests_good : ltb p count ≡ is_good count z
-    tests_good = t.0 ∙ ap (is_good count) back
-
-    pub number_good : p < count → p ≡ means count z
-    number_good h = t.1 (sym t.0 ∙ lt-ltb p count h) ∙ ap (means count) back
-
-    pub number_none : count ≤ p → lt_z (to_z w64 (of_z w64 z)) (pos 0) ≡ true → 0 ≡ means count z
-    number_none g h = past_front count z (negative h) (sym tests_good ∙ le-ltb p count g)
+    tests_good = placed.0
 
   pub still_good : (b : Bool) → b ≡ is_good count (to_z w64 (of_z w64 z)) → b ≡ is_good count z
   still_good b e = e ∙ ap (is_good count) back
@@ -134,3 +135,33 @@ pub none_bad : (count : ℕ) (list : List ℤ) → ((i : ℕ) → i < length lis
 unfolding first_bad
 none_bad count [] g = refl
 none_bad count (e ∷ es) g = rw (g 0 (omega arith)) (none_bad count es (λ i h. g (suc i) (omega arith)))
+
+-- ---- a list in order: what is left to look at says what the whole list says
+module _ (count : ℕ) (list : List ℤ) (k n : ℕ) (h : k < length list) (f : mag (get_or list k (pos 0)) < 2 ^ 63)
+    (e : n ≡ means count (to_z w64 (of_z w64 (get_or list k (pos 0)))))
+    (sofar : in_order_from count k (drop k list) ≡ in_order count list) where
+  tests : (b : Bool) → eqb n k ≡ b → b && in_order_from count (suc k) (drop (suc k) list) ≡ in_order count list
+  unfolding in_order_from
+  tests b t =
+      ap (λ (x : Bool). x && in_order_from count (suc k) (drop (suc k) list)) (sym t ∙ ap (λ (m : ℕ). eqb m k) (means_back count (get_or list k (pos 0)) (record { sfits = f }) n e))
+      ∙ sym (ap (in_order_from count k) (drop-cons list k (pos 0) h)) ∙ sofar
+
+  pub not_in_order : (n ≡ k → ⊥) → false ≡ in_order count list
+  not_in_order d = tests false (ne_eqb n k d)
+
+  pub in_order_so_far : n ≡ k → in_order_from count (k + 1) (drop (k + 1) list) ≡ in_order count list
+  in_order_so_far d = rw add-one (tests true (eq-eqb n k d))
+
+pub all_in_order : (count : ℕ) (list : List ℤ) (k : ℕ) → length list ≤ k → in_order_from count k (drop k list) ≡ in_order count list → true ≡ in_order count list
+unfolding in_order_from
+all_in_order count list k h sofar = sym (ap (in_order_from count k) (drop_of_length-le list h)) ∙ sofar
+
+-- entry i of a list in order from k on means k + i
+from_there : (count k : ℕ) (list : List ℤ) (i : ℕ) → in_order_from count k list ≡ true → i < length list → means count (get_or list i (pos 0)) ≡ k + i
+unfolding in_order_from
+from_there count k [] i t h = absurd (omega arith)
+from_there count k (e ∷ es) zero t h = eqb-true _ _ (both_true _ _ t).0 ∙ omega arith
+from_there count k (e ∷ es) (suc i) t h = from_there count (suc k) es i (both_true _ _ t).1 (omega arith) ∙ omega arith
+
+pub order_means : (count : ℕ) (list : List ℤ) (i : ℕ) → in_order count list ≡ true → i < length list → means count (get_or list i (pos 0)) ≡ i
+order_means count list i t h = from_there count 0 list i t h ∙ omega arith

@@ -1,4 +1,3 @@
-pub mod SignedLaws
 pub mod EntryLaws
 pub mod SpanLaws
 pub mod SpanExamples

@@ -1,5 +1,5 @@
 -- Numbers in lists.
-use Rattle.std.specs.Prelude.{ℕ, suc, ◌+◌, ◌-◌, ◌/◌, min, max, Bool, cond, List, [], ◌∷◌, map, ℤ, pos, negsuc, nat_lt}
+use Rattle.std.specs.Prelude.{ℕ, suc, ◌+◌, ◌-◌, ◌/◌, min, max, eqb, Bool, true, ◌&&◌, cond, List, [], ◌∷◌, map, ℤ, pos, negsuc, nat_lt}
 use Rattle.std.specs.Prelude.{Option, Some, None}
 use Rattle.answer.specs.Answer.{Answer, done, check_entry, check_count}
 
@@ -18,6 +18,15 @@ means count (negsuc k) = count - suc k
 unfoldable pub first_bad : ℕ → List ℤ → Option ℤ
 first_bad count [] = None
 first_bad count (e ∷ es) = cond (is_good count e) (first_bad count es) (Some e)
+
+-- whether the entries of a list mean k, k + 1, k + 2 and so on
+unfoldable pub in_order_from : ℕ → ℕ → List ℤ → Bool
+in_order_from count k [] = true
+in_order_from count k (e ∷ es) = eqb (means count e) k && in_order_from count (suc k) es
+
+-- whether they mean 0, 1, 2 and so on
+abbrev pub in_order : ℕ → List ℤ → Bool
+in_order count list = in_order_from count 0 list
 
 -- an entry by itself: the number that it means, after 5 or 6, whichever is its list's number n
 unfoldable pub entry_answer : ℕ → ℕ → ℤ → Answer

@@ -2,7 +2,7 @@
 use mathlib.Core.Path.{◌≡◌, refl, sym, ap, ◌∙◌}
 use mathlib.Core.Bool.{true}
 use mathlib.Core.List.{List, [], ◌∷◌}
-use Prim.Native.Nat.{ℕ, ◌+◌, ◌-◌, ◌≤◌, ◌<◌}
+use Prim.Native.Nat.{ℕ, ◌+◌, ◌-◌, ◌≤◌, ◌<◌, max}
 use native.Mathlib.Omega.{arith}
 use borrow.Author.Tests.{le-leb, lt-leb}
 use lib.IntN.{ℤ, pos}
@@ -15,6 +15,7 @@ use Rattle.index.specs.Checks.{check_bound, check_range, range_answer}
 use Rattle.index.specs.Private.{Listed, Checked}
 use Rattle.index.proofs.BufferLaws.{let_through, stopped}
 use Rattle.answer.specs.Lists.{tabulate}
+use Rattle.answer.proofs.Tests.{by_lt}
 use Rattle.answer.proofs.AnswerLaws.{Stage, lets, check_stage, count_stage, then_stage, heard, stays, count_done}
 
 -- a bound is checked as what it is, since what it is if absent passes
@@ -29,36 +30,32 @@ module _ (absent : ℕ) (a : absent ≤ count_limit) where
   bound_too_large None later h = absurd (omega arith)
   bound_too_large (Some n) later h = simp (lt-leb n count_limit h)
 
--- the answer of `RangeAny::to_range`, by its tests
-module _ (r : RangeAny) (count : ℕ) where
-  pub range_count : count_limit < count → range_answer r count ≡ refused 18 []
-  unfolding range_answer check_count check
-  range_count h = simp (lt-leb count count_limit h)
+-- the answer of `RangeAny::to_range`, by its tests: s and e are what the bounds say, and m the greatest of the three numbers
+module _ (r : RangeAny) (count s e n m : ℕ) (es : s ≡ bound_or 0 r.start) (ee : e ≡ bound_or count r.end) (en : n ≡ max count s) (em : m ≡ max n e) where
+  start_passes : s ≤ count_limit → (later : Answer) → check_bound r.start later ≡ later
+  start_passes h later = bound_fits 0 (omega arith) r.start later (omega arith)
 
-  module _ (hc : count ≤ count_limit) (s : ℕ) (es : s ≡ bound_or 0 r.start) where
-    pub range_start : count_limit < s → range_answer r count ≡ refused 18 []
+  end_passes : count ≤ count_limit → e ≤ count_limit → (later : Answer) → check_bound r.end later ≡ later
+  end_passes hc h later = bound_fits count hc r.end later (omega arith)
+
+  pub range_too_large : count_limit < m → refused 18 [] ≡ range_answer r count
+  unfolding range_answer check_range check_count check
+  range_too_large h =
+      by_lt count_limit count
+      (λ h₁. simp (lt-leb count count_limit h₁))
+      (λ h₁.
+      by_lt count_limit s
+      (λ h₂. simp (le-leb count count_limit h₁) (sym (bound_too_large 0 (omega arith) r.start _ (omega arith))))
+      (λ h₂. simp (le-leb count count_limit h₁, start_passes h₂) (sym (bound_too_large count h₁ r.end _ (omega arith)))))
+
+  module _ (h : m ≤ count_limit) where
+    pub range_above : e < s → refused 12 [] ≡ range_answer r count
     unfolding range_answer check_range check_count check
-    range_start h = simp (le-leb count count_limit hc) (bound_too_large 0 (omega arith) r.start _ (omega arith))
+    range_above t = simp (le-leb count count_limit (omega arith), start_passes (omega arith), end_passes (omega arith) (omega arith), ← es, ← ee, lt-leb s e t)
 
-    module _ (hs : s ≤ count_limit) (e : ℕ) (ee : e ≡ bound_or count r.end) where
-      start_passes : (later : Answer) → check_bound r.start later ≡ later
-      start_passes later = bound_fits 0 (omega arith) r.start later (omega arith)
-
-      pub range_end : count_limit < e → range_answer r count ≡ refused 18 []
-      unfolding range_answer check_range check_count check
-      range_end h = simp (le-leb count count_limit hc, start_passes) (bound_too_large count hc r.end _ (omega arith))
-
-      module _ (he : e ≤ count_limit) where
-        end_passes : (later : Answer) → check_bound r.end later ≡ later
-        end_passes later = bound_fits count hc r.end later (omega arith)
-
-        pub range_above : e < s → range_answer r count ≡ refused 12 []
-        unfolding range_answer check_range check_count check
-        range_above h = simp (le-leb count count_limit hc, start_passes, end_passes, ← es, ← ee, lt-leb s e h)
-
-        pub range_is : s ≤ e → range_answer r count ≡ done (pos s ∷ pos e ∷ [])
-        unfolding range_answer check_range check_count check
-        range_is h = simp (le-leb count count_limit hc, start_passes, end_passes, ← es, ← ee, le-leb s e h)
+    pub range_is : s ≤ e → done (pos s ∷ pos e ∷ []) ≡ range_answer r count
+    unfolding range_answer check_range check_count check
+    range_is t = simp (le-leb count count_limit (omega arith), start_passes (omega arith), end_passes (omega arith) (omega arith), ← es, ← ee, le-leb s e t)
 
 bound_stage : (b : Option ℕ) → Stage (λ later. check_bound b later)
 unfolding check_bound

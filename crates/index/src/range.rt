@@ -21,18 +21,13 @@ pub enum RangeError {
 
 impl RangeAny {
     // The start and the end of a range.
+    #[tactic(auto, using(crate::proofs::RangeLaws::range_too_large, crate::proofs::RangeLaws::range_above, crate::proofs::RangeLaws::range_is))]
     pub fn to_range(self, count: usize) -> Result<Range<usize>, RangeError>
         ensures { range_says result ≡ range_answer self count }
     {
-        if count > answer::COUNT_LIMIT {
-            return Err(RangeError::CountTooLarge);
-        }
         let start = self.start.unwrap_or(0);
-        if start > answer::COUNT_LIMIT {
-            return Err(RangeError::CountTooLarge);
-        }
         let end = self.end.unwrap_or(count);
-        if end > answer::COUNT_LIMIT {
+        if count.max(start).max(end) > answer::COUNT_LIMIT {
             return Err(RangeError::CountTooLarge);
         }
         if start > end {

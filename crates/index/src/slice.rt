@@ -18,7 +18,7 @@ pub struct SliceInfo1 {
     pub step: i64,
 }
 
-// The magnitude of a number, -2^63 among them.
+// The magnitude of a number, -2^63 among them: the clauses' `magnitude`, by the library's method, as the type of a count.
 fn magnitude(e: i64) -> usize
     ensures { result ≡ magnitude e }
 {
@@ -26,6 +26,7 @@ fn magnitude(e: i64) -> usize
 }
 
 // The place that a slice's start or end means.
+#[tactic(auto, using(crate::proofs::SignedLaws::counts_back, crate::proofs::SignedLaws::counts_on))]
 fn from_count(e: i64, count: usize) -> usize
     requires { magnitude e ≤ count }
     ensures { result ≡ from_count count e }
@@ -93,6 +94,7 @@ impl RangeNdSlice {
     }
 
     // How many numbers it has.
+    #[tactic(auto, using(crate::proofs::StepLaws::len_is, crate::proofs::StepLaws::none), unfolding(crate::proofs::StepLaws::steps_below))]
     fn len(&self) -> usize
         ensures { result ≡ length self.now }
     {
@@ -132,6 +134,7 @@ impl RangeNdSlice {
 }
 
 // start, start + 1 and so on below end.
+#[tactic(auto, using(crate::proofs::StepLaws::consecutive))]
 pub(crate) fn consecutive(range: Range<usize>) -> RangeNdSlice
     requires { range.end ≤ count_limit }
     ensures { result ≡ tabulate (range.end - range.start) (λ k. pos (range.start + k)) }

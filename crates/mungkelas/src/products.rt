@@ -1,4 +1,4 @@
-// The product pieces.
+// The product pieces: two calls, since C names two, and each calls the one of its name in product.
 ghost use Rattle.mungkelas.specs.Header.{BedAtaPiece, BedAatPiece};
 
 use bed_answer::BedAnswer;

@@ -5,7 +5,8 @@ ghost use Rattle.mungkelas.specs.Header.{BedEncode1, BedWrite};
 use bed_answer::BedAnswer;
 use bed_write::WriteVal;
 
-// One for each type: of a type parameter a slice may have 2^63 values and more, and the place of a bad one would not fit.
+// One for each type: one generic call was tried, and the check refused that the place of a bad value fits in a signed number, since a slice of a type
+// parameter may have 2^63 values.
 pub fn bed_encode1_i8(
     in_vector: &[i8],
     out_vector: &mut [u8],

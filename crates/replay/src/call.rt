@@ -28,6 +28,7 @@ pub enum Call {
     RootF64,
 }
 
+// Each once, by hand: no derive lists the variants of an enum.
 pub const CALLS: [Call; 22] = [
     Call::OpenAndCheck,
     Call::TryDiv4,

@@ -50,7 +50,7 @@ fn one_more(count: &mut u64) {
 }
 
 impl Counts {
-    pub fn new(alloc: Global) -> Counts {
+    pub(crate) fn new(alloc: Global) -> Counts {
         Counts {
             calls: BTreeMap::new(alloc),
             lines: 0,
@@ -60,7 +60,7 @@ impl Counts {
         }
     }
 
-    pub fn count(&mut self, outcome: Outcome) -> Result<(), AllocError> {
+    pub(crate) fn count(&mut self, outcome: Outcome) -> Result<(), AllocError> {
         match outcome {
             Outcome::Original(call) => one_more(&mut self.calls.entry(call)?.or_default().original),
             Outcome::Document(call) => one_more(&mut self.calls.entry(call)?.or_default().document),

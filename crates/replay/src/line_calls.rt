@@ -251,14 +251,14 @@ fn index_slice(alloc: Global, line: &Line) -> Result<bool, AllocError> {
     })
 }
 
-// A piece of either product, by a closure: a call that another crate hands on is not proved where it is passed by its name. The number after the
-// counts is the piece's first column or row.
+// A piece of either product, by a closure: a call that another crate hands on is not proved where it is passed by its name. The offset is the line's
+// first number, a word as it stands, and the number after the counts is the piece's first column or row.
 fn piece<F>(alloc: Global, line: &Line, call: F) -> Result<bool, AllocError>
 where
     F: FnOnce(&[u8], u64, usize, usize, usize, usize, usize, &mut [f64]) -> BedAnswer,
     requires { F.IsAlwaysCallable call }
 {
-    let offset = line.number(0);
+    let offset = line.word(Section::Head, 2);
     let row_count = line.number(1);
     let col_count = line.number(2);
     let start = line.number(3);
@@ -287,8 +287,8 @@ fn root_f64(line: &Line) -> bool {
         && line.word(Section::Answer, 2) == 0
 }
 
-// Whether the library agrees with a line.
-pub fn agrees(alloc: Global, call: Call, line: &Line) -> Result<bool, AllocError> {
+// Whether the library agrees with a line. By a match: a table of functions would hand out function pointers, and the calls differ in what they take.
+pub(crate) fn agrees(alloc: Global, call: Call, line: &Line) -> Result<bool, AllocError> {
     match call {
         Call::OpenAndCheck => open_and_check(alloc, line),
         Call::TryDiv4 => Ok(try_div_4(line)),

@@ -22,12 +22,6 @@ root_over n s r b w h = elim (here_or_on s b) [ inl l ↦ absurd (no l (mul-le-m
     no : s < b → suc s * suc s ≤ b * b → ⊥
     no l m = omega (arith, w.sum, w.small)
 
-pub root_within : (n s r a b : ℕ) → a * a ≤ n → n < b * b → IsWholeRoot n s r → (a ≤ s) × (s < b)
-root_within n s r a b l u w = (root_over n s r a w l, root_under n s r b w u)
-
-pub same_number : (n m s r : ℕ) → m ≡ n → IsWholeRoot m s r → IsWholeRoot n s r
-same_number n m s r e w = subst (λ (z : ℕ). IsWholeRoot z s r) e w
-
 -- ---- one division: the root s of a number, with the rest r, made longer by the digits hi and lo to the base b
 module _ (s r hi lo b : ℕ) (small : r ≤ 2 * s) (base : b ≤ 2 * s) (high : hi < b) (low : lo < b) where
   twice_pos : 0 < s * 2

@@ -50,7 +50,7 @@ impl WholeRoot {
 
     // As many digits more as base has, by one division: of a number whose next two digits to that base
     // are high and low.
-    #[tactic(auto, using(crate::proofs::WholeLaws::room))]
+    #[tactic(auto, using(crate::proofs::WholeLaws::room, crate::proofs::WholeLaws::one_less, crate::proofs::WholeLaws::as_it_is))]
     fn next_digits(self, high: u64, low: u64, base: u64) -> WholeRoot
         requires { (self.rest ≤ 2 * self.root) × (self.root < 134217728) × (base ≤ 2 * self.root)
             × (base ≤ 134217728) × (high < base) × (low < base) }

@@ -30,24 +30,6 @@ pub trait Stored: Copy {
     ghost kept: { (bits : ℕ) → bits < 2 ^ 64 → value (word (value bits)) ≡ value bits };
 }
 
-impl Stored for u64 {
-    ghost value = { λ bits. bits };
-
-    ghost word = { λ x. x };
-
-    ghost read = { λ bits. bits };
-
-    ghost kept = { λ _ _. refl };
-
-    fn from_word(bits: u64) -> u64 {
-        bits
-    }
-
-    fn has_word(self, bits: u64) -> bool {
-        self == bits
-    }
-}
-
 impl Stored for usize {
     ghost value = { λ bits. bits };
 

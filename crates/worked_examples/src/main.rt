@@ -6,31 +6,9 @@
 mod show;
 
 use bed_answer::BedAnswer;
-use block::{DecodeError, PackError};
 use entries::{IidIndex, SidIndex};
-use show::{Bytes, Code, Dosages, Floats, Said};
+use show::{Bytes, Code, Decoded, Dosages, Floats, Packed, Said};
 use std::io;
-
-// The number of document 01, by which this program alone prints what packing a block answers.
-fn pack_number(answer: Result<(), PackError>) -> u64 {
-    match answer {
-        Ok(()) => 0,
-        Err(PackError::CountTooLarge) => 18,
-        Err(PackError::IndexMismatch) => 15,
-        Err(PackError::EncodingLength) => 16,
-        Err(PackError::BadValue(_)) => 7,
-    }
-}
-
-// The same of decoding one.
-fn decode_number(answer: Result<(), DecodeError>) -> u64 {
-    match answer {
-        Ok(()) => 0,
-        Err(DecodeError::CountTooLarge) => 18,
-        Err(DecodeError::IndexMismatch) => 15,
-        Err(DecodeError::EncodingLength) => 16,
-    }
-}
 
 fn plink_written(rt: &impl Print, val: &[i8]) -> io::Result<()> {
     let mut out = [0u8; 9];
@@ -124,52 +102,52 @@ fn show_codes(rt: &impl Print, bytes: &[u8]) -> io::Result<()> {
 
 // One marker's block, by the functions with plain parameters.
 fn block_packed(rt: &impl Print, bytes: &mut [u8]) -> io::Result<()> {
-    let n = pack_number(block::encode_block(bytes, 5, &[0i8, -127, 1, 2, 2], true, -127i8));
+    let answer = Packed(block::encode_block(bytes, 5, &[0i8, -127, 1, 2, 2], true, -127i8));
     println!(rt;
-        "document 01, i8 column 0, -127, 1, 2, 2, counted, missing -127: 27 00, packed as a block: saw answer {n}:{}",
+        "document 01, i8 column 0, -127, 1, 2, 2, counted, missing -127: 27 00, packed as a block: saw answer {answer}:{}",
         Bytes(bytes)
     )
 }
 
 fn block_decoded(rt: &impl Print, bytes: &[u8]) -> io::Result<()> {
     let mut back = [9i8; 5];
-    let n = decode_number(block::decode_block(bytes, 5, true, -127i8, &mut back));
+    let answer = Decoded(block::decode_block(bytes, 5, true, -127i8, &mut back));
     println!(rt;
-        "the same block decoded, the column: saw answer {n}:{}",
+        "the same block decoded, the column: saw answer {answer}:{}",
         Dosages(&back)
     )
 }
 
 fn block_f64(rt: &impl Print, bytes: &[u8], values: &mut [f64]) -> io::Result<()> {
-    let n = decode_number(block::decode_block(bytes, 5, false, 9.0f64, values));
+    let answer = Decoded(block::decode_block(bytes, 5, false, 9.0f64, values));
     println!(rt;
-        "the same block, not counted, as f64 with missing 9, values 2, 9, 1, 0, 0: saw answer {n}:{}",
+        "the same block, not counted, as f64 with missing 9, values 2, 9, 1, 0, 0: saw answer {answer}:{}",
         Floats(values)
     )
 }
 
 fn block_again(rt: &impl Print, bytes: &mut [u8], values: &[f64]) -> io::Result<()> {
-    let n = pack_number(block::encode_block(bytes, 5, values, false, 9.0f64));
+    let answer = Packed(block::encode_block(bytes, 5, values, false, 9.0f64));
     println!(rt;
-        "the same packed again, 27 00: saw answer {n}:{}",
+        "the same packed again, 27 00: saw answer {answer}:{}",
         Bytes(bytes)
     )
 }
 
 fn block_kept(rt: &impl Print, bytes: &mut [u8]) -> io::Result<()> {
-    let n = pack_number(block::encode_block(bytes, 5, &[2i8, 0, 1, 0, 3], true, -127i8));
+    let answer = Packed(block::encode_block(bytes, 5, &[2i8, 0, 1, 0, 3], true, -127i8));
     println!(rt;
-        "document 02, a bad value in the second group of four is 7, and the block keeps 27 00: saw answer {n}:{}",
+        "document 02, a bad value in the second group of four is 7, and the block keeps 27 00: saw answer {answer}:{}",
         Bytes(bytes)
     )
 }
 
 fn block_lengths(rt: &impl Print, bytes: &mut [u8], values: &[f64]) -> io::Result<()> {
-    let short = pack_number(block::encode_block(bytes, 6, values, false, 9.0f64));
+    let short = Packed(block::encode_block(bytes, 6, values, false, 9.0f64));
     println!(rt;
         "document 01, a value buffer that is not the count is 15, 5 values for 6 animals: saw {short}"
     )?;
-    let long = pack_number(block::encode_block(bytes, 9, values, false, 9.0f64));
+    let long = Packed(block::encode_block(bytes, 9, values, false, 9.0f64));
     println!(rt;
         "document 01, encode1 checks 16 first, 2 bytes and 5 values for 9 animals: saw {long}"
     )

@@ -1,6 +1,6 @@
 // What the lines show: dosages, floats, bytes, and what a call answered.
 use bed_answer::BedAnswer;
-use block::CodeError;
+use block::{CodeError, DecodeError, PackError};
 use std::fmt;
 
 // Values read as i8 with missing −127.
@@ -78,5 +78,36 @@ impl fmt::Display for Code {
             Err(CodeError::EncodingLength) => write!(f, " refused: 16"),
             Err(CodeError::IidIndexTooBig(iid)) => write!(f, " refused: 5 for {}", iid.0),
         }
+    }
+}
+
+// What packing a block answers, by document 01's number.
+#[derive(Clone, Copy)]
+pub struct Packed(pub Result<(), PackError>);
+
+impl fmt::Display for Packed {
+    fn fmt<W: fmt::Write>(&self, f: &mut fmt::Formatter<W>) -> fmt::Result {
+        f.write_str(match self.0 {
+            Ok(()) => "0",
+            Err(PackError::CountTooLarge) => "18",
+            Err(PackError::IndexMismatch) => "15",
+            Err(PackError::EncodingLength) => "16",
+            Err(PackError::BadValue(_)) => "7",
+        })
+    }
+}
+
+// The same of decoding one.
+#[derive(Clone, Copy)]
+pub struct Decoded(pub Result<(), DecodeError>);
+
+impl fmt::Display for Decoded {
+    fn fmt<W: fmt::Write>(&self, f: &mut fmt::Formatter<W>) -> fmt::Result {
+        f.write_str(match self.0 {
+            Ok(()) => "0",
+            Err(DecodeError::CountTooLarge) => "18",
+            Err(DecodeError::IndexMismatch) => "15",
+            Err(DecodeError::EncodingLength) => "16",
+        })
     }
 }

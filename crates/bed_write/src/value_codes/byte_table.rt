@@ -2,52 +2,43 @@
 ghost use Rattle.std.specs.Prelude.{◌≡◌, ◌<◌};
 ghost use Rattle.codes.specs.Value.{i8, code_of};
 ghost use Rattle.bed_write.specs.Groups.{or_four, CodesGood};
-ghost use Rattle.bed_write.specs.Private.{byte_index, CodesOfBytes};
+ghost use Rattle.std.specs.Int.{cast_unsigned, w8};
+ghost use Rattle.bed_write.specs.Private.{CodesOfBytes};
 
-use super::{Coder, Coding, code_of_two, code_of_zero};
+use super::{Coder, code_of_two, code_of_zero};
+use codes::Coding;
 
 // The code of each i8, or 4, made once for all values of a call.
 #[derive(Drop)]
 pub struct ByteTable {
     table: [u8; 256],
     coding: Coding<i8>,
-    ghost is_table: { CodesOfBytes coding.is_a1_counted coding.missing table },
+    ghost is_table: { CodesOfBytes coding table },
 }
 
-// The place of an i8 in a table of 256: from 0 on its own number, and 128 + (−1 − v) for v below 0.
+// The place of an i8 in a table of 256: its byte, by two's complement.
 fn index_of(value: i8) -> usize
-    ensures { (result ≡ byte_index value) × (result < 256) }
+    ensures { (result ≡ cast_unsigned w8 value) × (result < 256) }
 {
-    if value < 0 {
-        return 128 + (-1 - value) as usize;
-    }
-    value as usize
+    usize::from(value.cast_unsigned())
 }
 
 impl ByteTable {
     // 0, 1 and 2 go before missing.
-    pub(crate) fn new(is_a1_counted: bool, missing: i8) -> ByteTable
-        ensures { (result.coding.is_a1_counted ≡ is_a1_counted) × (result.coding.missing ≡ missing) }
+    pub(crate) fn new(coding: Coding<i8>) -> ByteTable
+        ensures { result.coding ≡ coding }
     {
         let mut table = [4u8; 256];
-        table[index_of(missing)] = 1;
-        table[2] = code_of_two(is_a1_counted);
+        table[index_of(coding.missing)] = 1;
+        table[2] = code_of_two(coding.is_a1_counted);
         table[1] = 2;
-        table[0] = code_of_zero(is_a1_counted);
-        ByteTable {
-            table,
-            coding: Coding {
-                is_a1_counted,
-                missing,
-            },
-        }
+        table[0] = code_of_zero(coding.is_a1_counted);
+        ByteTable { table, coding }
     }
 }
 
 impl Coder<i8> for ByteTable {
-    ghost flag = { λ bytes. bytes.coding.is_a1_counted };
-
-    ghost missing = { λ bytes. bytes.coding.missing };
+    ghost coding = { λ bytes. bytes.coding };
 
     // The code of a bad value too: 4.
     fn code(&self, value: i8) -> u8

@@ -9,18 +9,16 @@ count_run-requires c =
     let min = c.min-n.ensures in
     let more = c.loop-from-test.true in
     let ends : c.loop-from.from-counter + c.min-n.result ≤ length s.iid_index.now = omega arith in
-    let few : s.shape.sids < 2 ^ 64 = s.words.1 in
     let fits : length s.file.now < 2 ^ 64 = omega arith in
     let some : 0 < c.min-n.result = omega arith in (
       record {
         callable = λ m part h p.
             let inside : c.min-n.result ≤ 4 * (length s.file.now - (part.byte + c.loop-from.from-counter / 4)) =
-            block_inside s.file.now s.shape s.ready.shaped s.iid_index.now s.ready.iids_good c.requires.0.0 c.requires.0.1 m _ _ part.byte h ends i.1 fits p.byte_is (omega arith) in
+            block_inside s.file.now s.shape s.iid_index.now s.sid_index.now s.ready c.requires.0 m _ _ part.byte h ends i.1 p.byte_is in
             let small : part.byte + c.loop-from.from-counter / 4 < 2 ^ 64 = omega arith in
             let n : c.min-n.result < 65536 = omega arith in
             search rules;
-        tally_is = λ m part t h p e.
-            block_tally s.file.now s.shape s.ready.shaped s.iid_index.now s.ready.iids_good c.requires.0.0 c.requires.0.1 m _ _ part.byte h ends i.1 fits p.byte_is (omega arith) t (search rules);
+        tally_is = λ m part t h p e. block_tally s.file.now s.shape s.iid_index.now s.sid_index.now s.ready c.requires.0 m _ _ part.byte h ends i.1 p.byte_is t (search rules);
       },
       ends,
       omega arith,

@@ -1,6 +1,6 @@
-use Rattle.std.proofs.Common.{rules, arith, ◌+◌, ◌<◌, ◌≤◌, ◌^◌, length}
-use Rattle.call_counts.proofs.PartLaws.{parts_inside, parts_tally}
-use Rattle.call_counts.proofs.count_resolved.Goals.{then-lists, else-lists}
+use Rattle.std.proofs.Common.{rules, arith, true, refl, ◌+◌, ◌<◌, ◌≤◌, ◌^◌, length}
+use Rattle.calls.proofs.ListLaws.{inner_entries}
+use Rattle.call_counts.proofs.PartLaws.{run_inside, run_tally}
 use Rattle.call_counts.proofs.count_resolved.Goals as goal
 
 pub count_run-requires : goal.count_run-requires
@@ -10,17 +10,14 @@ count_run-requires c =
     let min = c.min-n.ensures in
     let more = c.loop-from-test.true in
     let ends : c.loop-from.from + c.min-n.result ≤ length s.iid_index.now = omega arith in
-    let most : c.min-n.result ≤ 2048 =
-    elim c.if-lists.branch [ then-lists w ↦ let l = w.limit-is in omega arith | else-lists w ↦ let l = w.limit-is in omega arith ]
-    in
-    let few : s.shape.sids < 2 ^ 64 = s.words.1 in
-    let fits : length s.file.now < 2 ^ 64 = omega arith in (
+    let most : c.min-n.result ≤ 2048 = omega arith in
+    let fits : length s.file.now < 2 ^ 64 = omega arith in
+    let parts = inner_entries _ _ _ _ _ s.ready fits true refl c.loop-from.from (c.loop-from.from + c.min-n.result) (omega arith) ends (omega arith) c.loop-from.parts c.resolve.new.self c.resolve.ensures in (
       record {
         callable = λ m part h p.
-            let inside = parts_inside s.file.now s.shape s.ready.shaped fits s.iid_index.now s.ready.iids_good m _ _ h (omega arith) s.words.0 ends part p c.resolve.new.run c.resolve.ensures in
+            let inside = run_inside s.file.now s.shape s.iid_index.now s.sid_index.now s.ready m _ _ h ends part p c.resolve.new.self parts in
             search rules;
-        tally_is = λ m part t h p e.
-            parts_tally s.file.now s.shape s.ready.shaped fits s.iid_index.now s.ready.iids_good m _ _ h (omega arith) s.words.0 ends part p c.resolve.new.run c.resolve.ensures t (search rules);
+        tally_is = λ m part t h p e. run_tally s.file.now s.shape s.iid_index.now s.sid_index.now s.ready m _ _ h ends part p c.resolve.new.self parts t (search rules);
       },
       ends,
       omega arith,

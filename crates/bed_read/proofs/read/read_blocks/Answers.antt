@@ -1,21 +1,15 @@
 use Rattle.std.proofs.Common.{arith, length}
-use Rattle.bed_read.proofs.PartLaws.{order_inside}
+use Rattle.calls.proofs.ListLaws.{along_inside}
 use Rattle.bed_read.proofs.TileLaws.{tile_none, tile_all, lines_end}
 use Rattle.bed_read.proofs.MatrixLaws.{block_read}
 use Rattle.bed_read.proofs.read.read_blocks.Goals as goal
-
-pub loop-o-init : goal.loop-o-init
-loop-o-init g c = tile_none _ _ _ _ _ _ _ c.requires.1
 
 pub read_in_order-requires : goal.read_in_order-requires
 read_in_order-requires g c =
     let m = c.args.lines.now in
     let e = lines_end c.loop-o.o 1 _ (length m.inner.now) (length c.loop-o.val) (omega (arith, c.loop-o-test.true)) c.loop-o.invariant.rows.long in
-    (order_inside _ _ _ _ _ m.ready c.requires.0 _ _ c.loop-o-test.true c.outer_part-start.ensures.byte_is, omega arith)
+    (along_inside _ _ _ _ _ m.ready c.requires.0 _ _ c.loop-o-test.true c.outer_part-start.ensures.byte_is, omega arith)
 
 pub loop-o-preserved : goal.loop-o-preserved
 loop-o-preserved g c =
     block_read _ _ _ _ _ _ _ c.args.lines.now.ready _ _ c.loop-o.o c.requires.0 _ c.outer_part-start.ensures.byte_is c.loop-o-test.true c.read_in_order.ensures c.loop-o.invariant
-
-pub returns : goal.returns
-returns g c = tile_all _ _ _ _ _ _ _ _ c.loop-o.invariant c.loop-o-test.false (omega arith)

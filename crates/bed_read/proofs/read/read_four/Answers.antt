@@ -1,23 +1,13 @@
 use Rattle.std.proofs.Common.{◌-◌, ◌*◌, arith}
 use Rattle.bed_read.proofs.DrawLaws.{drawn_pairs, drawn_to}
-use Rattle.bed_read.proofs.PartLaws.{inside_less}
+use Rattle.calls.proofs.ListLaws.{inside_less}
 use Rattle.bed_read.proofs.read.read_four.Goals as goal
-
-pub read_pairs-requires : goal.read_pairs-requires
-read_pairs-requires g c =
-    let h = c.loop-pair-test.true in
-    (λ j b. inside_less _ _ _ _ _ _ (omega (arith, h)) (c.requires.0 j b), omega (arith, h, c.requires.2), omega (arith, h, c.loop-pair.invariant.long, c.requires.3))
 
 pub loop-pair-preserved : goal.loop-pair-preserved
 loop-pair-preserved g c =
     let h = c.loop-pair-test.true in
     drawn_to _ _ _ _ _ 4 _ _ _ (drawn_pairs _ _ _ _ _ _ _ (2 * c.loop-pair.pair) _ _ c.loop-pair.invariant (omega arith) (omega (arith, h)) c.requires.3 c.read_pairs.ensures)
     (omega arith)
-
-pub read_pairs-requires-2 : goal.read_pairs-requires-2
-read_pairs-requires-2 g c =
-    let h = c.requires.1 in
-    (λ j b. inside_less _ _ _ _ _ _ (omega arith) (c.requires.0 j b), omega (arith, h, c.requires.2), omega (arith, h, c.loop-pair.invariant.long, c.requires.3))
 
 pub returns : goal.returns
 returns g c =

@@ -23,15 +23,8 @@ loop-b-preserved g c =
     (omega arith) (omega arith) (omega arith) (omega arith)
     (c.call_value-v3.ensures ∙ byte_item v c.args.file.now c.args.start b 3 (4 * b + 3) (omega arith) refl)
 
-pub loop-i-init : goal.loop-i-init
-loop-i-init g c =
-    let h = c.loop-b-test.false in let b = c.loop-b.invariant.bound in drawn_to _ _ _ _ _ _ _ _ _ c.loop-b.invariant (omega arith)
-
 pub loop-i-preserved : goal.loop-i-preserved
 loop-i-preserved g c =
     let t = c.loop-i-test.true in
     let l = c.requires.1 in
     drawn_one _ _ _ _ _ _ _ _ _ _ c.loop-i.invariant t refl refl (omega arith) c.call_value.ensures
-
-pub returns : goal.returns
-returns g c = drawn_end _ _ _ _ _ _ _ _ c.loop-i.invariant c.loop-i-test.false

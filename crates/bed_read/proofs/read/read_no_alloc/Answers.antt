@@ -3,8 +3,9 @@ use Rattle.std.proofs.Common.{refl, sym, ap, true, false, length, ◌∙◌}
 use native.Mathlib.Nat.{mul_comm}
 use Rattle.answer.specs.Answer.{is_done}
 use Rattle.bed_read.proofs.ReadLaws.{error_told, error_refuses, read_checks, read_done}
-use Rattle.bed_read.proofs.BufferLaws.{ready_iids, ready_sids, buffer_read, buffer_kept}
+use Rattle.bed_read.proofs.BufferLaws.{ready_lines, table_made, table_read, buffer_read, buffer_kept}
 use Rattle.bed_read.proofs.read.read_no_alloc.Goals as goal
+use Rattle.bed_read.proofs.read.read_no_alloc.Goals.{then-animal_order, else-animal_order}
 
 pub returns-in_err-check_read : goal.returns-in_err-check_read
 returns-in_err-check_read g c =
@@ -15,24 +16,37 @@ returns-in_err-check_read g c =
     )
 
 pub invariant_of-lines : goal.invariant_of-lines
-invariant_of-lines g c = record { other = refl; ready = ready_iids _ _ _ _ _ _ (read_done _ _ _ _ _ _ c.in_ok-check_read.ensures).1 _ c.shape_of-shape.ensures }
+invariant_of-lines g c = record { other = refl; ready = ready_lines _ _ _ _ _ _ _ (read_done _ _ _ _ _ _ c.in_ok-check_read.ensures).1 _ c.shape_of-shape.ensures true }
 
-pub read_lines-requires : goal.read_lines-requires
-read_lines-requires g c = (read_done _ _ _ _ _ _ c.in_ok-check_read.ensures).1.product
+pub invariant_of-values : goal.invariant_of-values
+invariant_of-values g c = record { by_code = table_made g.T.BedVal.width _ _ _ _ _ c.as_slice.ensures c.table-table.ensures }
+
+pub read_matrix-requires : goal.read_matrix-requires
+read_matrix-requires g c = (read_done _ _ _ _ _ _ c.in_ok-check_read.ensures).1.product
 
 pub invariant_of-lines-else-animal_order : goal.invariant_of-lines-else-animal_order
-invariant_of-lines-else-animal_order g c = record { other = refl; ready = ready_sids _ _ _ _ _ _ (read_done _ _ _ _ _ _ c.in_ok-check_read.ensures).1 _ c.shape_of-shape.ensures }
+invariant_of-lines-else-animal_order g c = record { other = refl; ready = ready_lines _ _ _ _ _ _ _ (read_done _ _ _ _ _ _ c.in_ok-check_read.ensures).1 _ c.shape_of-shape.ensures false }
 
-pub read_lines-requires-else-animal_order : goal.read_lines-requires-else-animal_order
-read_lines-requires-else-animal_order g c =
+pub invariant_of-values-else-animal_order : goal.invariant_of-values-else-animal_order
+invariant_of-values-else-animal_order g c = record { by_code = table_made g.T.BedVal.width _ _ _ _ _ c.as_slice.ensures c.table-table.ensures }
+
+pub read_matrix-requires-else-animal_order : goal.read_matrix-requires-else-animal_order
+read_matrix-requires-else-animal_order g c =
     let a = c.args in mul_comm (length a.sid_index.now) (length a.iid_index.now) ∙ (read_done _ _ _ _ _ _ c.in_ok-check_read.ensures).1.product
 
-pub returns-then-animal_order : goal.returns-then-animal_order
-returns-then-animal_order g c =
-    let r = read_done _ _ _ _ _ _ c.in_ok-check_read.ensures in
-    (r.0, buffer_read _ _ _ _ _ _ r.1 c.shape_of-shape.result c.shape_of-shape.ensures g.T.BedVal.width _ _ _ true _ _ (sym (ap is_done r.0)) c.if-animal_order.true c.read_lines.ensures)
-
-pub returns-else-animal_order : goal.returns-else-animal_order
-returns-else-animal_order g c =
-    let r = read_done _ _ _ _ _ _ c.in_ok-check_read.ensures in
-    (r.0, buffer_read _ _ _ _ _ _ r.1 c.shape_of-shape.result c.shape_of-shape.ensures g.T.BedVal.width _ _ _ false _ _ (sym (ap is_done r.0)) c.if-animal_order.false c.read_lines-else-animal_order.ensures)
+pub returns : goal.returns
+returns g c =
+    let done = (read_done _ _ _ _ _ _ c.in_ok-check_read.ensures).0 in
+    let table = c.as_slice.ensures ∙ c.table-table.ensures in (
+      done,
+      elim c.if-animal_order.branch [
+        | then-animal_order w ↦
+            w.val-is
+            ∙ buffer_read _ _ _ _ _ c.shape_of-shape.result c.shape_of-shape.ensures g.T.BedVal.width _ _ _ true _ _ (sym (ap is_done done)) w.if-animal_order.true
+            (table_read g.T.BedVal.width _ _ _ _ _ _ _ c.shape_of-shape.result _ _ table w.read_matrix.ensures)
+        | else-animal_order w ↦
+            w.val-is
+            ∙ buffer_read _ _ _ _ _ c.shape_of-shape.result c.shape_of-shape.ensures g.T.BedVal.width _ _ _ false _ _ (sym (ap is_done done)) w.if-animal_order.false
+            (table_read g.T.BedVal.width _ _ _ _ _ _ _ c.shape_of-shape.result _ _ table w.read_matrix-else-animal_order.ensures)
+      ],
+    )

@@ -1,16 +1,8 @@
 use Rattle.std.proofs.Common.{arith, length, ◌*◌, ◌+◌, ◌≤◌}
-use Rattle.bed_read.proofs.PartLaws.{tile_inside}
+use Rattle.calls.proofs.ListLaws.{parts_inside}
 use Rattle.bed_read.proofs.TileLaws.{tile_none, tile_all, tile_to, lines_end}
 use Rattle.bed_read.proofs.MatrixLaws.{line_read, four_inside, four_read}
 use Rattle.bed_read.proofs.read.read_tile.Goals as goal
-
-pub loop-four-init : goal.loop-four-init
-loop-four-init g c = tile_none _ _ _ _ _ _ _ c.requires.4
-
-pub overflow_add-o : goal.overflow_add-o
-overflow_add-o g c =
-    let m = c.args.lines.now in
-    let e = lines_end (4 * c.loop-four.four) 4 _ (length m.inner.now) _ (omega (arith, c.loop-four-test.true, c.lines_by_four-fours.ensures.0)) c.loop-four.invariant.rows.long in omega (arith, c.requires.1, c.requires.2)
 
 pub read_four-requires : goal.read_four-requires
 read_four-requires g c =
@@ -34,12 +26,9 @@ read_line-requires g c =
     let m = c.args.lines.now in
     let p = c.outer_part-part.ensures in
     let e = lines_end c.loop-o.o 1 _ (length m.inner.now) _ (omega (arith, c.loop-o-test.true)) c.loop-o.invariant.rows.long in
-    (tile_inside _ _ _ _ _ m.ready _ _ _ c.requires.0 c.requires.2 _ _ _ c.loop-o-test.true p.byte_is p.place_is, c.requires.3, omega (arith, e, c.requires.1, c.requires.2))
+    (parts_inside _ _ _ _ _ m.ready _ _ _ c.requires.0 c.requires.2 _ _ _ c.loop-o-test.true p.byte_is p.place_is, c.requires.3, omega (arith, e, c.requires.1, c.requires.2))
 
 pub loop-o-preserved : goal.loop-o-preserved
 loop-o-preserved g c =
     let p = c.outer_part-part.ensures in
     line_read _ _ _ _ _ _ _ c.args.lines.now.ready _ _ _ _ _ _ c.requires.2 c.requires.0 c.loop-o.invariant _ _ p.byte_is p.place_is c.loop-o-test.true c.read_line.ensures
-
-pub returns : goal.returns
-returns g c = tile_all _ _ _ _ _ _ _ _ c.loop-o.invariant c.loop-o-test.false c.requires.2

@@ -7,8 +7,8 @@ use Rattle.bed_read.proofs.table.fill_table.Given as goal
 
 abbrev pub invariant-loop-byte : goal.invariant-loop-byte
 invariant-loop-byte g l =
-    Drawn l.fn.missing_value 1 1024 (λ _ t. t) (λ _ t. value_of g.T.BedVal.width l.fn.is_a1_counted l.fn.missing_value (code_at (t / 4) (t % 4))) l.fn.table (4 * l.byte) l.table
+    Drawn l.fn.coding.missing 1 1024 (λ _ t. t) (λ _ t. value_of g.T.BedVal.width l.fn.coding.is_a1_counted l.fn.coding.missing (code_at (t / 4) (t % 4))) l.fn.table (4 * l.byte) l.table
 
 abbrev pub invariant-loop-place : goal.invariant-loop-place
 invariant-loop-place g l =
-    Drawn l.fn.missing_value 1 1024 (λ _ t. t) (λ _ t. value_of g.T.BedVal.width l.fn.is_a1_counted l.fn.missing_value (code_at (t / 4) (t % 4))) l.fn.table (4 * l.byte + l.place) l.table
+    Drawn l.fn.coding.missing 1 1024 (λ _ t. t) (λ _ t. value_of g.T.BedVal.width l.fn.coding.is_a1_counted l.fn.coding.missing (code_at (t / 4) (t % 4))) l.fn.table (4 * l.byte + l.place) l.table

@@ -1,7 +1,7 @@
 -- The groups that are full, then the one that is not.
 use Rattle.std.proofs.Common.{◌≡◌, ◌/◌, length, subst, sym, ◌∙◌, arith}
 use Rattle.bed_write.specs.Packing.{place_code, packed_codes}
-use Rattle.bed_write.proofs.EncodeLaws.{Front, front_none, block_length, full_there, full_more, last_done, none_left}
+use Rattle.bed_write.proofs.EncodeLaws.{Front, front_none, block_length, full_there, full_more, last_done}
 use Rattle.bed_write.proofs.encode.pack.Goals as goal
 
 pub loop-b-init : goal.loop-b-init
@@ -24,9 +24,3 @@ returns-then-full-out g c =
     let e : c.loop-b.b ≡ length a.column.now / 4 = omega (arith, c.loop-b-test.false, c.loop-b.auto.b-end) in
     last_done g.T.BedVal.width a.coding.is_a1_counted a.coding.missing a.column.now c.requires.1 a.out.now _ _ c.requires.0
     (subst (Front (packed_codes (length a.column.now) w) a.out.now c.loop-b.out) e c.loop-b.invariant) c.if-full-out.true _ _ _ _ c.codes-then-full-out.ensures (omega arith) _ c.byte_of-then-full-out.ensures
-
-pub returns-else-full-out : goal.returns-else-full-out
-returns-else-full-out g c =
-    let a = c.args in
-    none_left g.T.BedVal.width a.coding.is_a1_counted a.coding.missing a.column.now c.requires.1 a.out.now _ _ c.requires.0 c.loop-b.invariant
-    (omega (arith, c.if-full-out.false, c.loop-b-test.false))

@@ -1,17 +1,10 @@
-use Rattle.std.proofs.Common.{arith}
 use Rattle.bed_write.specs.Private.{by_tests}
 use Rattle.bed_write.proofs.FirstLaws.{coded_read}
 use Rattle.bed_write.proofs.SearchLaws.{none_so_far}
 use Rattle.bed_write.proofs.search.any_bad.Goals as goal
 
-pub loop-value-init : goal.loop-value-init
-loop-value-init g c = λ e k h. absurd (omega arith)
-
 pub loop-value-preserved : goal.loop-value-preserved
 loop-value-preserved g c =
     let a = c.args.coding in
-    none_so_far (by_tests g.T.BedVal.width a.is_a1_counted a.missing c.args.val.now) _ _ _ c.loop-value.invariant
+    none_so_far (by_tests g.T.BedVal.width a c.args.val.now) _ _ _ c.loop-value.invariant
     (coded_read g.T.BedVal.width a.is_a1_counted a.missing c.args.val.now _ _ _ c.loop-value-test.true c.value-item.is _ (c.is_bad-bad.ensures a.is_a1_counted))
-
-pub returns : goal.returns
-returns g c = λ e k h. c.loop-value.invariant e k (omega (arith, c.loop-value-test.false))

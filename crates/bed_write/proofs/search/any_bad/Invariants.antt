@@ -4,5 +4,4 @@ use Rattle.bed_write.specs.Private.{by_tests}
 use Rattle.bed_write.proofs.search.any_bad.Given as goal
 
 abbrev pub invariant-loop-value : goal.invariant-loop-value
-invariant-loop-value g l =
-    l.bad ≡ false → (k : ℕ) → k < l.value-index → by_tests g.T.BedVal.width l.fn.coding.is_a1_counted l.fn.coding.missing l.val k < 4
+invariant-loop-value g l = l.bad ≡ false → (k : ℕ) → k < l.value-index → by_tests g.T.BedVal.width l.fn.coding l.val k < 4

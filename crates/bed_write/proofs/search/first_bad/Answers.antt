@@ -1,14 +1,8 @@
 use Rattle.std.proofs.Common.{◌<◌, length, refl, arith, below_more, rules}
 use Rattle.bed_write.proofs.SearchLaws.{called_none, called_at}
 use Rattle.bed_write.proofs.PlaceLaws.{read_inside, read_number}
-use Rattle.bed_write.proofs.WriteLaws.{value_coded}
+use Rattle.bed_write.proofs.FirstLaws.{value_coded}
 use Rattle.bed_write.proofs.search.first_bad.Goals as goal
-
-pub loop-marker-init : goal.loop-marker-init
-loop-marker-init g c = λ k h. absurd (omega arith)
-
-pub loop-animal-init : goal.loop-animal-init
-loop-animal-init g c = λ a h. absurd (omega arith)
 
 pub offset_bounds-matrix-place : goal.offset_bounds-matrix-place
 offset_bounds-matrix-place g c =
@@ -41,11 +35,7 @@ loop-animal-preserved g c =
     (let n = read_number g.T.BedVal.width a.is_a1_counted a.missing m.animal_order m.iid_count m.sid_count m.val.now m.is_full _ _ _ c.loop-animal-test.true c.loop-marker-test.true c.place.ensures
     _ c.index-matrix-place.result refl _ c.code_or_four.ensures in omega (arith, c.if-code_or_four-gt3.false))
 
-pub loop-marker-preserved : goal.loop-marker-preserved
-loop-marker-preserved g c = below_more _ _ c.loop-marker.invariant (λ a h. c.loop-animal.invariant a (omega (arith, c.loop-animal-test.false)))
-
 pub returns-after-loop-marker : goal.returns-after-loop-marker
 returns-after-loop-marker g c =
-    let a = c.args.coding in
     let m = c.args.matrix.now in
-    called_none m.iid_count m.sid_count _ (value_coded g.T.BedVal.width a.is_a1_counted a.missing m.animal_order m.iid_count m.sid_count m.val.now) _ c.loop-marker-test.false c.loop-marker.invariant
+    called_none m.iid_count m.sid_count _ _ c.loop-marker-test.false c.loop-marker.invariant

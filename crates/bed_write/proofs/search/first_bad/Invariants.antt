@@ -16,4 +16,4 @@ invariant-loop-marker g l =
     let c = l.fn.coding in
     let m = l.fn.matrix in
     (k : ℕ) → k < l.marker
-    → GoodMarker m.iid_count m.sid_count (λ a k. or_four (value_code g.T.BedVal.width c.is_a1_counted c.missing m.animal_order m.iid_count m.sid_count m.val.now a k)) k
+    → GoodMarker m.iid_count m.sid_count (value_code g.T.BedVal.width c.is_a1_counted c.missing m.animal_order m.iid_count m.sid_count m.val.now) k

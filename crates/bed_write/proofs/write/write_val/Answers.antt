@@ -1,10 +1,8 @@
 -- The checks of the buffers, then the first bad value, then the file.
-use Rattle.std.proofs.Common.{◌≡◌, Bool, None, refl, sym, subst, ◌∙◌}
+use Rattle.std.proofs.Common.{◌≡◌, refl, subst, ◌∙◌}
 use Rattle.bed_write.specs.Writing.{value_code, bed_file}
-use Rattle.bed_write.specs.Private.{by_tests, placed, first_over}
-use Rattle.bed_write.proofs.SearchLaws.{none_called, same_file}
-use Rattle.bed_write.proofs.PlaceLaws.{placed_same}
-use Rattle.bed_write.proofs.WriteLaws.{passed, value_coded, write_bad, write_done, write_refused, error_kept, not_done}
+use Rattle.bed_write.specs.Private.{matrix_code}
+use Rattle.bed_write.proofs.WriteLaws.{passed, write_bad, write_done, write_refused, error_kept, not_done}
 use Rattle.bed_write.proofs.write.write_val.Goals as goal
 
 pub returns-in_err-check_write : goal.returns-in_err-check_write
@@ -24,20 +22,6 @@ returns-in-Some g c =
     let p = passed a.iid_count a.sid_count _ _ _ (c.in_ok-check_write.ensures) refl in
     write_bad a.iid_count a.sid_count (value_code g.T.BedVal.width a.is_a1_counted a.missing a.animal_order a.iid_count a.sid_count a.val.now) _ a.out.now p.pass _ _ (c.in-Some.ensures)
 
-pub invariant_of-writer : goal.invariant_of-writer
-invariant_of-writer g c =
-    let a = c.args in
-    let e = c.across.ensures in
-    let p = passed a.iid_count a.sid_count _ _ _ (c.in_ok-check_write.ensures) refl in
-    record {
-      is_good = (
-        p.product,
-        subst (λ (f : Bool). first_over a.iid_count a.sid_count (placed (by_tests g.T.BedVal.width f (g.T.Across.Coder.missing c.across.result) a.val.now) a.animal_order a.iid_count a.sid_count) ≡ None) (sym e.0)
-            (subst (λ v. first_over a.iid_count a.sid_count (placed (by_tests g.T.BedVal.width a.is_a1_counted v a.val.now) a.animal_order a.iid_count a.sid_count) ≡ None) (sym e.1)
-            (none_called a.iid_count a.sid_count (placed (by_tests g.T.BedVal.width a.is_a1_counted a.missing a.val.now) a.animal_order a.iid_count a.sid_count) (value_code g.T.BedVal.width a.is_a1_counted a.missing a.animal_order a.iid_count a.sid_count a.val.now) (value_coded g.T.BedVal.width a.is_a1_counted a.missing a.animal_order a.iid_count a.sid_count a.val.now) (placed_same g.T.BedVal.width a.is_a1_counted a.missing a.animal_order a.iid_count a.sid_count a.val.now) (c.in_default.ensures))),
-      );
-    }
-
 pub write-requires : goal.write-requires
 write-requires g c =
     let a = c.args in
@@ -47,10 +31,6 @@ write-requires g c =
 pub returns : goal.returns
 returns g c =
     let a = c.args in
-    let e = c.across.ensures in
     let p = passed a.iid_count a.sid_count _ _ _ (c.in_ok-check_write.ensures) refl in
-    let written = subst (λ v. c.write.new.out ≡ bed_file a.iid_count a.sid_count (placed (by_tests g.T.BedVal.width a.is_a1_counted v a.val.now) a.animal_order a.iid_count a.sid_count)) e.1
-    (subst (λ (f : Bool). c.write.new.out ≡ bed_file a.iid_count a.sid_count (placed (by_tests g.T.BedVal.width f (g.T.Across.Coder.missing c.across.result) a.val.now) a.animal_order a.iid_count a.sid_count)) e.0
-    c.write.ensures) in
     write_done a.iid_count a.sid_count (value_code g.T.BedVal.width a.is_a1_counted a.missing a.animal_order a.iid_count a.sid_count a.val.now) _ a.out.now p.pass (c.in_default.ensures) _
-    (written ∙ same_file a.iid_count a.sid_count (placed (by_tests g.T.BedVal.width a.is_a1_counted a.missing a.val.now) a.animal_order a.iid_count a.sid_count) (value_code g.T.BedVal.width a.is_a1_counted a.missing a.animal_order a.iid_count a.sid_count a.val.now) (value_coded g.T.BedVal.width a.is_a1_counted a.missing a.animal_order a.iid_count a.sid_count a.val.now) (placed_same g.T.BedVal.width a.is_a1_counted a.missing a.animal_order a.iid_count a.sid_count a.val.now) (c.in_default.ensures))
+    (subst (λ k. c.write.new.out ≡ bed_file a.iid_count a.sid_count (matrix_code g.T.BedVal.width k a.animal_order a.iid_count a.sid_count a.val.now)) c.across.ensures c.write.ensures)

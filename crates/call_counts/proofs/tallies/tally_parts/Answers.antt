@@ -13,4 +13,4 @@ overflow_add-sum c =
 pub loop-k-preserved : goal.loop-k-preserved
 loop-k-preserved c =
     tally_more _ c.loop-k.k _ _ _ c.loop-k.invariant c.weight_at-sum.ensures
-    (ap (λ x. code_at (get_or c.args.file.now (c.args.part.byte + get_or c.args.run.now.bytes c.loop-k.k 0) 0) (c.args.part.place + x)) c.from.ensures)
+    (ap (λ x. code_at (get_or c.args.file.now (c.args.part.byte + get_or c.args.parts.now.bytes c.loop-k.k 0) 0) (c.args.part.place + x)) c.from.ensures)

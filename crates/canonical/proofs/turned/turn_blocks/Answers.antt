@@ -1,61 +1,47 @@
-use Rattle.bed_write.proofs.RowLaws.{tile_done}
-use Rattle.std.proofs.Common.{rules}
-use mathlib.Core.Path.{sym, subst}
-use Prim.Native.Nat.{ℕ, ◌*◌, ◌<◌}
-use native.Mathlib.Omega.{arith}
-use Rattle.calls.proofs.PlaceLaws.{part_below}
+-- `turn_blocks`: tile by tile.
+use Rattle.std.proofs.Common.{arith, rules}
+use Rattle.bed_write.proofs.RowLaws.{byte_in, stored, tile_done, first_in}
 use Rattle.canonical.proofs.TurnLaws.{group_inside, turned_is}
-use Rattle.canonical.proofs.WholeLaws.{starts, place_there, animal_there, place_in, byte_written, whole_written}
+use Rattle.canonical.proofs.WholeLaws.{starts, whole_written}
 use Rattle.canonical.proofs.turned.turn_blocks.Goals as goal
-use Rattle.std.specs.Prelude.{List}
-use Rattle.calls.specs.declared.Shape.{Shape}
-use Rattle.canonical.specs.Private.{Begun}
 
 pub loop-from-init : goal.loop-from-init
-loop-from-init c = starts _ _ _ _ c.requires.0
-
--- the group of byte b
-animal_in : (file : List ℕ) (shape : Shape) (w : ℕ) (old : List ℕ) → Begun file shape w old → (b : ℕ) → b < w → 4 * b < shape.iids
-animal_in file shape w old g b h = animal_there file shape w g.width_is b h
+loop-from-init c = let a = c.args.accepted.now in starts a.file.now a.shape a.out_width a.width_is _ c.requires.0
 
 pub overflow_mul-first : goal.overflow_mul-first
-overflow_mul-first c = omega (arith, animal_in _ _ _ _ c.requires.0 c.loop-b.b c.loop-b-test.true)
-
-pub overflow_sub-left : goal.overflow_sub-left
-overflow_sub-left c = omega (arith, animal_in _ _ _ _ c.requires.0 c.loop-b.b c.loop-b-test.true)
+overflow_mul-first c = omega (arith, first_in _ _ _ c.args.accepted.now.width_is c.loop-b-test.true)
 
 pub four_starts-starts-requires : goal.four_starts-starts-requires
-four_starts-starts-requires c = omega (arith, animal_in _ _ _ _ c.requires.0 c.loop-b.b c.loop-b-test.true)
+four_starts-starts-requires c = omega (arith, c.args.accepted.now.iids_fit, first_in _ _ _ c.args.accepted.now.width_is c.loop-b-test.true)
+
+pub overflow_sub-group : goal.overflow_sub-group
+overflow_sub-group c = omega (arith, first_in _ _ _ c.args.accepted.now.width_is c.loop-b-test.true)
+
+pub invariant_of-group : goal.invariant_of-group
+invariant_of-group c =
+    let a = c.args.accepted.now in
+    record { inside = group_inside a.file.now a.shape a.shaped (omega arith) c.requires.1 c.loop-b.b c.loop-m.m (omega (arith, c.loop-m-test.true, c.loop-m.invariant.until_in)) _ c.four_starts-starts.ensures _ c.part_of.ensures }
 
 pub overflow_mul-out : goal.overflow_mul-out
-overflow_mul-out c = omega (arith, place_there _ _ _ c.requires.0.width_is c.args.out.now c.requires.0 c.loop-m.m c.loop-b.b (omega (arith, c.loop-m-test.true, c.loop-m.invariant.until_in)) c.loop-b-test.true)
+overflow_mul-out c = omega (arith, byte_in c.loop-m.invariant c.loop-m.m _ (omega (arith, c.loop-m-test.true, c.loop-m.invariant.until_in)) c.loop-b-test.true)
 
 pub overflow_add-out : goal.overflow_add-out
-overflow_add-out c = omega (arith, place_there _ _ _ c.requires.0.width_is c.args.out.now c.requires.0 c.loop-m.m c.loop-b.b (omega (arith, c.loop-m-test.true, c.loop-m.invariant.until_in)) c.loop-b-test.true)
+overflow_add-out c = omega (arith, byte_in c.loop-m.invariant c.loop-m.m _ (omega (arith, c.loop-m-test.true, c.loop-m.invariant.until_in)) c.loop-b-test.true)
 
 pub overflow_add-out-in-loop-m : goal.overflow_add-out-in-loop-m
-overflow_add-out-in-loop-m c = omega (arith, place_there _ _ _ c.requires.0.width_is c.args.out.now c.requires.0 c.loop-m.m c.loop-b.b (omega (arith, c.loop-m-test.true, c.loop-m.invariant.until_in)) c.loop-b-test.true)
-
-pub turned_byte-requires : goal.turned_byte-requires
-turned_byte-requires c =
-    let e = c.part_of-item.ensures in (
-      group_inside c.args.file.now c.args.shape c.requires.0.shaped (omega arith) c.requires.1 c.loop-b.b c.loop-m.m (omega (arith, c.loop-m-test.true, c.loop-m.invariant.until_in)) _ c.four_starts-starts.ensures _ e,
-      subst (λ (x : ℕ). x < 4) (sym e.place_is) (part_below _ _),
-    )
+overflow_add-out-in-loop-m c = omega (arith, byte_in c.loop-m.invariant c.loop-m.m _ (omega (arith, c.loop-m-test.true, c.loop-m.invariant.until_in)) c.loop-b-test.true)
 
 pub bounds-out-m : goal.bounds-out-m
-bounds-out-m c = place_in c.args.file.now c.args.shape _ c.requires.0.width_is _ _ _ c.loop-b.b c.loop-m.m c.loop-m.invariant (omega (arith, c.loop-m-test.true, c.loop-m.invariant.until_in)) c.loop-b-test.true
+bounds-out-m c = byte_in c.loop-m.invariant c.loop-m.m _ (omega (arith, c.loop-m-test.true, c.loop-m.invariant.until_in)) c.loop-b-test.true
 
 pub loop-m-preserved : goal.loop-m-preserved
 loop-m-preserved c =
-    byte_written c.args.file.now c.args.shape _ c.requires.0.width_is _ _ _ c.loop-b.b c.loop-m.m c.loop-m.invariant (omega (arith, c.loop-m-test.true, c.loop-m.invariant.until_in)) c.loop-b-test.true _
-    (turned_is c.args.file.now c.args.shape c.requires.0.shaped (omega arith) c.requires.1 c.loop-b.b c.loop-m.m (omega (arith, c.loop-m-test.true, c.loop-m.invariant.until_in)) _ c.four_starts-starts.ensures _
-    c.part_of-item.ensures _ c.turned_byte.ensures)
+    let a = c.args.accepted.now in
+    stored c.loop-m.invariant (omega (arith, c.loop-m-test.true, c.loop-m.invariant.until_in)) c.loop-b-test.true _
+    (turned_is a.file.now a.shape a.shaped (omega arith) c.requires.1 c.loop-b.b c.loop-m.m (omega (arith, c.loop-m-test.true, c.loop-m.invariant.until_in)) _ c.four_starts-starts.ensures _ c.part_of.ensures _ c.byte.ensures)
 
 pub returns : goal.returns
-returns c = whole_written c.args.file.now c.args.shape c.args.out_width c.requires.0.width_is _ _ _ _ _ c.loop-from.invariant c.loop-from-test.false
+returns c = whole_written c.args.accepted.now.file.now c.args.accepted.now.shape c.loop-from.invariant c.loop-from-test.false
 
 pub returns-2 : goal.returns-2
-returns-2 c =
-    whole_written c.args.file.now c.args.shape c.args.out_width c.requires.0.width_is _ _ _ _ _
-    (tile_done _ _ _ _ _ _ _ _ c.loop-b.invariant c.loop-b-test.false) (search rules)
+returns-2 c = whole_written c.args.accepted.now.file.now c.args.accepted.now.shape (tile_done c.loop-b.invariant c.loop-b-test.false) (search rules)

@@ -1,6 +1,5 @@
 -- The four codes of the group make the byte.
-use Rattle.bed_write.specs.Private.{by_tests}
-use Rattle.bed_write.proofs.PlaceLaws.{walk_inside, walk_good, matrix_byte}
+use Rattle.bed_write.proofs.PlaceLaws.{walk_inside, matrix_byte}
 use Rattle.bed_write.proofs.write.Writer.byte_at.Goals as goal
 
 pub invariant_of-group : goal.invariant_of-group
@@ -8,14 +7,13 @@ invariant_of-group g c =
     let s = c.args.self.now in
     let m = s.matrix in
     record {
-      inside = λ k h l.
-          walk_inside (by_tests g.T.BedVal.width (g.C.Coder.flag s.coder) (g.C.Coder.missing s.coder) m.val.now) m.animal_order m.iid_count m.sid_count c.args.m c.args.b _ _ c.requires.0 c.requires.1 c.animal_stride.ensures c.place.ensures _ m.is_full k h;
+      inside = λ j h l.
+          walk_inside g.T.BedVal.width (g.C.Coder.coding s.coder) m.animal_order m.iid_count m.sid_count m.val.now c.args.m c.args.b _ _ c.requires.0 c.requires.1 c.layout.ensures.0 c.place.ensures m.is_full j h;
     }
 
 pub returns : goal.returns
 returns g c =
     let s = c.args.self.now in
     let m = s.matrix in
-    matrix_byte (by_tests g.T.BedVal.width (g.C.Coder.flag s.coder) (g.C.Coder.missing s.coder) m.val.now) m.animal_order m.iid_count m.sid_count c.args.m c.args.b _ _ c.requires.0 c.requires.1 c.animal_stride.ensures c.place.ensures s.is_good.1 _ _ _ _
-    (c.codes.ensures (λ k h l. walk_good (by_tests g.T.BedVal.width (g.C.Coder.flag s.coder) (g.C.Coder.missing s.coder) m.val.now) m.animal_order m.iid_count m.sid_count c.args.m c.args.b _ _ c.requires.0 c.requires.1 c.animal_stride.ensures c.place.ensures s.is_good.1 k h))
-    _ c.byte_of.ensures
+    matrix_byte g.T.BedVal.width (g.C.Coder.coding s.coder) m.animal_order m.iid_count m.sid_count m.val.now c.args.m c.args.b _ _ c.requires.0 c.requires.1 c.layout.ensures.0 c.place.ensures
+    s.is_good _ _ _ _ c.codes.ensures _ c.byte_of.ensures

@@ -12,9 +12,6 @@ overflow_sub-result c = let way = on_the_way _ _ _ _ _ c.self.view_is c.self.inv
 pub overflow_sub-result-then-self : goal.overflow_sub-result-then-self
 overflow_sub-result-then-self c = let way = on_the_way _ _ _ _ _ c.self.view_is c.self.invariant.0 _ c.requires in omega arith
 
-pub overflow_cast-result : goal.overflow_cast-result
-overflow_cast-result c = let way = on_the_way _ _ _ _ _ c.self.view_is c.self.invariant.0 _ c.requires in omega arith
-
 pub overflow_add-result : goal.overflow_add-result
 overflow_add-result c = let way = on_the_way _ _ _ _ _ c.self.view_is c.self.invariant.0 _ c.requires in omega arith
 
