@@ -78,6 +78,7 @@ impl Item for SidIndex {
 pub struct BadEntry(pub i64);
 
 // The item that an entry means.
+#[tactic(auto, using(crate::proofs::EntryLaws::entry_good, crate::proofs::EntryLaws::entry_bad))]
 pub fn item_index<I: Item>(count: usize, entry: i64) -> Result<I, BadEntry>
     ensures { item_says I.number I.refusal result ≡ entry_answer I.refusal count entry }
 {
@@ -128,6 +129,7 @@ pub fn item_of<I: Item>(count: usize, entry: i64) -> I
 }
 
 // The first bad entry of a list.
+#[tactic(auto, using(crate::proofs::EntryLaws::bad_here, crate::proofs::EntryLaws::bad_later, crate::proofs::EntryLaws::bad_none))]
 pub fn first_bad(count: usize, list: &[i64]) -> Option<i64>
     ensures { result ≡ first_bad count list.now }
 {
@@ -141,6 +143,7 @@ pub fn first_bad(count: usize, list: &[i64]) -> Option<i64>
 
 // Whether the entries of a list mean 0, 1, 2 and so on. Not inlined, so that the loop has the registers for itself.
 #[inline(never)]
+#[tactic(auto, using(crate::proofs::EntryLaws::not_in_order, crate::proofs::EntryLaws::in_order_so_far, crate::proofs::EntryLaws::all_in_order))]
 pub fn is_in_order(count: usize, list: &[i64]) -> bool
     ensures { result ≡ in_order count list.now }
 {
