@@ -55,6 +55,7 @@ fn entry(number: u64, e: i64) -> BedAnswer
 }
 
 // A number that is not negative, as a signed one: the clauses' `clipped`, by the library's conversion. `one` and `two` cite it.
+#[tactic(auto, using(crate::proofs::AnswerLaws::clip_held))]
 fn clip(n: usize) -> i64
     ensures { result ≡ pos (clipped n) }
 {

@@ -5,7 +5,7 @@ ghost use Rattle.answer.specs.Matrix.{matrix_place};
 use codes::BedVal;
 use entries::{IidIndex, SidIndex};
 
-// How many markers are packed together where the values of a matrix or the blocks of a file stand animal by animal: each animal is read along, and 16 blocks are written.
+// How many markers are packed together where a matrix or a file goes animal by animal: 16 neighbouring values or codes of four animals are read, and a byte of each of 16 blocks is written.
 pub const TILE: usize = 16;
 
 // How values are gone through in one order.
@@ -14,7 +14,7 @@ pub(crate) struct Layout {
     // How far apart the values of two neighbouring animals stand, and those of two neighbouring markers.
     pub animal_stride: usize,
     pub marker_stride: usize,
-    // How many markers are packed together.
+    // How many markers are packed together: one in marker order.
     pub tile: usize,
 }
 

@@ -39,7 +39,7 @@ impl<'a> Across<'a> {
         self.codes.code_of_item(self.file[self.starts[k] + self.item.byte], self.item.place)
     }
 
-    // The same if there is a block k, else a pad.
+    // The same if there is a block k, else a pad. `Strided` of bed_write asks likewise: one function for both would be passed the code of k as a closure, and public functions ask nothing.
     fn held(&self, k: usize) -> u8
         requires { k < 4 }
         ensures { result ≡ in_group self.now.left (group_code self.now.file.now self.now.starts.now self.now.item) k }

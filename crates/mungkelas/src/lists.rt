@@ -11,12 +11,14 @@ ghost use Rattle.mungkelas.specs.Header.{BedIndex};
 use bed_answer::BedAnswer;
 use index::{Index, RangeAny, SliceInfo1};
 
+#[tactic(auto, using(bed_answer::proofs::AnswerLaws::as_fits, bed_answer::proofs::FitLaws::div_fits))]
 pub fn bed_try_div_4(in_iid_count: usize, in_sid_count: usize) -> BedAnswer
     ensures { result ≡ bed_answer (div_answer in_iid_count in_sid_count) }
 {
     BedAnswer::from(blocks::try_div_4(in_iid_count, in_sid_count))
 }
 
+#[tactic(auto, using(bed_answer::proofs::AnswerLaws::as_fits, bed_answer::proofs::FitLaws::span_fits))]
 pub fn bed_byte_span(count: usize, index: &[i64]) -> BedAnswer
     ensures { result ≡ bed_answer (span_answer count index.now) }
 {
@@ -43,6 +45,7 @@ fn slice_of(start: i64, has_end: bool, end: i64, step: i64) -> SliceInfo1
     }
 }
 
+#[tactic(auto, using(bed_answer::proofs::AnswerLaws::as_fits, bed_answer::proofs::FitLaws::range_fits))]
 pub fn bed_to_range(
     count: usize,
     has_start: bool,
@@ -56,6 +59,7 @@ pub fn bed_to_range(
 }
 
 // The list that an index chooses.
+#[tactic(auto, using(bed_answer::proofs::AnswerLaws::as_fits, bed_answer::proofs::FitLaws::list_fits))]
 fn list_of(index: Index, count: usize, list: &mut [i64]) -> BedAnswer
     ensures { BedIndex index.entry count result list.old list.new }
 {

@@ -6,6 +6,7 @@ ghost use Rattle.mungkelas.specs.Header.{BedStandardise};
 
 use bed_answer::BedAnswer;
 
+#[tactic(auto, using(bed_answer::proofs::AnswerLaws::as_fits, bed_answer::proofs::FitLaws::standardise_fits))]
 pub fn bed_impute_and_zero_mean_snps_f64(
     val: &mut [f64],
     iid_count: usize,

@@ -62,6 +62,7 @@ pub fn bed_canonical(file: &[u8], iid_count: usize, sid_count: usize, out: &mut 
     BedAnswer::from(canonical::canonical(file, iid_count, sid_count, out))
 }
 
+#[tactic(auto, using(bed_answer::proofs::AnswerLaws::as_fits, bed_answer::proofs::FitLaws::joined_fits))]
 pub fn bed_read_standardised_f64(
     file: &[u8],
     iid_count: usize,

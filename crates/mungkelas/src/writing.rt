@@ -4,6 +4,7 @@ ghost use Rattle.mungkelas.specs.Header.{BedEncode1, BedWrite};
 use bed_answer::BedAnswer;
 use bed_write::{EncodeVal, WriteVal};
 
+#[tactic(auto, using(bed_answer::proofs::AnswerLaws::as_fits, bed_answer::proofs::FitLaws::encode_fits))]
 pub fn bed_encode1<T: EncodeVal>(
     in_vector: &[T],
     out_vector: &mut [u8],
@@ -15,6 +16,7 @@ pub fn bed_encode1<T: EncodeVal>(
     BedAnswer::from(bed_write::encode1(in_vector, out_vector, is_a1_counted, missing))
 }
 
+#[tactic(auto, using(bed_answer::proofs::AnswerLaws::as_fits, bed_answer::proofs::FitLaws::write_fits))]
 pub fn bed_write<T: WriteVal>(
     val: &[T],
     iid_count: usize,

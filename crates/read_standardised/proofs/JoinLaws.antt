@@ -4,15 +4,15 @@ use mathlib.Core.Bool.{Bool, true, false}
 use mathlib.Core.List.{List, [], ◌∷◌}
 use Prim.Native.Nat.{ℕ, ◌*◌, ◌<◌, ◌≤◌}
 use native.Mathlib.Omega.{arith}
-use borrow.Author.Tests.{eq-eqb}
+use borrow.Author.Tests.{eq-eqb, le-leb}
 use lib.Dec.{eqb}
 use lib.IntN.{ℤ}
 use lib.ListN.{length}
 use lib.Ieee.{Float, nan, Format}
-use Rattle.answer.specs.Answer.{Answer, done, refused, check, check_count, count_limit, is_done, if_done}
+use Rattle.answer.specs.Answer.{Answer, done, refused, check, check_count, count_limit, counts_fit, is_done, if_done}
 use Rattle.codes.specs.Value.{float}
 use Rattle.answer.proofs.Tests.{by_test}
-use Rattle.answer.proofs.AnswerLaws.{check_passes, check_refuses, count_passes, count_refuses, check_other, count_other, check_stage, count_stage, then_stage, Stage, lets, refuses, heard, new_if_done, old_if_not}
+use Rattle.answer.proofs.AnswerLaws.{check_passes, check_refuses, count_passes, both_fit, counts_refuse, check_other, count_other, check_stage, count_stage, then_stage, Stage, lets, refuses, heard, new_if_done, old_if_not}
 use Rattle.bed_file.specs.File.{check_file, accept_answer}
 use Rattle.bed_read.specs.Reading.{check_lists, read_answer, read_buffer}
 use Rattle.bed_file.proofs.FileLaws.{accepted, file_other, file_stage}
@@ -44,28 +44,26 @@ module _ (file : List ℕ) (iids sids : ℕ) (il sl : List ℤ) (val_length stat
       then_stage (then_stage (count_stage iids) (then_stage (count_stage sids) (check_stage (eqb (length il * length sl) val_length) 15)))
       (then_stage (file_stage file iids sids) (lists_stage iids sids il sl))
 
-  pub iids_too_large : count_limit < iids → (later : Answer) → joined_checks file iids sids il sl val_length stats_length later ≡ refused 18 []
+  pub counts_too_large : counts_fit iids sids ≡ false → (later : Answer) → joined_checks file iids sids il sl val_length stats_length later ≡ refused 18 []
   unfolding joined_checks
-  iids_too_large h later = count_refuses iids _ h
+  counts_too_large e later = counts_refuse iids sids _ e
 
-  module _ (hi : iids ≤ count_limit) where
-    pub sids_too_large : count_limit < sids → (later : Answer) → joined_checks file iids sids il sl val_length stats_length later ≡ refused 18 []
+  module _ (fits : counts_fit iids sids ≡ true) where
+    fit : (iids ≤ count_limit) × (sids ≤ count_limit)
+    fit = both_fit iids sids fits
+
+    pub values_mismatch :
+        eqb (length il * length sl) val_length ≡ false → (later : Answer) → joined_checks file iids sids il sl val_length stats_length later ≡ refused 15 []
     unfolding joined_checks
-    sids_too_large h later = count_passes iids _ hi ∙ count_refuses sids _ h
+    values_mismatch e later = count_passes iids _ fit.0 ∙ count_passes sids _ fit.1 ∙ check_refuses (eqb (length il * length sl) val_length) 15 _ e
 
-    module _ (hs : sids ≤ count_limit) where
-      pub values_mismatch :
-          eqb (length il * length sl) val_length ≡ false → (later : Answer) → joined_checks file iids sids il sl val_length stats_length later ≡ refused 15 []
-      unfolding joined_checks
-      values_mismatch e later = count_passes iids _ hi ∙ count_passes sids _ hs ∙ check_refuses (eqb (length il * length sl) val_length) 15 _ e
-
-      pub stats_mismatch :
-          eqb (length il * length sl) val_length ≡ true → eqb (stats_per_marker * length sl) stats_length ≡ false
-          → (later : Answer) → joined_checks file iids sids il sl val_length stats_length later ≡ refused 17 []
-      unfolding joined_checks
-      stats_mismatch e g later =
-          count_passes iids _ hi ∙ count_passes sids _ hs ∙ check_passes (eqb (length il * length sl) val_length) 15 _ e
-          ∙ check_refuses (eqb (stats_per_marker * length sl) stats_length) 17 _ g
+    pub stats_mismatch :
+        eqb (length il * length sl) val_length ≡ true → eqb (stats_per_marker * length sl) stats_length ≡ false
+        → (later : Answer) → joined_checks file iids sids il sl val_length stats_length later ≡ refused 17 []
+    unfolding joined_checks
+    stats_mismatch e g later =
+        count_passes iids _ fit.0 ∙ count_passes sids _ fit.1 ∙ check_passes (eqb (length il * length sl) val_length) 15 _ e
+        ∙ check_refuses (eqb (stats_per_marker * length sl) stats_length) 17 _ g
 
   -- of an accepted file 15, 17 and the lists are left
   pub joined_accepted :
@@ -157,7 +155,7 @@ module _ (f : Format) (file : List ℕ) (iids sids : ℕ) (flag : Bool) (il sl :
       standardiser_hears : (later : Answer) → buffer_checks (length il) (length sl) read stats later ≡ later
       unfolding read_nan
       standardiser_hears later =
-          checks_pass (length il) (length sl) read stats later hi hs
+          checks_pass (length il) (length sl) read stats later (simp (le-leb (length il) count_limit hi, le-leb (length sl) count_limit hs))
           (eq-eqb (length il * length sl) (length read) (sym (ap length (as_read_is d) ∙ read_length float flag nan order file iids sids il sl (length il) (length sl) refl refl))) e
 
       -- the standardiser of what was read leaves what the joined call does

@@ -27,10 +27,7 @@ pub fn read_standardised_f64(
     ensures { Joins binary64 file.now iid_count sid_count is_a1_counted iid_index.now sid_index.now
         animal_order val.old stats.old (joined_says result) val.new stats.new }
 {
-    if iid_count > answer::COUNT_LIMIT {
-        return Err(JoinedError::File(FileError::CountTooLarge));
-    }
-    if sid_count > answer::COUNT_LIMIT {
+    if !answer::counts_fit(iid_count, sid_count) {
         return Err(JoinedError::File(FileError::CountTooLarge));
     }
     if !blocks::product_is(iid_index.len(), sid_index.len(), val.len()) {

@@ -22,6 +22,10 @@ use Rattle.statistics.specs.declared.MarkerError.TheVariants.{NoIndividuals, Ill
 use Rattle.statistics.specs.Statistics.{lent, found_with, stats_per_marker, stats_at, in_places, found_for, standardised}
 use Rattle.standardise.specs.Standardised.{marker_answer, markers_answer, buffer_checks, lent_or_new, kept_or_new, applied, value, found, lowest_refused, standardise_answer, new_stats, may_change, new_values, later_stats, later_values, Standardises}
 use Rattle.standardise.specs.Private.{all_applied, Processes, FindsStats}
+use Rattle.standardise.specs.Says.{standardise_says}
+use Rattle.standardise.specs.declared.answers.StandardiseError.{StandardiseError}
+use Rattle.standardise.specs.declared.answers.StandardiseError.TheVariants as errors
+use Rattle.std.specs.Result.{is_ok}
 use Rattle.statistics.proofs.CountLaws.{found_not_lent}
 use Rattle.standardise.proofs.CellLaws.{own_cells}
 
@@ -95,19 +99,13 @@ module _ (f : Format) (order : Bool) (iids sids : ℕ) (val : List Float) (use_s
   )
 
 -- ---- applied or not
-module _ (apply t : Bool) (new old : List Float) where
-  pub choice_off : apply ≡ false → old ≡ cond (apply && t) new old
-  choice_off e = simp e
-
-  pub choice_on : (r : Bool) → apply ≡ true → r ≡ t → r ≡ true → new ≡ cond (apply && t) new old
-  choice_on r e g h = sym (ap (λ (b : Bool). cond (b && t) new old) e ∙ ap (λ (b : Bool). cond b new old) (sym g ∙ h))
-
-  pub choice_refused : (r : Bool) → r ≡ t → r ≡ false → old ≡ cond (apply && t) new old
-  choice_refused r g h = sym (ap (λ (b : Bool). cond (apply && b) new old) (sym g ∙ h) ∙ both apply)
-    where
-      both : (b : Bool) → cond (b && false) new old ≡ old
-      both true = refl
-      both false = refl
+pub done_by : (r : Result (Unit {0}) StandardiseError) → is_ok r ≡ is_done (standardise_says r)
+done_by (Ok t) = refl
+done_by (Err errors.CountTooLarge) = refl
+done_by (Err errors.IndexMismatch) = refl
+done_by (Err errors.StatsMismatch) = refl
+done_by (Err (errors.NoIndividuals m)) = refl
+done_by (Err (errors.IllegalSnpMean m)) = refl
 
 -- ---- without a refusal every marker's statistics are found
 pub done_found : (found : ℕ → Result MarkerStats MarkerError) (n m : ℕ) → is_done (markers_answer found n) ≡ true → m < n → is_done (marker_answer m (found m)) ≡ true

@@ -158,7 +158,7 @@ impl Scales {
 }
 
 // The statistics of all markers in animal order.
-// `BuffersFit` is required here and in six functions more. In a struct that holds both buffers it can be a ghost field (tried, it proves),
+// `BuffersFit` is required here and in four functions more. In a struct that holds both buffers it can be a ghost field (tried, it proves),
 // but each method would borrow both to write, and its contract would say in place of this line which buffer and that the counts stay.
 fn all_stats(
     val: &[f64],
@@ -221,45 +221,6 @@ fn apply_all(val: &mut [f64], iid_count: usize, sid_count: usize, stats: &[f64])
     }
 }
 
-// The statistics in animal order, unless they are lent.
-fn stats_by_rows(
-    val: &[f64],
-    iid_count: usize,
-    sid_count: usize,
-    use_stats: bool,
-    stats: &mut [f64],
-) -> Result<(), StandardiseError>
-    requires { BuffersFit iid_count sid_count val.now stats.old }
-    ensures { FindsStats binary64 true iid_count sid_count val.now use_stats stats.old
-        (standardise_says result) stats.new }
-{
-    if use_stats {
-        return Ok(());
-    }
-    all_stats(val, iid_count, sid_count, stats)
-}
-
-// Applying in animal order, if values are to be changed and no marker is refused.
-fn apply_by_rows(
-    val: &mut [f64],
-    iid_count: usize,
-    sid_count: usize,
-    apply_in_place: bool,
-    answer: Result<(), StandardiseError>,
-    stats: &[f64],
-)
-    requires { BuffersFit iid_count sid_count val.old stats.now }
-    ensures { val.new ≡ cond (apply_in_place && is_done (standardise_says answer))
-        (all_applied binary64 iid_count sid_count stats.now val.old) val.old }
-{
-    if !apply_in_place {
-        return;
-    }
-    if answer.is_ok() {
-        apply_all(val, iid_count, sid_count, stats);
-    }
-}
-
 // Animal order: the statistics of all markers, then the values, each pass along the rows.
 pub(crate) fn process_all_iids(
     val: &mut [f64],
@@ -273,7 +234,13 @@ pub(crate) fn process_all_iids(
     ensures { Processes binary64 true iid_count sid_count val.old use_stats stats.old apply_in_place
         (standardise_says result) val.new stats.new }
 {
-    let answer = stats_by_rows(val, iid_count, sid_count, use_stats, stats);
-    apply_by_rows(val, iid_count, sid_count, apply_in_place, answer, stats);
+    let answer = if use_stats {
+        Ok(())
+    } else {
+        all_stats(val, iid_count, sid_count, stats)
+    };
+    if apply_in_place && answer.is_ok() {
+        apply_all(val, iid_count, sid_count, stats);
+    }
     answer
 }

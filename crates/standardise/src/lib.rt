@@ -36,7 +36,8 @@ pub fn impute_and_zero_mean_snps_f64(
     if !blocks::product_is(STATS_PER_MARKER, sid_count, stats.len()) {
         return Err(StandardiseError::StatsMismatch);
     }
-    // Both orders take the call's own parameters: in a struct, each contract would name its fields in place of them, and be no plainer.
+    // Both orders take the call's own parameters: in a struct, each contract would name its fields in place of them, and be no plainer. The
+    // two flags are the original's, and each is read in one place of each order.
     if animal_order {
         return animal_order::process_all_iids(
             val,

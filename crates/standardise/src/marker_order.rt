@@ -63,38 +63,7 @@ fn apply_column(column: &mut [f64], s: Stats)
     }
 }
 
-// What there is for marker m: its lent statistics, or those of its values.
-fn marker_stats(
-    column: &[f64],
-    m: usize,
-    use_stats: bool,
-    stats: &[f64],
-) -> Result<MarkerStats, MarkerError>
-    requires { StatsIn stats.now m }
-    ensures { result ≡ found_for binary64 use_stats (stats_at stats.now m) (length column.now) (nth column.now) }
-{
-    if use_stats {
-        return Ok(MarkerStats {
-            stats: stats_buffer::get_stats(stats, m),
-            observed: None,
-        });
-    }
-    column_stats(column)
-}
-
-// Standardises a marker's values, if they are to be changed and the marker is not refused.
-fn apply_found(column: &mut [f64], found: Result<MarkerStats, MarkerError>, apply_in_place: bool)
-    ensures { column.new ≡ map (later_value binary64 apply_in_place found) column.old }
-{
-    if !apply_in_place {
-        return;
-    }
-    if let Ok(found) = found {
-        apply_column(column, found.stats);
-    }
-}
-
-// Marker m, whose values are the column.
+// Marker m, whose values are the column: its statistics, lent or found, then its values.
 fn process_sid(
     column: &mut [f64],
     m: usize,
@@ -107,9 +76,20 @@ fn process_sid(
         × (column.new ≡ map (later_value binary64 apply_in_place result) column.old)
         × (stats.new ≡ stored_stats result m stats.old) }
 {
-    let found = marker_stats(column, m, use_stats, stats);
+    let found = if use_stats {
+        Ok(MarkerStats {
+            stats: stats_buffer::get_stats(stats, m),
+            observed: None,
+        })
+    } else {
+        column_stats(column)
+    };
     stats_buffer::put_found(stats, m, found);
-    apply_found(column, found, apply_in_place);
+    if apply_in_place {
+        if let Ok(found) = found {
+            apply_column(column, found.stats);
+        }
+    }
     found
 }
 

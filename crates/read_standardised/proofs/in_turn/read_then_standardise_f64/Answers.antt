@@ -6,8 +6,4 @@ use Rattle.read_standardised.proofs.in_turn.read_then_standardise_f64.Goals as g
 
 pub returns : goal.returns
 unfolding of_bits div
-returns c =
-    let s = c in
-    in_turn_left binary64 s.args.file.now s.args.iid_count s.args.sid_count s.args.is_a1_counted s.args.iid_index.now s.args.sid_index.now s.args.animal_order s.args.val.now s.args.stats.now
-    s.args.use_stats s.args.apply_in_place _ _ _ refl c.read_no_alloc-reading.ensures
-    _ _ _ c.impute_and_zero_mean_snps_f64-standardising.ensures
+returns c = in_turn_left binary64 _ _ _ _ _ _ _ _ _ _ _ _ _ _ refl c.read_no_alloc-reading.ensures _ _ _ c.impute_and_zero_mean_snps_f64-standardising.ensures
