@@ -1,5 +1,5 @@
 -- `apply_row`: a value more.
-use Rattle.std.proofs.Common.{◌+◌, refl, ap, ◌∙◌}
+use Rattle.std.proofs.Common.{refl, ap, ◌∙◌}
 use lib.Ieee.{nan, binary64}
 use lib.ListN.{get_or}
 use Rattle.statistics.specs.declared.Scale.{Scale}
