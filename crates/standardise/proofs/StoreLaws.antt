@@ -1,16 +1,18 @@
 -- Rows of stores.
 use mathlib.Core.Path.{◌≡◌, refl, sym, ap, ◌∙◌}
-use mathlib.Core.List.{List}
-use Prim.Native.Nat.{ℕ, zero, suc, ◌+◌, ◌<◌}
+use mathlib.Core.List.{List, ◌++◌}
+use Prim.Native.Nat.{ℕ, zero, suc, ◌+◌, ◌-◌, ◌<◌, ◌≤◌}
 use native.Mathlib.Numerals.{add-one}
 use native.Mathlib.Omega.{arith}
 use lib.Dec.{eqb}
-use lib.ListN.{length, get_or, set, length-set}
-use lib.Seq.{get_or-set_same, get_or-set_other, set-get_or}
+use lib.ListN.{length, get_or, set, take, drop, length-set, take-append-drop, length-drop}
+use lib.Seq.{length-take-le, get_or-take, get_or-drop, get_or-set_same, get_or-set_other, set-get_or}
 use lib.Ieee.{Float, nan}
+use borrow.Rule.Slice.PartMut.{put_mid}
+use Rattle.std.proofs.lemmas.List.{set-append_left, set-append_right}
 use borrow.Author.Tests.{eqb-true, eqb-false}
 use Rattle.answer.proofs.Tests.{by_test}
-use Rattle.standardise.specs.Private.{written, from}
+use Rattle.standardise.specs.Private.{written, nth, from}
 
 module _ (xs : List Float) (place : ℕ → ℕ) where
   pub length_written : (v : ℕ → Float) (k : ℕ) → length (written xs place v k) ≡ length xs
@@ -73,11 +75,40 @@ module _ (xs : List Float) (place : ℕ → ℕ) where
   written_same zero = refl
   written_same (suc k) = ap (λ (l : List Float). set l (place k) (get_or xs (place k) nan)) (written_same k) ∙ set-get_or xs (place k) nan
 
--- values from a place on, changed one by one
-pub row_changed_more : (xs : List Float) (start : ℕ) (change : ℕ → Float → Float) (n : ℕ) (ys : List Float) (w : Float)
-    → ys ≡ written xs (λ i. start + i) (λ i. change i (from xs start i)) n → w ≡ change n (get_or ys (start + n) nan)
-    → set ys (start + n) w ≡ written xs (λ i. start + i) (λ i. change i (from xs start i)) (n + 1)
-row_changed_more xs start change n ys w e g =
-    written_more xs (λ i. start + i) (λ i. change i (from xs start i)) n ys w e
-    (g ∙ ap (λ (l : List Float). change n (get_or l (start + n) nan)) e
-    ∙ ap (change n) (unwritten xs (λ i. start + i) (λ i. change i (from xs start i)) n (start + n) (λ j h p. let q : start + j ≡ start + n = p in omega arith)))
+-- values changed one by one
+pub row_changed_more : (xs : List Float) (change : ℕ → Float → Float) (n : ℕ) (ys : List Float) (w : Float)
+    → ys ≡ written xs (λ i. i) (λ i. change i (nth xs i)) n → w ≡ change n (get_or ys n nan)
+    → set ys n w ≡ written xs (λ i. i) (λ i. change i (nth xs i)) (n + 1)
+row_changed_more xs change n ys w e g =
+    written_more xs (λ i. i) (λ i. change i (nth xs i)) n ys w e
+    (g ∙ ap (λ (l : List Float). change n (get_or l n nan)) e
+    ∙ ap (change n) (unwritten xs (λ i. i) (λ i. change i (nth xs i)) n n (λ j h p. let q : j ≡ n = p in omega arith)))
+
+-- a part of a list, when it is put back
+module _ (xs : List Float) (a k : ℕ) (h : a + k ≤ length xs) where
+  abbrev part : List Float
+  part = take k (drop a xs)
+
+  part_long : length part ≡ k
+  part_long = length-take-le k (drop a xs) (let d = length-drop a xs in omega (arith, d))
+
+  put_written : (v : ℕ → Float) (n : ℕ) → n ≤ k → put_mid a k xs (written part (λ j. j) v n) ≡ written xs (λ j. a + j) v n
+  unfolding written
+  put_written v zero b = ap (λ (l : List Float). take a xs ++ l) (take-append-drop k (drop a xs)) ∙ take-append-drop a xs
+  put_written v (suc n) b =
+      let ys = written part (λ j. j) v n in
+      let s : n < length ys = (let l = length_written part (λ j. j) v n in omega (arith, part_long)) in
+      let back : a + n - a ≡ n = omega arith in
+      sym (ap (λ (l : List Float). set l (a + n) (v n)) (sym (put_written v n (omega arith)))
+      ∙ set-append_right (take a xs) (ys ++ drop k (drop a xs)) a (a + n) (v n) (length-take-le a xs (omega arith)) (omega arith)
+      ∙ ap (λ (j : ℕ). take a xs ++ set (ys ++ drop k (drop a xs)) j (v n)) back
+      ∙ ap (λ (l : List Float). take a xs ++ l) (set-append_left ys (drop k (drop a xs)) n (v n) s))
+
+  pub row_put : (n : ℕ) (change : ℕ → Float → Float) (ys : List Float) → k ≡ n
+      → ys ≡ written (take k (drop a xs)) (λ j. j) (λ j. change j (nth (take k (drop a xs)) j)) (length (take k (drop a xs)))
+      → put_mid a k xs ys ≡ written xs (λ j. a + j) (λ j. change j (from xs a j)) n
+  row_put n change ys e y =
+      ap (put_mid a k xs) (y ∙ ap (written part (λ j. j) (λ j. change j (nth part j))) part_long)
+      ∙ put_written (λ j. change j (nth part j)) k (omega arith)
+      ∙ written_ext xs (λ j. a + j) (λ j. change j (nth part j)) (λ j. change j (from xs a j)) k (λ j b. ap (change j) (get_or-take k (drop a xs) j nan b ∙ get_or-drop a xs j nan))
+      ∙ ap (written xs (λ j. a + j) (λ j. change j (from xs a j))) e

@@ -5,7 +5,7 @@ ghost use Rattle.answer.specs.Answer.{is_done};
 ghost use Rattle.statistics.specs.Statistics.{start, accumulated, stats_per_marker, stats_at};
 ghost use Rattle.standardise.specs.Standardised.{value};
 ghost use Rattle.standardise.specs.Says.{standardise_says};
-ghost use Rattle.standardise.specs.Private.{BuffersFit, from, written, Processes, FindsStats, counted_rows, accumulator_at};
+ghost use Rattle.standardise.specs.Private.{BuffersFit, nth, written, Processes, FindsStats, counted_rows, accumulator_at};
 ghost use Rattle.standardise.specs.Private.{tile_width, accumulators_set, AreLong, TileStep, scale_at, scale_of, scaled_at, markers_applied, all_applied};
 
 use crate::answers::StandardiseError;
@@ -144,15 +144,13 @@ impl Scales {
         }
     }
 
-    // Standardises `width` neighbouring values of one animal, from `start` on, each by its marker's statistics.
-    fn apply_row(&self, val: &mut [f64], start: usize, width: usize)
-        requires { (start + width ≤ length val.old) × (width ≤ tile_width) }
-        ensures { val.new ≡ written val.old (λ j. start + j) (λ j. scaled_at binary64 self.now j (from val.old start j)) width }
+    // Standardises neighbouring values of one animal, each by its marker's statistics.
+    fn apply_row(&self, row: &mut [f64])
+        requires { length row.old ≤ tile_width }
+        ensures { row.new ≡ written row.old (λ j. j) (λ j. scaled_at binary64 self.now j (nth row.old j)) (length row.old) }
     {
-        for j in 0..width {
-            let at = start + j;
-            let v = val[at];
-            val[at] = self.at(j).scaled(v);
+        for j in 0..row.len() {
+            row[j] = self.at(j).scaled(row[j]);
         }
     }
 }
@@ -200,7 +198,8 @@ fn apply_tile(
     let mut tile = Scales::new();
     tile.load(stats, base, width);
     for i in 0..iid_count {
-        tile.apply_row(val, i * sid_count + base, width);
+        let start = i * sid_count + base;
+        tile.apply_row(&mut val[start..start + width]);
     }
 }
 

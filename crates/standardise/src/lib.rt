@@ -15,6 +15,7 @@ pub use stats_buffer::STATS_PER_MARKER;
 
 // Makes the markers of a matrix zero-mean with unit deviation and puts +0 for missing values. The statistics buffer has the mean, the
 // deviation and the observed count of each marker; with `use_stats` the first two are lent, else all three are found.
+#[tactic(auto, using(std::proofs::lemmas::Bool::Decides::nat_tests))]
 pub fn impute_and_zero_mean_snps_f64(
     val: &mut [f64],
     iid_count: usize,

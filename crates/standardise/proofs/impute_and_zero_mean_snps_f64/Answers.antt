@@ -2,7 +2,6 @@
 use mathlib.Core.Path.{◌≡◌, sym, ◌∙◌}
 use mathlib.Core.Bool.{true, false}
 use lib.Ieee.{binary64}
-use borrow.Author.Tests.{eqb-true}
 use Rattle.answer.specs.Answer.{Answer}
 use Rattle.standardise.specs.Standardised.{buffer_checks}
 use Rattle.standardise.proofs.CallLaws.{counts_too_large, values_mismatch, stats_mismatch, checks_pass, call_refused, call_made}
@@ -26,16 +25,8 @@ passed : (c : Else-not-product_is-2) (later : Answer) → let a = c.args in buff
 passed c later =
     checks_pass _ _ _ _ later (sym c.counts_fit.ensures ∙ c.if-not-counts_fit.false) (sym c.product_is.ensures ∙ c.if-not-product_is.false) (sym c.product_is-2.ensures ∙ c.if-not-product_is-2.false)
 
-pub process_all_iids-requires : goal.process_all_iids-requires
-process_all_iids-requires c =
-    (eqb-true _ _ (sym c.product_is.ensures ∙ c.if-not-product_is.false), eqb-true _ _ (sym c.product_is-2.ensures ∙ c.if-not-product_is-2.false))
-
 pub returns-then-animal_order : goal.returns-then-animal_order
 returns-then-animal_order c = call_made binary64 _ _ _ _ _ _ _ (passed (goal.at.returns-then-animal_order c).Else-not-product_is-2) true c.if-animal_order.true _ _ _ c.process_all_iids.ensures
-
-pub process_all_sids-requires : goal.process_all_sids-requires
-process_all_sids-requires c =
-    (eqb-true _ _ (sym c.product_is.ensures ∙ c.if-not-product_is.false), eqb-true _ _ (sym c.product_is-2.ensures ∙ c.if-not-product_is-2.false))
 
 pub returns : goal.returns
 returns c = call_made binary64 _ _ _ _ _ _ _ (passed (goal.at.returns c).Else-not-product_is-2) false c.if-animal_order.false _ _ _ c.process_all_sids.ensures

@@ -1,5 +1,5 @@
 -- `apply_row`: a value more.
-use Rattle.std.proofs.Common.{◌+◌, refl, ap, ◌∙◌}
+use Rattle.std.proofs.Common.{refl, ap, ◌∙◌}
 use lib.Ieee.{nan, binary64}
 use lib.ListN.{get_or}
 use Rattle.statistics.specs.declared.Scale.{Scale}
@@ -15,5 +15,5 @@ loop-j-init c = refl
 pub loop-j-preserved : goal.loop-j-preserved
 unfolding scaled_at
 loop-j-preserved c =
-    row_changed_more c.args.val.now c.args.start (scaled_at binary64 c.args.self.now) c.loop-j.j c.loop-j.val _ c.loop-j.invariant
-    (c.scaled.ensures ∙ ap (λ (s : Scale). scaled_by binary64 s.mean s.factor s.infinite (get_or c.loop-j.val (c.args.start + c.loop-j.j) nan)) c.at.ensures)
+    row_changed_more c.args.row.now (scaled_at binary64 c.args.self.now) c.loop-j.j c.loop-j.row _ c.loop-j.invariant
+    (c.scaled.ensures ∙ ap (λ (s : Scale). scaled_by binary64 s.mean s.factor s.infinite (get_or c.loop-j.row c.loop-j.j nan)) c.at.ensures)
