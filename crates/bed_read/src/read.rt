@@ -204,6 +204,7 @@ fn read_tile<T: BedVal, O: Item, I: Item>(
 }
 
 // The whole matrix: block by block in file order, else tile by tile.
+#[tactic(auto, using(crate::proofs::MatrixLaws::read_all))]
 fn read_matrix<T: BedVal, O: Item, I: Item>(lines: &Lines<O, I>, values: Values<T>, val: &mut [T])
     requires { length lines.now.outer.now * length lines.now.inner.now ≡ length val.old }
     ensures { val.new ≡ map (value_in values.entry.table.now T.width.zero)
@@ -227,6 +228,7 @@ fn read_matrix<T: BedVal, O: Item, I: Item>(lines: &Lines<O, I>, values: Values<
 }
 
 // Reads the calls of a list of animals at a list of markers into a matrix in the order asked.
+#[tactic(auto, using(crate::proofs::BufferLaws::table_made))]
 pub fn read_no_alloc<T: ReadVal>(
     file: &[u8],
     iid_count: usize,

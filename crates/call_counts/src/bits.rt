@@ -24,6 +24,7 @@ impl BitCounts {
     }
 
     // The tally of n codes of which so many have each bit.
+    #[tactic(auto, using(crate::proofs::BitLaws::tally_is))]
     fn tally_of(self, n: u64) -> u64
         requires { Ordered n self × (n < 65536) }
         ensures { TallyOf n self result }
@@ -36,6 +37,7 @@ impl BitCounts {
 }
 
 // The sum of the four codes of a byte.
+#[tactic(auto, using(crate::proofs::BitLaws::codes_sum))]
 fn sum_of_codes(byte: u8) -> u8
     ensures { result ≡ in_byte (λ code. code) byte }
 {
@@ -44,6 +46,7 @@ fn sum_of_codes(byte: u8) -> u8
 }
 
 // How many codes of three bytes have the low bit.
+#[tactic(auto, using(crate::proofs::BitLaws::three_low, crate::proofs::BitLaws::three_most))]
 fn low_bits(x: u8, y: u8, z: u8) -> u8
     ensures { result ≡ in_byte low_bit x + in_byte low_bit y + in_byte low_bit z }
 {
@@ -51,6 +54,7 @@ fn low_bits(x: u8, y: u8, z: u8) -> u8
 }
 
 // The high bit.
+#[tactic(auto, using(crate::proofs::BitLaws::high_low))]
 fn high_bits(x: u8, y: u8, z: u8) -> u8
     ensures { result ≡ in_byte high_bit x + in_byte high_bit y + in_byte high_bit z }
 {
@@ -58,6 +62,7 @@ fn high_bits(x: u8, y: u8, z: u8) -> u8
 }
 
 // Both.
+#[tactic(auto, using(crate::proofs::BitLaws::both_low))]
 fn both_bits(x: u8, y: u8, z: u8) -> u8
     ensures { result ≡ in_byte both_bits x + in_byte both_bits y + in_byte both_bits z }
 {
@@ -65,6 +70,7 @@ fn both_bits(x: u8, y: u8, z: u8) -> u8
 }
 
 // The bits of a row of 16 bytes, which is one vector.
+#[tactic(auto, using(crate::proofs::BitLaws::is_low, crate::proofs::BitLaws::is_high, crate::proofs::BitLaws::is_both, crate::proofs::BitLaws::row_none, crate::proofs::BitLaws::row_more_law, crate::proofs::BitLaws::row_room))]
 fn count_row(file: &[u8], at: usize) -> BitCounts
     requires { at + 16 ≤ length file.now }
     ensures { BitsCounted file.now at 64 result }
@@ -86,6 +92,7 @@ fn count_row(file: &[u8], at: usize) -> BitCounts
 }
 
 // The bits of three rows together: no sum passes a byte.
+#[tactic(auto, using(crate::proofs::BitLaws::is_low, crate::proofs::BitLaws::is_high, crate::proofs::BitLaws::is_both, crate::proofs::BitLaws::rows_none, crate::proofs::BitLaws::rows_room))]
 fn count_three_rows(file: &[u8], at: usize) -> BitCounts
     requires { at + 48 ≤ length file.now }
     ensures { BitsCounted file.now at 192 result }

@@ -264,6 +264,7 @@ const TALLIES: [u64; 256] = [
 ];
 
 // The weights of the four codes.
+#[tactic(auto, unfolding(crate::specs::Private::weight))]
 fn weights() -> [u64; 4]
     ensures { result ≡ code_weights }
 {
@@ -288,6 +289,7 @@ impl TallyTable {
     }
 
     // The tally of the four codes of a byte.
+    #[tactic(auto, using(crate::proofs::BlockLaws::byte_there))]
     pub(crate) fn tally_of_byte(&self, byte: u8) -> u64
         ensures { result ≡ in_byte weight byte }
     {
@@ -295,6 +297,7 @@ impl TallyTable {
     }
 
     // The weight of the code at a place of a byte.
+    #[tactic(auto, using(crate::proofs::TallyLaws::weight_there))]
     pub(crate) fn weight_at(&self, byte: u8, place: usize) -> u64
         requires { place < 4 }
         ensures { result ≡ weight (code_at byte place) }

@@ -8,6 +8,7 @@ use crate::table::TallyTable;
 use calls::{Part, Parts};
 
 // The tally of the first n items of the block that starts at a byte: by rows of 16 bytes, then byte by byte, then the items of the last one; pads are not counted.
+#[tactic(auto, using(crate::proofs::TallyLaws::tally_more, crate::proofs::TallyLaws::tally_room, crate::proofs::BlockLaws::block_more_law, crate::proofs::BlockLaws::block_room))]
 pub(crate) fn tally_block(file: &[u8], start: usize, n: usize, table: &TallyTable) -> u64
     requires { (n ≤ 4 * (length file.now - start)) × (n < 65536) }
     ensures { result ≡ tally_items file.now start n }
@@ -25,6 +26,7 @@ pub(crate) fn tally_block(file: &[u8], start: usize, n: usize, table: &TallyTabl
 }
 
 // The tally of n resolved entries at a marker.
+#[tactic(auto, using(crate::proofs::TallyLaws::tally_none, crate::proofs::TallyLaws::tally_more, crate::proofs::TallyLaws::tally_room))]
 pub(crate) fn tally_parts(
     file: &[u8],
     part: Part,
@@ -44,6 +46,7 @@ pub(crate) fn tally_parts(
 }
 
 // Adds the four counts of a tally to those from place `at` on.
+#[tactic(auto, using(crate::proofs::TallyLaws::room_0, crate::proofs::TallyLaws::room_1, crate::proofs::TallyLaws::room_2, crate::proofs::TallyLaws::room_3))]
 pub(crate) fn add_tally(counts: &mut [u64], at: usize, packed: u64)
     requires { (at + 4 ≤ length counts.old) × ((j : ℕ) → j < 4 → get_or counts.old (at + j) 0 + in_tally packed j < 2 ^ 64) }
     ensures { Added counts.old at packed counts.new }

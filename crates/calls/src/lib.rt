@@ -66,6 +66,7 @@ fn start_fits(width: usize, block: usize) -> bool
 }
 
 // What the number of a block adds: its first byte, or 2^64 − 1 if that passes 64 bits.
+#[tactic(auto, using(crate::proofs::PlaceLaws::block_adds, crate::proofs::PlaceLaws::block_past))]
 fn block_part(width: usize, block: usize) -> Part
     ensures { IsPart true width block result }
 {
@@ -116,6 +117,7 @@ fn item_code(file: &[u8], width: usize, block: usize, item: usize) -> u8
 }
 
 // The code of the call of an animal at a marker.
+#[tactic(auto, using(crate::proofs::CallLaws::call_found))]
 pub fn call_code(
     file: &[u8],
     iid_count: usize,

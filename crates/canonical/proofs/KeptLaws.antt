@@ -41,15 +41,6 @@ low x = omega arith
 two_codes : (x : ℕ) → x % 16 ≡ x % 4 + 4 * (x / 4 % 4) + 16 * 0 + 64 * 0
 two_codes x = let a : x / 4 / 4 ≡ x / 16 = omega arith in omega arith
 
--- a byte by how many of its places have items
-pub kept_whole : (left byte : ℕ) → 3 < left → byte ≡ kept_byte left byte
-unfolding kept_byte
-kept_whole zero byte h = absurd (omega arith)
-kept_whole (suc zero) byte h = absurd (omega arith)
-kept_whole (suc (suc zero)) byte h = absurd (omega arith)
-kept_whole (suc (suc (suc zero))) byte h = absurd (omega arith)
-kept_whole (suc (suc (suc (suc left)))) byte h = refl
-
 -- byte b of the block of marker m
 module _ (file : List ℕ) (shape : Shape) (sh : Shaped file shape) (e : shape.mode1 ≡ true) (m b : ℕ) (hm : m < shape.sids) (hb : 4 * b < shape.iids) where
   abbrev iids : ℕ

@@ -1,7 +1,7 @@
 // The value of a code, at each width.
 ghost use Rattle.std.specs.Prelude.{◌≡◌, ℕ, ◌*◌, ◌^◌, ◌<◌};
 ghost use Rattle.std.specs.Mem.{type_size};
-ghost use Rattle.std.proofs.Math.Dec.{lit≤};
+ghost use Rattle.std.proofs.Math.Dec.{lit<, lit≤};
 ghost use Rattle.std.proofs.Math.Nat.{mul-lt-mul_of_pos_right, lt_of_lt_of_le};
 ghost use Rattle.codes.specs.Value.{Width, i8, float, values};
 
@@ -18,12 +18,17 @@ pub trait BedVal: Copy {
     fn two() -> Self
         ensures { result ≡ width.two };
 
+    // A value takes room, so that a slice has fewer than 2^63.
+    ghost takes_room: { 0 < type_size Self.row };
+
     // Arrays of values fit in memory.
     ghost array_fits: { (n : ℕ) → n < 2 ^ 60 → n * type_size Self.row < 2 ^ 63 };
 }
 
 impl BedVal for i8 {
     ghost width = { i8 };
+
+    ghost takes_room = { lit< tt };
 
     ghost array_fits = { λ n h. lt_of_lt_of_le (mul-lt-mul_of_pos_right h (lit≤ tt)) (lit≤ tt) };
 
@@ -42,6 +47,8 @@ impl BedVal for i8 {
 
 impl BedVal for f64 {
     ghost width = { float };
+
+    ghost takes_room = { lit< tt };
 
     ghost array_fits = { λ n h. mul-lt-mul_of_pos_right h (lit≤ tt) };
 

@@ -143,6 +143,7 @@ pub fn first_bad(count: usize, list: &[i64]) -> Option<i64>
 
 // Whether the entries of a list mean 0, 1, 2 and so on. Not inlined, so that the loop has the registers for itself.
 #[inline(never)]
+#[tactic(auto, using(crate::proofs::EntryLaws::not_in_order, crate::proofs::EntryLaws::in_order_so_far, crate::proofs::EntryLaws::all_in_order))]
 pub fn is_in_order(count: usize, list: &[i64]) -> bool
     ensures { result ≡ in_order count list.now }
 {

@@ -16,4 +16,4 @@ pub use products::{bed_file_aat_piece, bed_file_ata_piece};
 pub use reading::{
     bed_canonical, bed_count_calls, bed_open_and_check, bed_read, bed_read_standardised_f64,
 };
-pub use writing::{bed_encode1_f64, bed_encode1_i8, bed_write};
+pub use writing::{bed_encode1, bed_write};

@@ -1,33 +1,19 @@
 // Packing one marker's values, and writing a whole file.
-ghost use Rattle.codes.specs.Value.{i8, float};
 ghost use Rattle.mungkelas.specs.Header.{BedEncode1, BedWrite};
 
 use bed_answer::BedAnswer;
-use bed_write::WriteVal;
-
-// One for each type: one generic call was tried, and the check refused that the place of a bad value fits in a signed number, since a slice of a type
-// parameter may have 2^63 values.
-pub fn bed_encode1_i8(
-    in_vector: &[i8],
-    out_vector: &mut [u8],
-    is_a1_counted: bool,
-    missing: i8,
-) -> BedAnswer
-    ensures { BedEncode1 i8 in_vector.now is_a1_counted missing result out_vector.old out_vector.new }
-{
-    BedAnswer::from(bed_write::encode1::<i8>(in_vector, out_vector, is_a1_counted, missing))
-}
+use bed_write::{EncodeVal, WriteVal};
 
 #[tactic(auto, using(bed_answer::proofs::AnswerLaws::as_fits, bed_answer::proofs::FitLaws::encode_fits))]
-pub fn bed_encode1_f64(
-    in_vector: &[f64],
+pub fn bed_encode1<T: EncodeVal>(
+    in_vector: &[T],
     out_vector: &mut [u8],
     is_a1_counted: bool,
-    missing: f64,
+    missing: T,
 ) -> BedAnswer
-    ensures { BedEncode1 float in_vector.now is_a1_counted missing result out_vector.old out_vector.new }
+    ensures { BedEncode1 T.width in_vector.now is_a1_counted missing result out_vector.old out_vector.new }
 {
-    BedAnswer::from(bed_write::encode1::<f64>(in_vector, out_vector, is_a1_counted, missing))
+    BedAnswer::from(bed_write::encode1(in_vector, out_vector, is_a1_counted, missing))
 }
 
 #[tactic(auto, using(bed_answer::proofs::AnswerLaws::as_fits, bed_answer::proofs::FitLaws::write_fits))]

@@ -294,7 +294,7 @@ pub extern "C" fn bed_encode1_i8(
 ) -> BedAnswer
     ensures { BedEncode1 i8 in_vector.now is_a1_counted missing result out_vector.old out_vector.new }
 {
-    mungkelas::bed_encode1_i8(in_vector, out_vector, is_a1_counted, missing)
+    mungkelas::bed_encode1::<i8>(in_vector, out_vector, is_a1_counted, missing)
 }
 
 #[unsafe(no_mangle)]
@@ -306,7 +306,7 @@ pub extern "C" fn bed_encode1_f64(
 ) -> BedAnswer
     ensures { BedEncode1 float in_vector.now is_a1_counted missing result out_vector.old out_vector.new }
 {
-    mungkelas::bed_encode1_f64(in_vector, out_vector, is_a1_counted, missing)
+    mungkelas::bed_encode1::<f64>(in_vector, out_vector, is_a1_counted, missing)
 }
 
 #[unsafe(no_mangle)]

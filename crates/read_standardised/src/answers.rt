@@ -33,7 +33,8 @@ impl From<ReadError> for JoinedError {
     }
 }
 
-// The standardiser's result as the joined call's, which has no 14: of calls that were read the standardiser gives none.
+// The standardiser's result as the joined call's, which has no 14: of calls that were read the standardiser gives none. A `From` can require
+// nothing: with this equation for each error (tried) it leaves `returns-in-IllegalSnpMean` open, where 13 would have to be 14.
 pub(crate) fn of_standardising(said: Result<(), StandardiseError>) -> Result<(), JoinedError>
     requires { GivesNo 14 (standardise_says said) }
     ensures { joined_says result ≡ standardise_says said }

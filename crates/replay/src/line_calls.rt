@@ -156,10 +156,10 @@ fn impute_and_zero_mean_snps_f64(alloc: Global, line: &Line) -> Result<bool, All
 
 fn encode1<T: Value>(alloc: Global, line: &Line) -> Result<bool, AllocError> {
     let is_a1_counted = line.number(0);
-    let missing = line.number(1);
-    let val = buffer_at(alloc, line, T::section())?;
+    let missing: T = line.number(1);
+    let val: Vec<T> = buffer_at(alloc, line, T::section())?;
     writes(alloc, line, Section::Out, |out| {
-        T::encode1(val.as_slice(), out, is_a1_counted, missing)
+        mungkelas::bed_encode1(val.as_slice(), out, is_a1_counted, missing)
     })
 }
 

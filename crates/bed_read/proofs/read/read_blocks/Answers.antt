@@ -1,6 +1,6 @@
 use Rattle.std.proofs.Common.{arith, length}
 use Rattle.calls.proofs.ListLaws.{along_inside}
-use Rattle.bed_read.proofs.TileLaws.{tile_none, tile_all, lines_end}
+use Rattle.bed_read.proofs.TileLaws.{lines_end}
 use Rattle.bed_read.proofs.MatrixLaws.{block_read}
 use Rattle.bed_read.proofs.read.read_blocks.Goals as goal
 

@@ -1,6 +1,5 @@
 use Rattle.std.proofs.Common.{◌-◌, ◌*◌, arith}
 use Rattle.bed_read.proofs.DrawLaws.{drawn_pairs, drawn_to}
-use Rattle.calls.proofs.ListLaws.{inside_less}
 use Rattle.bed_read.proofs.read.read_four.Goals as goal
 
 pub loop-pair-preserved : goal.loop-pair-preserved

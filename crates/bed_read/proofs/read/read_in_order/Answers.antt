@@ -1,6 +1,6 @@
 use Rattle.std.proofs.Common.{refl, ◌∙◌, ◌+◌, ◌*◌, ◌/◌, ◌<◌, arith}
 use Rattle.bed_read.specs.Private.{value_in}
-use Rattle.bed_read.proofs.DrawLaws.{drawn_one, drawn_to, drawn_end}
+use Rattle.bed_read.proofs.DrawLaws.{drawn_one}
 use Rattle.bed_read.proofs.PartLaws.{byte_item}
 use Rattle.bed_read.proofs.read.read_in_order.Goals as goal
 

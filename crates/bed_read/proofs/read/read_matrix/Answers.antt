@@ -1,16 +1,6 @@
 use Rattle.std.proofs.Common.{◌+◌, arith, rules}
 use Rattle.calls.proofs.ListLaws.{inner_entries}
-use Rattle.bed_read.proofs.MatrixLaws.{read_none, read_all}
 use Rattle.bed_read.proofs.read.read_matrix.Goals as goal
-
-pub returns-then-is_along_block : goal.returns-then-is_along_block
-returns-then-is_along_block g c = read_all _ _ _ _ _ _ _ _ _ c.read_blocks.ensures (omega arith)
-
-pub returns-else-is_along_block : goal.returns-else-is_along_block
-returns-else-is_along_block g c = read_all _ _ _ _ _ _ _ _ _ c.loop-from.invariant c.loop-from-test.false
-
-pub returns-else-is_along_block-2 : goal.returns-else-is_along_block-2
-returns-else-is_along_block-2 g c = read_all _ _ _ _ _ _ _ _ _ c.read_tile.ensures (search rules)
 
 pub read_tile-requires : goal.read_tile-requires
 read_tile-requires g c =

@@ -3,7 +3,7 @@ use Rattle.std.proofs.Common.{refl, sym, ap, true, false, length, ◌∙◌}
 use native.Mathlib.Nat.{mul_comm}
 use Rattle.answer.specs.Answer.{is_done}
 use Rattle.bed_read.proofs.ReadLaws.{error_told, error_refuses, read_checks, read_done}
-use Rattle.bed_read.proofs.BufferLaws.{ready_lines, table_made, table_read, buffer_read, buffer_kept}
+use Rattle.bed_read.proofs.BufferLaws.{ready_lines, table_read, buffer_read, buffer_kept}
 use Rattle.bed_read.proofs.read.read_no_alloc.Goals as goal
 use Rattle.bed_read.proofs.read.read_no_alloc.Goals.{then-animal_order, else-animal_order}
 
@@ -18,17 +18,11 @@ returns-in_err-check_read g c =
 pub invariant_of-lines : goal.invariant_of-lines
 invariant_of-lines g c = record { other = refl; ready = ready_lines _ _ _ _ _ _ _ (read_done _ _ _ _ _ _ c.in_ok-check_read.ensures).1 _ c.shape_of-shape.ensures true }
 
-pub invariant_of-values : goal.invariant_of-values
-invariant_of-values g c = record { by_code = table_made g.T.BedVal.width _ _ _ _ _ c.as_slice.ensures c.table-table.ensures }
-
 pub read_matrix-requires : goal.read_matrix-requires
 read_matrix-requires g c = (read_done _ _ _ _ _ _ c.in_ok-check_read.ensures).1.product
 
 pub invariant_of-lines-else-animal_order : goal.invariant_of-lines-else-animal_order
 invariant_of-lines-else-animal_order g c = record { other = refl; ready = ready_lines _ _ _ _ _ _ _ (read_done _ _ _ _ _ _ c.in_ok-check_read.ensures).1 _ c.shape_of-shape.ensures false }
-
-pub invariant_of-values-else-animal_order : goal.invariant_of-values-else-animal_order
-invariant_of-values-else-animal_order g c = record { by_code = table_made g.T.BedVal.width _ _ _ _ _ c.as_slice.ensures c.table-table.ensures }
 
 pub read_matrix-requires-else-animal_order : goal.read_matrix-requires-else-animal_order
 read_matrix-requires-else-animal_order g c =

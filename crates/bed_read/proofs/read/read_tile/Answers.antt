@@ -1,6 +1,6 @@
 use Rattle.std.proofs.Common.{arith, length, ◌*◌, ◌+◌, ◌≤◌}
 use Rattle.calls.proofs.ListLaws.{parts_inside}
-use Rattle.bed_read.proofs.TileLaws.{tile_none, tile_all, tile_to, lines_end}
+use Rattle.bed_read.proofs.TileLaws.{tile_to, lines_end}
 use Rattle.bed_read.proofs.MatrixLaws.{line_read, four_inside, four_read}
 use Rattle.bed_read.proofs.read.read_tile.Goals as goal
 
