@@ -162,8 +162,8 @@ pub enum SpanError {
     IidIndexTooBig(i64),
 }
 
-// The step: the lowest and the highest place so far, none of nothing, and those of the list with the next entry. A bad entry's place is the highest then,
-// since no place below the count is a bad entry's.
+// The step: from the lowest and the highest place so far, none of nothing, to those of the list with the next entry. With a bad entry in the list the
+// highest is not below the count, as no place of a bad entry is.
 #[tactic(auto, using(crate::proofs::EntryLaws::placed, crate::proofs::SpanLaws::reaches_first, crate::proofs::SpanLaws::reaches_next))]
 fn widened(count: usize, sofar: Option<(usize, usize)>, entry: i64) -> Option<(usize, usize)>
     ensures { (before : List ℤ) → Reaches count before sofar → Reaches count (before ++ (entry ∷ [])) result }
