@@ -14,7 +14,7 @@ use Rattle.calls.specs.Lists.{Ready, entry_byte, entry_place, is_along_block, En
 use Rattle.calls.proofs.ListLaws.{block_place, parts_inside}
 use Rattle.bed_read.specs.Private.{value_in, place_value, line_value, lines_read, Drawn, ReadTo}
 use Rattle.bed_read.proofs.PartLaws.{parts_value, along_value}
-use Rattle.bed_read.proofs.TileLaws.{Tiled, tile_more, rows_none, rows_all, all_read}
+use Rattle.bed_read.proofs.TileLaws.{Tiled, tile_more, rows_all, all_read}
 
 -- the matrix that is read: every line up to `from`, and the lines before line o up to `until`
 abbrev pub ReadTile : {A : Type 0} → Bool → List A → A → List ℕ → Shape → List ℤ → List ℤ → List A → ℕ → ℕ → ℕ → Type 0
@@ -88,8 +88,5 @@ module _ {A : Type 0} (table : List A) (d : A) (file : List ℕ) (shape : Shape)
 
 -- ---- the whole matrix
 module _ {A : Type 0} (table : List A) (d : A) (file : List ℕ) (shape : Shape) (animals : Bool) (outer inner : List ℤ) (val : List A) where
-  pub read_none : length outer * length inner ≡ length val → ReadTo animals table d file shape outer inner val 0
-  read_none e = rows_none _ d _ _ val (sym e)
-
   pub read_all : (from : ℕ) → ReadTo animals table d file shape outer inner val from → length inner ≤ from → val ≡ map (value_in table d) (lines_read animals file shape outer inner)
   read_all from r h = all_read (value_in table d) file shape outer inner animals val (rows_all _ d _ _ val from r h)

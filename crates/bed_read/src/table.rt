@@ -10,7 +10,7 @@ use std::convert::AsSlice;
 
 // A type of values that is read.
 pub trait ReadVal: BedVal {
-    // A type of its own: an array of a type parameter owes a bound on its size.
+    // Its own array. A generic function that makes a `[T; 1024]` was tried: whoever calls it for a type parameter owes that 1,024 times the size of T is below 2^63.
     type Table: AsSlice<Self> + Drop;
 
     // The value of the code of every byte and place: place p of byte b at 4 × b + p.
@@ -43,7 +43,7 @@ impl ReadVal for f64 {
 }
 
 // Fills such a table.
-// The table is a slice: an array of a type parameter owes a bound on its size wherever it is passed, also in a struct.
+// It is a slice, since a call that passes a `[T; 1024]` would owe that bound too.
 fn fill_table<T: BedVal>(coding: Coding<T>, table: &mut [T])
     requires { length table.old ≡ 1024 }
     ensures { table.new ≡ map (value_of T.width coding.is_a1_counted coding.missing) code_table }

@@ -1,7 +1,7 @@
 -- Laws of the two bits of codes, over plain numbers and lists.
 use mathlib.Core.Path.{◌≡◌, refl, sym, ap, subst, ◌∙◌}
 use mathlib.Core.List.{List}
-use Prim.Native.Nat.{ℕ, zero, suc, ◌+◌, ◌-◌, ◌*◌, ◌/◌, ◌%◌, ◌^◌, ◌<◌, ◌≤◌}
+use Prim.Native.Nat.{ℕ, zero, suc, ◌+◌, ◌-◌, ◌*◌, ◌/◌, ◌%◌, ◌<◌, ◌≤◌}
 use native.Mathlib.Nat.{add-zero, add-suc}
 use native.Mathlib.Omega.{arith}
 use lib.Bits.{bit_and}
@@ -227,22 +227,9 @@ module _ (z o t b : ℕ) where
   unfolding weight
   four_tally n bits el eh eb en = omega arith
 
-  four_room : z + o + t + b < 65536 → four < 2 ^ 64
-  four_room h =
-      let x : z * 4294967296 ≤ z * 281474976710656 = omega arith in
-      let y : t * 65536 ≤ t * 281474976710656 = omega arith in
-      let w : b ≤ b * 281474976710656 = omega arith in
-      room (z * 4294967296) (t * 65536) x y w
-    where
-      room : (u v : ℕ) → u ≤ z * 281474976710656 → v ≤ t * 281474976710656 → b ≤ b * 281474976710656 → u + o * 281474976710656 + v + b < 2 ^ 64
-      room u v x y w = omega arith
-
 module _ (n : ℕ) (bits : BitCounts) (o : Ordered n bits) where
   pub tally_is : TallyOf n bits (four (n - (bits.low + (bits.high - bits.both))) (bits.low - bits.both) (bits.high - bits.both) bits.both)
   tally_is = four_tally (n - (bits.low + (bits.high - bits.both))) (bits.low - bits.both) (bits.high - bits.both) bits.both n bits (omega arith) (omega arith) refl (omega arith)
-
-  pub tally_fits : n < 65536 → four (n - (bits.low + (bits.high - bits.both))) (bits.low - bits.both) (bits.high - bits.both) bits.both < 2 ^ 64
-  tally_fits f = four_room (n - (bits.low + (bits.high - bits.both))) (bits.low - bits.both) (bits.high - bits.both) bits.both (omega arith)
 
 -- one code
 abbrev one_code : ℕ → BitCounts

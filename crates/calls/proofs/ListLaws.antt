@@ -90,9 +90,6 @@ resolved_more shape animals list k bytes bytes' places places' part f h p i =
     let q = entry_back _ _ _ _ part f p in
     (begun_more _ bytes' k _ bytes i.0 h q.byte_is, begun_more _ places' k _ places i.1 h q.place_is)
 
-pub inside_less : (file : List ℕ) (byte place : ℕ) (parts : Parts) (m n : ℕ) → m ≤ n → Inside file byte place parts n → Inside file byte place parts m
-inside_less file byte place parts m n h i = record { byte_in = λ k b. i.byte_in k (omega arith); place_in = λ k b. i.place_in k (omega arith) }
-
 -- what the number of an animal or a marker adds to the byte fits a word
 part_byte_law :
     (file : List ℕ) (shape : Shape) → Shaped file shape → length file < 2 ^ 64 → (animals : Bool) (n : ℕ) → n < count_of animals shape → n < 2 ^ 64

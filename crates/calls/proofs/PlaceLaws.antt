@@ -3,7 +3,7 @@ use mathlib.Core.Path.{◌≡◌, refl, sym, ap, subst, ◌∙◌}
 use mathlib.Core.Bool.{Bool, true, false, cond}
 use mathlib.Core.List.{List}
 use Prim.Native.Nat.{ℕ, ◌+◌, ◌-◌, ◌*◌, ◌/◌, ◌%◌, ◌^◌, ◌<◌, ◌≤◌}
-use native.Mathlib.Nat.{mul_comm, mul-le-mul, mul-le-mul_right}
+use native.Mathlib.Nat.{mul_comm, mul-le-mul_right}
 use native.Mathlib.Omega.{arith}
 use borrow.Author.Tests.{le-leb, lt-leb, leb-true, leb-false}
 use lib.Dec.{eqb, leb}
@@ -22,9 +22,6 @@ use Rattle.calls.proofs.CallLaws.{code_in_part, no_code_in_part, call_inside, ca
 pub mode_short : (file : List ℕ) → length file < 3 → false ≡ is_mode1 file
 unfolding is_mode1
 mode_short file h = ap (λ (x : ℕ). eqb x 1) (sym (get_or-eq_default file 0 (omega arith)))
-
-pub mode_width : (iids sids : ℕ) (b mode1 : Bool) (w : ℕ) → b ≡ mode1 → w ≡ block_width (items b iids sids) → w ≡ block_width (items mode1 iids sids)
-mode_width iids sids b mode1 w e f = f ∙ ap (λ (m : Bool). block_width (items m iids sids)) e
 
 -- the shape of a file that is as long as an accepted one
 pub shape_read :
@@ -63,13 +60,6 @@ word_outside n size l h = by_lt n (2 ^ 64) (λ k. let e = in_word_law n k in ome
 pub item_adds : (w n : ℕ) (part : Part) → n < 2 ^ 64 → part.byte ≡ n / 4 → part.place ≡ n % 4 → IsPart false w n part
 unfolding part_byte part_place
 item_adds w n part h b p = record { byte_is = b ∙ sym (in_word_law (n / 4) (omega arith)); place_is = p }
-
-pub small_product : (a b : ℕ) → a < 4294967296 → b < 4294967296 → true ≡ leb (a * b) 18446744073709551612
-small_product a b h k =
-    let ha : a ≤ 4294967295 = omega arith in
-    let hb : b ≤ 4294967295 = omega arith in
-    let m : a * b ≤ 4294967295 * 4294967295 = mul-le-mul ha hb in
-    sym (le-leb (a * b) 18446744073709551612 (omega arith))
 
 module _ (w n : ℕ) (b : Bool) (e : b ≡ leb (w * n) 18446744073709551612) where
   pub block_fits : b ≡ true → 3 + n * w < 2 ^ 64
