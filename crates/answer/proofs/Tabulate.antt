@@ -1,11 +1,12 @@
 -- Laws of `tabulate`, and of elements by place.
 use mathlib.Core.Path.{◌≡◌, refl, sym, ap, ◌∙◌}
 use mathlib.Core.List.{List, [], ◌∷◌, map}
-use Prim.Native.Nat.{ℕ, zero, suc, ◌<◌}
+use Prim.Native.Nat.{ℕ, zero, suc, ◌+◌, ◌<◌}
 use native.Mathlib.Nat.{le_of_suc-le-suc, not-suc-le-zero}
 use native.Mathlib.Omega.{arith}
-use lib.ListN.{length, get_or}
-use lib.Seq.{ext_get_or}
+use lib.ListN.{length, get_or, set}
+use lib.Seq.{ext_get_or, get_or-set_same, get_or-set_other}
+use borrow.Author.Count.{below_more}
 use Rattle.answer.specs.Lists.{tabulate}
 
 pub length_tabulate : {A : Type 0} (n : ℕ) (f : ℕ → A) → length (tabulate n f) ≡ n
@@ -30,6 +31,12 @@ pub is_tabulate : {A : Type 0} (l : List A) (n : ℕ) (f : ℕ → A) (d : A) �
 is_tabulate l n f d e h =
     ext_get_or d l (tabulate n f) (e ∙ sym (length_tabulate n f))
     (λ k b. let b' : k < n = omega arith in h k b' ∙ sym (get_d_tabulate n f k d b'))
+
+-- a list that has f at each place below k has it at place k too once that is stored
+pub stored_more :
+    {A : Type 0} (d : A) (f : ℕ → A) (l : List A) (k : ℕ) (v : A) → ((j : ℕ) → j < k → get_or l j d ≡ f j) → k < length l → v ≡ f k
+    → (j : ℕ) → j < k + 1 → get_or (set l k v) j d ≡ f j
+stored_more d f l k v p h e = below_more _ _ (λ j i. get_or-set_other l k j v d (λ z. omega arith) ∙ p j i) (get_or-set_same l k v d h ∙ e)
 
 pub map_tabulate : {A B : Type 0} (h : A → B) (n : ℕ) (f : ℕ → A) → map h (tabulate n f) ≡ tabulate n (λ k. h (f k))
 unfolding tabulate

@@ -2,16 +2,15 @@
 use mathlib.Core.Path.{◌≡◌, refl, sym, ap, ◌∙◌}
 use mathlib.Core.Bool.{Bool}
 use mathlib.Core.List.{List, map}
-use Prim.Native.Nat.{ℕ, ◌+◌, ◌*◌, ◌/◌, ◌%◌, ◌<◌}
+use Prim.Native.Nat.{ℕ, ◌+◌, ◌*◌, ◌/◌, ◌%◌, ◌<◌, ◌≤◌}
 use native.Mathlib.Omega.{arith}
-use lib.ListN.{length, get_or, length-map, get_or-map}
+use lib.ListN.{length, get_or, set, length-set, length-map, get_or-map}
 use Rattle.codes.specs.Code.{code_at, code_table}
 use Rattle.codes.specs.Value.{Width, values, value_of}
 use Rattle.codes.proofs.CodeLaws.{table_at, code_below}
 use Rattle.codes.proofs.ValueLaws.{four_values}
-use Rattle.answer.proofs.Tabulate.{length_tabulate, tabulate_ext, map_tabulate, get_d_inside}
-use Rattle.bed_read.specs.Private.{Drawn, value_in, ByCode}
-use Rattle.bed_read.proofs.DrawLaws.{drawn_all}
+use Rattle.answer.proofs.Tabulate.{length_tabulate, tabulate_ext, is_tabulate, stored_more, map_tabulate, get_d_inside}
+use Rattle.bed_read.specs.Private.{value_in, ByCode}
 
 table_length : length code_table ≡ 1024
 unfolding code_table
@@ -35,12 +34,29 @@ module _ {V : Type 0} (w : Width V) (flag : Bool) (missing : V) (byte place code
       get_d_inside of_code n d missing code_inside.0
       ∙ ap (λ (l : List V). get_or l n missing) e ∙ ap (λ (k : ℕ). get_or (values w flag missing) k missing) (m ∙ c)
 
+-- a table that has its value for each code at the places below n
+pub record FilledTo {A : Type 0} (d : A) (f : ℕ → A) (table : List A) (n : ℕ) : Type 0 where
+  pub long : length table ≡ 1024
+  pub filled : (t : ℕ) → t < n → get_or table t d ≡ f (code_at (t / 4) (t % 4))
+
 module _ {A : Type 0} (d : A) (f : ℕ → A) where
-  -- a table filled with a value for each code
-  pub filled_table : (old new : List A) → length old ≡ 1024 → Drawn d 1 1024 (λ _ t. t) (λ _ t. f (code_at (t / 4) (t % 4))) old 1024 new → new ≡ map f code_table
+  pub filled_same : (table : List A) (n m : ℕ) → FilledTo d f table n → m ≤ n → FilledTo d f table m
+  filled_same table n m r h = record { long = r.long; filled = λ t i. r.filled t (omega arith) }
+
+  pub filled_more : (table : List A) (n p m : ℕ) (v : A) → FilledTo d f table n → p ≡ n → m ≡ n + 1 → n < 1024 → v ≡ f (code_at (n / 4) (n % 4)) → FilledTo d f (set table p v) m
+  filled_more table n p m v r e k h g =
+      record {
+        long = length-set table p v ∙ r.long;
+        filled =
+            λ t i. ap (λ (x : ℕ). get_or (set table x v) t d) e
+            ∙ stored_more d (λ t. f (code_at (t / 4) (t % 4))) table n v r.filled (omega (arith, r.long)) g t (omega arith);
+      }
+
+  -- in all places
+  pub filled_table : (table : List A) (n : ℕ) → FilledTo d f table n → 1024 ≤ n → table ≡ map f code_table
   unfolding code_table
-  filled_table old new l r =
-      drawn_all d 1024 (λ _ t. t) (λ _ t. f (code_at (t / 4) (t % 4))) old new r l ∙ sym (map_tabulate f 1024 (λ k. code_at (k / 4) (k % 4)))
+  filled_table table n r h =
+      is_tabulate table 1024 (λ t. f (code_at (t / 4) (t % 4))) d r.long (λ t i. r.filled t (omega arith)) ∙ sym (map_tabulate f 1024 (λ k. code_at (k / 4) (k % 4)))
 
   -- a table made of a value for each code
   module _ (table : List A) (e : table ≡ map f code_table) where

@@ -8,4 +8,3 @@ mod table;
 
 pub use checks::{ReadError, check_lists, check_read};
 pub use read::read_no_alloc;
-pub use table::ReadVal;

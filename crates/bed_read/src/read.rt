@@ -8,12 +8,11 @@ ghost use Rattle.bed_read.specs.Private.{set_two, set_pairs, Drawn, DrawnInOrder
 ghost use Rattle.bed_read.specs.Says.{read_says};
 
 use crate::lines::Lines;
-use crate::table::{ReadVal, Values};
+use crate::table::{Values, table_of};
 use crate::{ReadError, checks};
 use calls::{Part, Parts};
 use codes::{BedVal, Coding};
 use entries::{IidIndex, Item, SidIndex};
-use std::convert::AsSlice;
 use std::marker::PhantomData;
 
 // The first n items of a block, from place `at` of the matrix on: four of a byte at a time.
@@ -229,7 +228,7 @@ fn read_matrix<T: BedVal, O: Item, I: Item>(lines: &Lines<O, I>, values: Values<
 
 // Reads the calls of a list of animals at a list of markers into a matrix in the order asked.
 #[tactic(auto, using(crate::proofs::BufferLaws::table_made))]
-pub fn read_no_alloc<T: ReadVal>(
+pub fn read_no_alloc<T: BedVal>(
     file: &[u8],
     iid_count: usize,
     sid_count: usize,
@@ -253,13 +252,11 @@ pub fn read_no_alloc<T: ReadVal>(
         val.len(),
     )?;
     let shape = calls::shape_of(file, iid_count, sid_count);
-    let table = T::table(Coding {
+    let table = table_of(Coding {
         is_a1_counted,
         missing: missing_value,
     });
-    let values = Values {
-        table: table.as_slice(),
-    };
+    let values = Values { table: &table };
     if animal_order {
         let lines: Lines<IidIndex, SidIndex> = Lines {
             file,

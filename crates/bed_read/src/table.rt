@@ -1,61 +1,26 @@
 // The value of every code.
 ghost use Rattle.std.specs.Prelude.{◌≡◌, map, ◌<◌, length};
 ghost use Rattle.codes.specs.Code.{code_at, code_table};
-ghost use Rattle.codes.specs.Value.{value_of, i8, float};
+ghost use Rattle.codes.specs.Value.{value_of};
 ghost use Rattle.bed_read.specs.Private.{value_in, ByCode, place_value};
 
 use codes::{BedVal, CodeTable, Coding};
 use std::alloc::AllocError;
-use std::convert::AsSlice;
 
-// A type of values that is read.
-pub trait ReadVal: BedVal {
-    // Its own array. A generic function that makes a `[T; 1024]` was tried: whoever calls it for a type parameter owes that 1,024 times the size of T is below 2^63.
-    type Table: AsSlice<Self> + Drop;
-
-    // The value of the code of every byte and place: place p of byte b at 4 × b + p.
-    fn table(coding: Coding<Self>) -> Self::Table
-        ensures { Self.Table.items result ≡ map (value_of Self.width coding.is_a1_counted coding.missing) code_table };
-}
-
-impl ReadVal for i8 {
-    type Table = [i8; 1024];
-
-    fn table(coding: Coding<i8>) -> [i8; 1024]
-        ensures { result ≡ map (value_of i8 coding.is_a1_counted coding.missing) code_table }
-    {
-        let mut table = [0; 1024];
-        fill_table(coding, &mut table);
-        table
-    }
-}
-
-impl ReadVal for f64 {
-    type Table = [f64; 1024];
-
-    fn table(coding: Coding<f64>) -> [f64; 1024]
-        ensures { result ≡ map (value_of float coding.is_a1_counted coding.missing) code_table }
-    {
-        let mut table = [0.0; 1024];
-        fill_table(coding, &mut table);
-        table
-    }
-}
-
-// Fills such a table.
-// It is a slice, since a call that passes a `[T; 1024]` would owe that bound too.
-fn fill_table<T: BedVal>(coding: Coding<T>, table: &mut [T])
-    requires { length table.old ≡ 1024 }
-    ensures { table.new ≡ map (value_of T.width coding.is_a1_counted coding.missing) code_table }
+// The value, by a coding, of the code of every byte and place: place p of byte b at 4 × b + p.
+pub(crate) fn table_of<T: BedVal>(coding: Coding<T>) -> [T; 1024]
+    ensures { result ≡ map (value_of T.width coding.is_a1_counted coding.missing) code_table }
 {
     let codes = CodeTable::new();
     let of_code = coding.set_up_two_bits_to_value();
+    let mut table = [T::zero(); 1024];
     for byte in 0..256 {
         for place in 0..4 {
             let code = codes.code_of_item(byte as u8, place);
             table[4 * byte + place] = of_code[usize::from(code)];
         }
     }
+    table
 }
 
 // A table that has one value for each code. Passed by value, so that the table's address costs no load for each value.

@@ -5,8 +5,6 @@ use mathlib.Core.List.{List}
 use Prim.Native.Nat.{ℕ, ◌+◌, ◌/◌, ◌%◌, ◌<◌}
 use native.Mathlib.Omega.{arith}
 use lib.ListN.{length, get_or, set}
-use borrow.Author.Count.{below_more}
-use lib.Seq.{get_or-set_same, get_or-set_other}
 use Rattle.std.specs.Prelude.{[], Result, Ok, Err, IsErrAnd}
 use Rattle.answer.specs.Answer.{done, refused, is_done}
 use Rattle.block.specs.declared.decode.DecodeError.{DecodeError}
@@ -16,7 +14,7 @@ use Rattle.answer.specs.Lists.{tabulate}
 use Rattle.codes.specs.Value.{Width, values, value_of}
 use Rattle.answer.proofs.AnswerLaws.{new_if_done, old_if_not}
 use Rattle.codes.proofs.CodeLaws.{item_below}
-use Rattle.answer.proofs.Tabulate.{tabulate_ext, is_tabulate, get_d_inside}
+use Rattle.answer.proofs.Tabulate.{tabulate_ext, is_tabulate, stored_more, get_d_inside}
 use Rattle.block.specs.Blocks.{decode_answer, column_of, decode_buffer}
 use Rattle.block.proofs.CheckLaws.{decodable}
 use Rattle.codes.proofs.ValueLaws.{four_values}
@@ -37,8 +35,7 @@ module _ {V : Type 0} (vs : List V) (bytes : List ℕ) (d : V) where
     unfolding item_code
     filled_more out v e p h g =
         let b : item_code bytes k < 4 = item_below bytes k in
-        below_more _ _ (λ j i. get_or-set_other out k j v d (λ z. omega arith) ∙ p j i)
-        (get_or-set_same out k v d h ∙ g ∙ ap (λ (x : ℕ). get_or vs x e) (q ∙ r) ∙ get_d_inside vs (item_code bytes k) e d (omega arith))
+        stored_more d _ out k v p h (g ∙ ap (λ (x : ℕ). get_or vs x e) (q ∙ r) ∙ get_d_inside vs (item_code bytes k) e d (omega arith))
 
   pub filled_all : (out : List V) (n : ℕ) → length out ≡ n → Filled out n → out ≡ tabulate n (λ a. get_or vs (item_code bytes a) d)
   filled_all out n l p = is_tabulate out n (λ a. get_or vs (item_code bytes a) d) d l p

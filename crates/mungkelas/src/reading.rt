@@ -5,7 +5,7 @@ ghost use Rattle.bed_answer.specs.Interface.{bed_answer};
 ghost use Rattle.mungkelas.specs.Header.{BedRead, BedCountCalls, BedCanonical, BedReadStandardised};
 
 use bed_answer::BedAnswer;
-use bed_read::ReadVal;
+use codes::BedVal;
 
 pub fn bed_open_and_check(file: &[u8]) -> BedAnswer
     ensures { result ≡ bed_answer (open_answer file.now) }
@@ -13,7 +13,7 @@ pub fn bed_open_and_check(file: &[u8]) -> BedAnswer
     BedAnswer::from(bed_file::open_and_check(file))
 }
 
-pub fn bed_read<T: ReadVal>(
+pub fn bed_read<T: BedVal>(
     file: &[u8],
     iid_count: usize,
     sid_count: usize,

@@ -1,10 +1,9 @@
 // The types of a matrix's values.
-use bed_read::ReadVal;
 use bed_write::WriteVal;
 use stored_list::line::Section;
 use stored_list::stored::Stored;
 
-pub trait Value: Stored + ReadVal + WriteVal {
+pub trait Value: Stored + WriteVal {
     // Where such values stand in a line.
     fn section() -> Section;
 }

@@ -5,7 +5,6 @@ use Rattle.answer.specs.Answer.{is_done}
 use Rattle.bed_read.proofs.ReadLaws.{error_told, error_refuses, read_checks, read_done}
 use Rattle.bed_read.proofs.BufferLaws.{ready_lines, table_read, buffer_read, buffer_kept}
 use Rattle.bed_read.proofs.read.read_no_alloc.Goals as goal
-use Rattle.bed_read.proofs.read.read_no_alloc.Goals.{then-animal_order, else-animal_order}
 
 pub returns-in_err-check_read : goal.returns-in_err-check_read
 returns-in_err-check_read g c =
@@ -28,19 +27,18 @@ pub read_matrix-requires-else-animal_order : goal.read_matrix-requires-else-anim
 read_matrix-requires-else-animal_order g c =
     let a = c.args in mul_comm (length a.sid_index.now) (length a.iid_index.now) ∙ (read_done _ _ _ _ _ _ c.in_ok-check_read.ensures).1.product
 
-pub returns : goal.returns
-returns g c =
-    let done = (read_done _ _ _ _ _ _ c.in_ok-check_read.ensures).0 in
-    let table = c.as_slice.ensures ∙ c.table-table.ensures in (
+pub returns-then-animal_order : goal.returns-then-animal_order
+returns-then-animal_order g c =
+    let done = (read_done _ _ _ _ _ _ c.in_ok-check_read.ensures).0 in (
       done,
-      elim c.if-animal_order.branch [
-        | then-animal_order w ↦
-            w.val-is
-            ∙ buffer_read _ _ _ _ _ c.shape_of-shape.result c.shape_of-shape.ensures g.T.BedVal.width _ _ _ true _ _ (sym (ap is_done done)) w.if-animal_order.true
-            (table_read g.T.BedVal.width _ _ _ _ _ _ _ c.shape_of-shape.result _ _ table w.read_matrix.ensures)
-        | else-animal_order w ↦
-            w.val-is
-            ∙ buffer_read _ _ _ _ _ c.shape_of-shape.result c.shape_of-shape.ensures g.T.BedVal.width _ _ _ false _ _ (sym (ap is_done done)) w.if-animal_order.false
-            (table_read g.T.BedVal.width _ _ _ _ _ _ _ c.shape_of-shape.result _ _ table w.read_matrix-else-animal_order.ensures)
-      ],
+      buffer_read _ _ _ _ _ c.shape_of-shape.result c.shape_of-shape.ensures g.T.BedVal.width _ _ _ true _ _ (sym (ap is_done done)) c.if-animal_order.true
+          (table_read g.T.BedVal.width _ _ _ _ _ _ _ c.shape_of-shape.result _ _ c.table_of-table.ensures c.read_matrix.ensures),
+    )
+
+pub returns-else-animal_order : goal.returns-else-animal_order
+returns-else-animal_order g c =
+    let done = (read_done _ _ _ _ _ _ c.in_ok-check_read.ensures).0 in (
+      done,
+      buffer_read _ _ _ _ _ c.shape_of-shape.result c.shape_of-shape.ensures g.T.BedVal.width _ _ _ false _ _ (sym (ap is_done done)) c.if-animal_order.false
+          (table_read g.T.BedVal.width _ _ _ _ _ _ _ c.shape_of-shape.result _ _ c.table_of-table.ensures c.read_matrix-else-animal_order.ensures),
     )
