@@ -63,7 +63,7 @@ both_most (suc (suc zero)) = omega arith
 both_most (suc (suc (suc n))) = omega arith
 
 -- ---- sums over codes
-total_most : (h code : ℕ → ℕ) → ((x : ℕ) → h x ≤ 1) → (n : ℕ) → total h code n ≤ n
+total_most : (h code : ℕ → ℕ) → Bit h → (n : ℕ) → total h code n ≤ n
 unfolding total
 total_most h code m zero = omega arith
 total_most h code m (suc n) = omega (arith, total_most h code m n, m (code n))
@@ -89,7 +89,7 @@ module _ (h : ℕ → ℕ) (file : List ℕ) where
   items_most : Bit h → (start n : ℕ) → total_items h file start n ≤ n
   items_most m start n = total_most h (λ i. code_at (get_or file (start + i / 4) 0) (i % 4)) m n
 
--- ---- up to three rows
+-- ---- so many rows of 16 bytes
 -- the sum of four codes put together
 module _ (a b c d : ℕ) (ha : a < 4) (hb : b < 4) (hc : c < 4) (hd : d < 4) where
   abbrev four_put : ℕ
@@ -104,11 +104,11 @@ module _ (h : ℕ → ℕ) (file : List ℕ) (at : ℕ) where
   abbrev byte_of : ℕ → ℕ → ℕ
   byte_of j r = get_or file (at + 16 * r + j) 0
 
-  -- the bytes j of r rows, added up with h of each code in the place of the code
+  -- the sum of the bytes j of r rows, each with h of each code in the code's place
   abbrev pub column : ℕ → ℕ → ℕ
   column j r = total (placed h) (byte_of j) r
 
-  -- h of the codes at place p of the bytes j of r rows
+  -- the sum of h over the codes at place p of those bytes
   abbrev lane : ℕ → ℕ → ℕ → ℕ
   lane j p r = total h (λ k. code_at (byte_of j k) p) r
 
@@ -119,6 +119,11 @@ module _ (h : ℕ → ℕ) (file : List ℕ) (at : ℕ) where
 
   lane_most : Bit h → (j p r : ℕ) → lane j p r ≤ r
   lane_most m j p r = total_most h (λ k. code_at (byte_of j k) p) m r
+
+  column_codes : Bit h → (j r : ℕ) → r ≤ 3 → in_byte (λ code. code) (column j r) ≡ lane j 0 r + lane j 1 r + lane j 2 r + lane j 3 r
+  column_codes m j r l =
+      let a : (p : ℕ) → lane j p r < 4 = λ p. omega (arith, lane_most m j p r) in
+      ap (in_byte (λ code. code)) (lanes j r) ∙ four_codes (lane j 0 r) (lane j 1 r) (lane j 2 r) (lane j 3 r) (a 0) (a 1) (a 2) (a 3)
 
   pub column_none : (j : ℕ) → 0 ≡ column j 0
   unfolding total
@@ -162,10 +167,7 @@ module _ (h : ℕ → ℕ) (file : List ℕ) (at : ℕ) where
       (er : r ≡ rows) (l : rows ≤ 3) where
     pub rows_more_law : sum + more ≡ in_rows rows (j + 1)
     rows_more_law =
-        let p = λ (p : ℕ). lane_most m j p rows in
-        let c =
-        ap (in_byte (λ code. code)) (f ∙ ap (column j) er ∙ lanes j rows)
-        ∙ four_codes (lane j 0 rows) (lane j 1 rows) (lane j 2 rows) (lane j 3 rows) (omega (arith, p 0)) (omega (arith, p 1)) (omega (arith, p 2)) (omega (arith, p 3)) in
+        let c = ap (in_byte (λ code. code)) (f ∙ ap (column j) er) ∙ column_codes m j rows l in
         omega (arith, e, g, c, lanes_more rows j)
 
     pub rows_room : j < 16 → sum + more < 256

@@ -45,7 +45,7 @@ fn sum_of_codes(byte: u8) -> u8
     (pairs & 0x0F) + (pairs >> 4)
 }
 
-// The low bit of each code of a byte, in the code's place.
+// The low bits of the codes of a byte, each in its code's place.
 #[tactic(auto, using(crate::proofs::BitLaws::low_placed))]
 fn low_bits(x: u8) -> u8
     ensures { result ≡ placed low_bit x }
@@ -53,7 +53,7 @@ fn low_bits(x: u8) -> u8
     x & 0x55
 }
 
-// The high bit.
+// The high bits.
 #[tactic(auto, using(crate::proofs::BitLaws::high_low))]
 fn high_bits(x: u8) -> u8
     ensures { result ≡ placed high_bit x }
@@ -69,7 +69,7 @@ fn both_bits(x: u8) -> u8
     low_bits(x & (x >> 1))
 }
 
-// The bits of up to three neighbouring rows of 16 bytes, which is one vector: no sum passes a byte.
+// The bits of neighbouring rows of 16 bytes, a row being one vector; with at most three no sum passes a byte.
 #[tactic(auto, using(crate::proofs::BitLaws::low_most, crate::proofs::BitLaws::high_most, crate::proofs::BitLaws::both_most, crate::proofs::BitLaws::column_none, crate::proofs::BitLaws::column_more, crate::proofs::BitLaws::column_room, crate::proofs::BitLaws::rows_none, crate::proofs::BitLaws::rows_more_law, crate::proofs::BitLaws::rows_room, crate::proofs::BitLaws::rows_all))]
 fn count_rows<const ROWS: usize>(file: &[u8], at: usize) -> BitCounts
     requires { (at + 16 * ROWS ≤ length file.now) × (ROWS ≤ 3) }
