@@ -52,7 +52,7 @@ module _ (byte_count iids : ℕ) (later : Answer) where
   unfolding check_bytes
   bytes_done d = eqb-true byte_count (block_width iids) (check_done (eqb byte_count (block_width iids)) 16 later d).0
 
--- ---- decoding: the width w was worked out
+-- ---- decoding
 module _ (byte_count iids val_length : ℕ) where
   pub decode_too_large : count_limit < iids → decode_answer byte_count iids val_length ≡ refused 18 []
   unfolding decode_answer
@@ -63,14 +63,14 @@ module _ (byte_count iids val_length : ℕ) where
     unfolding decode_answer
     decode_mismatch n = column_mismatch iids val_length _ h n
 
-    module _ (e : val_length ≡ iids) (w : ℕ) (f : w ≡ block_width iids) where
-      pub decode_length : (byte_count ≡ w → ⊥) → decode_answer byte_count iids val_length ≡ refused 16 []
+    module _ (e : val_length ≡ iids) where
+      pub decode_length : (byte_count ≡ block_width iids → ⊥) → decode_answer byte_count iids val_length ≡ refused 16 []
       unfolding decode_answer
-      decode_length n = column_passes iids val_length _ h e ∙ bytes_refuse byte_count iids _ (λ g. n (g ∙ sym f))
+      decode_length n = column_passes iids val_length _ h e ∙ bytes_refuse byte_count iids _ n
 
-      pub decode_done : byte_count ≡ w → decode_answer byte_count iids val_length ≡ done []
+      pub decode_done : byte_count ≡ block_width iids → decode_answer byte_count iids val_length ≡ done []
       unfolding decode_answer
-      decode_done g = column_passes iids val_length _ h e ∙ bytes_pass byte_count iids _ (g ∙ f)
+      decode_done g = column_passes iids val_length _ h e ∙ bytes_pass byte_count iids _ g
 
   -- what is known where nothing was refused
   pub decodable : is_done (decode_answer byte_count iids val_length) ≡ true → (val_length ≡ iids) × (byte_count ≡ block_width iids)
@@ -81,8 +81,8 @@ module _ (byte_count iids val_length : ℕ) where
   decodable_width t = let p = decodable (sym (ap is_done t)) in p.1 ∙ ap block_width (sym p.0)
 
 -- ---- an animal's byte
-pub byte_below : (byte_count iids w iid : ℕ) → w ≡ block_width iids → byte_count ≡ w → iid < iids → iid / 4 < byte_count
-byte_below byte_count iids w iid f e h = let r = (width_room iids).0 in omega arith
+pub byte_below : (iids iid : ℕ) → iid < iids → iid / 4 < block_width iids
+byte_below iids iid h = let r = (width_room iids).0 in omega arith
 
 -- ---- the code of an animal
 module _ (bytes : List ℕ) (iids iid : ℕ) where
@@ -90,23 +90,22 @@ module _ (bytes : List ℕ) (iids iid : ℕ) where
   unfolding code_answer
   code_too_large h = count_refuses iids _ h
 
-  module _ (h : iids ≤ count_limit) (w : ℕ) (f : w ≡ block_width iids) where
-    pub code_length : (length bytes ≡ w → ⊥) → code_answer bytes iids iid ≡ refused 16 []
+  module _ (h : iids ≤ count_limit) where
+    pub code_length : (length bytes ≡ block_width iids → ⊥) → code_answer bytes iids iid ≡ refused 16 []
     unfolding code_answer
-    code_length n = count_passes iids _ h ∙ bytes_refuse (length bytes) iids _ (λ g. n (g ∙ sym f))
+    code_length n = count_passes iids _ h ∙ bytes_refuse (length bytes) iids _ n
 
-    module _ (e : length bytes ≡ w) where
-      pub code_found : iid < iids → (code : ℕ) → code ≡ code_at (get_or bytes (iid / 4) 0) (iid % 4) → code_answer bytes iids iid ≡ done (pos code ∷ [])
+    module _ (e : length bytes ≡ block_width iids) where
+      pub code_found : iid < iids → code_answer bytes iids iid ≡ done (pos (code_at (get_or bytes (iid / 4) 0) (iid % 4)) ∷ [])
       unfolding code_answer first_bad is_good item_code
-      code_found b code c =
+      code_found b =
           count_passes iids _ h
-          ∙ bytes_pass (length bytes) iids _ (e ∙ f)
+          ∙ bytes_pass (length bytes) iids _ e
           ∙ entry_passes (first_bad iids (pos iid ∷ [])) 5 (done (pos (item_code bytes iid) ∷ [])) (rw (lt-ltb iid iids b))
-          ∙ ap (λ (k : ℕ). done (pos k ∷ [])) (sym c)
 
       pub code_bad : iids ≤ iid → code_answer bytes iids iid ≡ refused 5 (pos iid ∷ [])
       unfolding code_answer first_bad is_good
       code_bad b =
           count_passes iids _ h
-          ∙ bytes_pass (length bytes) iids _ (e ∙ f)
+          ∙ bytes_pass (length bytes) iids _ e
           ∙ entry_refuses (first_bad iids (pos iid ∷ [])) 5 (done (pos (item_code bytes iid) ∷ [])) (pos iid) (rw (le-ltb iid iids b))
