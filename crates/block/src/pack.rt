@@ -1,5 +1,5 @@
 // Packing a block.
-ghost use Rattle.std.specs.Prelude.{◌≡◌, length};
+ghost use Rattle.std.specs.Prelude.{◌≡◌};
 ghost use Rattle.bed_write.specs.Says.{encode_refusal};
 ghost use Rattle.block.specs.Blocks.{Packs};
 ghost use Rattle.block.specs.Says.{pack_says, pack_refusal};
