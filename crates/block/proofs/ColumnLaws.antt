@@ -10,15 +10,9 @@ use Rattle.answer.specs.Answer.{done, refused, is_done}
 use Rattle.codes.specs.Code.{code_at, item_code}
 use Rattle.codes.specs.Value.{Width, value_of}
 use Rattle.answer.proofs.AnswerLaws.{new_if_done, old_if_not}
-use Rattle.codes.proofs.CodeLaws.{item_below}
 use Rattle.answer.proofs.Tabulate.{is_tabulate, stored_more}
 use Rattle.block.specs.Blocks.{decode_answer, column_of, decode_buffer}
 use Rattle.block.proofs.CheckLaws.{decodable}
-
--- the code of an item is one of four
-pub code_inside : (bytes : List ℕ) (k : ℕ) → code_at (get_or bytes (k / 4) 0) (k % 4) < 4
-unfolding item_code
-code_inside bytes k = item_below bytes k
 
 module _ {V : Type 0} (w : Width V) (flag : Bool) (missing : V) (bytes : List ℕ) where
   -- ---- a column that is filled animal by animal: places 0 to k − 1 have their values

@@ -81,7 +81,7 @@ impl<'a> MarkerBlock<'a> {
     }
 
     // The value of each animal's code.
-    #[tactic(auto, using(crate::proofs::CheckLaws::byte_below, crate::proofs::ColumnLaws::code_inside, crate::proofs::ColumnLaws::filled_none, crate::proofs::ColumnLaws::filled_more, crate::proofs::ColumnLaws::column_by_values), unfolding(codes::specs::Value::value_of))]
+    #[tactic(auto, using(crate::proofs::CheckLaws::byte_below, codes::proofs::CodeLaws::code_below, crate::proofs::ColumnLaws::filled_none, crate::proofs::ColumnLaws::filled_more, crate::proofs::ColumnLaws::column_by_values), unfolding(codes::specs::Value::value_of))]
     fn fill_column<T: BedVal>(self, coding: Coding<T>, out: &mut [T])
         requires { length self.bytes.now ≡ block_width (length out.old) }
         ensures { out.new ≡ column_of T.width coding.is_a1_counted coding.missing self.entry.bytes.now (length out.old) }
