@@ -16,28 +16,6 @@ use Rattle.answer.proofs.AnswerLaws.{check_passes, check_refuses, check_done, en
 use Rattle.codes.proofs.CodeLaws.{width_room}
 use Rattle.block.specs.Blocks.{check_bytes, check_column, code_answer, decode_answer}
 
--- ---- 18 and 15
-module _ (iids val_length : ℕ) (later : Answer) where
-  pub column_too_large : count_limit < iids → check_column iids val_length later ≡ refused 18 []
-  unfolding check_column
-  column_too_large h = count_refuses iids _ h
-
-  module _ (h : iids ≤ count_limit) where
-    pub column_mismatch : (val_length ≡ iids → ⊥) → check_column iids val_length later ≡ refused 15 []
-    unfolding check_column
-    column_mismatch n = count_passes iids _ h ∙ check_refuses (eqb val_length iids) 15 later (ne_eqb val_length iids n)
-
-    pub column_passes : val_length ≡ iids → check_column iids val_length later ≡ later
-    unfolding check_column
-    column_passes e = count_passes iids _ h ∙ check_passes (eqb val_length iids) 15 later (eq-eqb val_length iids e)
-
-  pub column_done : is_done (check_column iids val_length later) ≡ true → (iids ≤ count_limit) × (val_length ≡ iids) × (is_done later ≡ true)
-  unfolding check_column
-  column_done d =
-      let c = count_done iids _ d in
-      let p = check_done (eqb val_length iids) 15 later c.1 in
-      (c.0, eqb-true val_length iids p.0, p.1)
-
 -- ---- 16
 module _ (byte_count iids : ℕ) (later : Answer) where
   pub bytes_refuse : (byte_count ≡ block_width iids → ⊥) → check_bytes byte_count iids later ≡ refused 16 []
@@ -52,37 +30,41 @@ module _ (byte_count iids : ℕ) (later : Answer) where
   unfolding check_bytes
   bytes_done d = eqb-true byte_count (block_width iids) (check_done (eqb byte_count (block_width iids)) 16 later d).0
 
--- ---- decoding: the width w was worked out
+-- ---- decoding: 18, 15, 16
 module _ (byte_count iids val_length : ℕ) where
   pub decode_too_large : count_limit < iids → decode_answer byte_count iids val_length ≡ refused 18 []
-  unfolding decode_answer
-  decode_too_large h = column_too_large iids val_length _ h
+  unfolding decode_answer check_column
+  decode_too_large h = count_refuses iids _ h
 
   module _ (h : iids ≤ count_limit) where
     pub decode_mismatch : (val_length ≡ iids → ⊥) → decode_answer byte_count iids val_length ≡ refused 15 []
-    unfolding decode_answer
-    decode_mismatch n = column_mismatch iids val_length _ h n
+    unfolding decode_answer check_column
+    decode_mismatch n = count_passes iids _ h ∙ check_refuses (eqb val_length iids) 15 _ (ne_eqb val_length iids n)
 
-    module _ (e : val_length ≡ iids) (w : ℕ) (f : w ≡ block_width iids) where
-      pub decode_length : (byte_count ≡ w → ⊥) → decode_answer byte_count iids val_length ≡ refused 16 []
-      unfolding decode_answer
-      decode_length n = column_passes iids val_length _ h e ∙ bytes_refuse byte_count iids _ (λ g. n (g ∙ sym f))
+    module _ (e : val_length ≡ iids) where
+      after_15 : decode_answer byte_count iids val_length ≡ check_bytes byte_count iids (done [])
+      unfolding decode_answer check_column
+      after_15 = count_passes iids _ h ∙ check_passes (eqb val_length iids) 15 _ (eq-eqb val_length iids e)
 
-      pub decode_done : byte_count ≡ w → decode_answer byte_count iids val_length ≡ done []
-      unfolding decode_answer
-      decode_done g = column_passes iids val_length _ h e ∙ bytes_pass byte_count iids _ (g ∙ f)
+      pub decode_length : (byte_count ≡ block_width iids → ⊥) → decode_answer byte_count iids val_length ≡ refused 16 []
+      decode_length n = after_15 ∙ bytes_refuse byte_count iids _ n
+
+      pub decode_done : byte_count ≡ block_width iids → decode_answer byte_count iids val_length ≡ done []
+      decode_done g = after_15 ∙ bytes_pass byte_count iids _ g
 
   -- what is known where nothing was refused
   pub decodable : is_done (decode_answer byte_count iids val_length) ≡ true → (val_length ≡ iids) × (byte_count ≡ block_width iids)
-  unfolding decode_answer
-  decodable d = let p = column_done iids val_length _ d in (p.1, bytes_done byte_count iids _ p.2)
+  unfolding decode_answer check_column
+  decodable d =
+      let p = check_done (eqb val_length iids) 15 _ (count_done iids _ d).1 in
+      (eqb-true val_length iids p.0, bytes_done byte_count iids _ p.1)
 
   pub decodable_width : done [] ≡ decode_answer byte_count iids val_length → byte_count ≡ block_width val_length
   decodable_width t = let p = decodable (sym (ap is_done t)) in p.1 ∙ ap block_width (sym p.0)
 
 -- ---- an animal's byte
-pub byte_below : (byte_count iids w iid : ℕ) → w ≡ block_width iids → byte_count ≡ w → iid < iids → iid / 4 < byte_count
-byte_below byte_count iids w iid f e h = let r = (width_room iids).0 in omega arith
+pub byte_below : (iids iid : ℕ) → iid < iids → iid / 4 < block_width iids
+byte_below iids iid h = let r = (width_room iids).0 in omega arith
 
 -- ---- the code of an animal
 module _ (bytes : List ℕ) (iids iid : ℕ) where
@@ -90,23 +72,22 @@ module _ (bytes : List ℕ) (iids iid : ℕ) where
   unfolding code_answer
   code_too_large h = count_refuses iids _ h
 
-  module _ (h : iids ≤ count_limit) (w : ℕ) (f : w ≡ block_width iids) where
-    pub code_length : (length bytes ≡ w → ⊥) → code_answer bytes iids iid ≡ refused 16 []
+  module _ (h : iids ≤ count_limit) where
+    pub code_length : (length bytes ≡ block_width iids → ⊥) → code_answer bytes iids iid ≡ refused 16 []
     unfolding code_answer
-    code_length n = count_passes iids _ h ∙ bytes_refuse (length bytes) iids _ (λ g. n (g ∙ sym f))
+    code_length n = count_passes iids _ h ∙ bytes_refuse (length bytes) iids _ n
 
-    module _ (e : length bytes ≡ w) where
-      pub code_found : iid < iids → (code : ℕ) → code ≡ code_at (get_or bytes (iid / 4) 0) (iid % 4) → code_answer bytes iids iid ≡ done (pos code ∷ [])
+    module _ (e : length bytes ≡ block_width iids) where
+      pub code_found : iid < iids → code_answer bytes iids iid ≡ done (pos (code_at (get_or bytes (iid / 4) 0) (iid % 4)) ∷ [])
       unfolding code_answer first_bad is_good item_code
-      code_found b code c =
+      code_found b =
           count_passes iids _ h
-          ∙ bytes_pass (length bytes) iids _ (e ∙ f)
+          ∙ bytes_pass (length bytes) iids _ e
           ∙ entry_passes (first_bad iids (pos iid ∷ [])) 5 (done (pos (item_code bytes iid) ∷ [])) (rw (lt-ltb iid iids b))
-          ∙ ap (λ (k : ℕ). done (pos k ∷ [])) (sym c)
 
       pub code_bad : iids ≤ iid → code_answer bytes iids iid ≡ refused 5 (pos iid ∷ [])
       unfolding code_answer first_bad is_good
       code_bad b =
           count_passes iids _ h
-          ∙ bytes_pass (length bytes) iids _ (e ∙ f)
+          ∙ bytes_pass (length bytes) iids _ e
           ∙ entry_refuses (first_bad iids (pos iid ∷ [])) 5 (done (pos (item_code bytes iid) ∷ [])) (pos iid) (rw (le-ltb iid iids b))

@@ -79,7 +79,7 @@ module _ {V : Type 0} (w : Width V) (flag : Bool) (missing : V) (iids : ℕ) (va
 
   decoded : decode_answer (length new) iids (length out) ≡ done []
   decoded =
-      decode_done (length new) iids (length out) p.fits l (block_width iids) refl
+      decode_done (length new) iids (length out) p.fits l
       (ap length (filled iids (length val) code old d) ∙ block_length iids code)
 
   small : (k : ℕ) → or_zero (code k) < 4
