@@ -11,17 +11,13 @@ use Rattle.answer.proofs.Tabulate.{get_d_tabulate}
 use Rattle.codes.specs.Code.{code_at}
 use Rattle.codes.proofs.CodeLaws.{place_code_law}
 use Rattle.call_counts.specs.declared.bits.BitCounts.{BitCounts}
-use Rattle.call_counts.specs.Private.{total, total_items, in_byte, weight, tally, tally_items, low_bit, high_bit, both_bits, BitsCounted, Ordered, bits_sum, TallyOf}
+use Rattle.call_counts.specs.Private.{total, total_items, in_byte, placed, weight, tally, tally_items, low_bit, high_bit, both_bits, BitsCounted, Ordered, bits_sum, TallyOf}
 use Rattle.call_counts.proofs.TallyLaws.{total_ext}
 use Rattle.call_counts.proofs.BlockLaws.{byte_more}
 
 -- ---- a byte, by one computed test over all of them
 same_below : (n : ℕ) (f g : ℕ → ℕ) → tabulate n f ≡ tabulate n g → (x : ℕ) → x < n → f x ≡ g x
 same_below n f g e x h = sym (get_d_tabulate n f x 0 h) ∙ ap (λ (l : List ℕ). get_or l x 0) e ∙ get_d_tabulate n g x 0 h
-
--- the byte that has h of each code in the place of the code
-abbrev placed : (ℕ → ℕ) → ℕ → ℕ
-placed h byte = h (code_at byte 0) + 4 * h (code_at byte 1) + 16 * h (code_at byte 2) + 64 * h (code_at byte 3)
 
 abbrev pairs : ℕ → ℕ
 pairs x = bit_and x 51 + bit_and (x / 4) 51
@@ -30,89 +26,44 @@ pub codes_sum : (x : ℕ) → x < 256 → bit_and (pairs x) 15 + pairs x / 16 �
 unfolding in_byte code_at tabulate
 codes_sum = same_below 256 (λ x. bit_and (pairs x) 15 + pairs x / 16) (in_byte (λ code. code)) refl
 
-low_placed : (x : ℕ) → x < 256 → bit_and x 85 ≡ placed low_bit x
+pub low_placed : (x : ℕ) → x < 256 → bit_and x 85 ≡ placed low_bit x
 unfolding low_bit code_at tabulate
 low_placed = same_below 256 (λ x. bit_and x 85) (placed low_bit) refl
 
-pub high_low : (x : ℕ) → x < 256 → in_byte low_bit (x / 2) ≡ in_byte high_bit x
-unfolding in_byte low_bit high_bit code_at tabulate
-high_low = same_below 256 (λ x. in_byte low_bit (x / 2)) (in_byte high_bit) refl
+pub high_low : (x : ℕ) → x < 256 → placed low_bit (x / 2) ≡ placed high_bit x
+unfolding low_bit high_bit code_at tabulate
+high_low = same_below 256 (λ x. placed low_bit (x / 2)) (placed high_bit) refl
 
-pub both_low : (x : ℕ) → x < 256 → in_byte low_bit (bit_and x (x / 2)) ≡ in_byte both_bits x
-unfolding in_byte low_bit both_bits code_at tabulate
-both_low = same_below 256 (λ x. in_byte low_bit (bit_and x (x / 2))) (in_byte both_bits) refl
+pub both_low : (x : ℕ) → x < 256 → placed low_bit (bit_and x (x / 2)) ≡ placed both_bits x
+unfolding low_bit both_bits code_at tabulate
+both_low = same_below 256 (λ x. placed low_bit (bit_and x (x / 2))) (placed both_bits) refl
 
--- ---- each is 0 or 1, and 0 of code 0
-pub record Bit (h : ℕ → ℕ) : Type 0 where
-  pub most : (code : ℕ) → h code ≤ 1
-  pub none : h 0 ≡ 0
+-- ---- each is 0 or 1
+abbrev pub Bit : (ℕ → ℕ) → Type 0
+Bit h = (code : ℕ) → h code ≤ 1
 
-low_most : (code : ℕ) → low_bit code ≤ 1
+pub low_most : Bit low_bit
 unfolding low_bit
 low_most zero = omega arith
 low_most (suc zero) = omega arith
 low_most (suc (suc zero)) = omega arith
 low_most (suc (suc (suc n))) = omega arith
 
-high_most : (code : ℕ) → high_bit code ≤ 1
+pub high_most : Bit high_bit
 unfolding high_bit
 high_most zero = omega arith
 high_most (suc zero) = omega arith
 high_most (suc (suc n)) = omega arith
 
-both_most : (code : ℕ) → both_bits code ≤ 1
+pub both_most : Bit both_bits
 unfolding both_bits
 both_most zero = omega arith
 both_most (suc zero) = omega arith
 both_most (suc (suc zero)) = omega arith
 both_most (suc (suc (suc n))) = omega arith
 
-pub is_low : Bit low_bit
-unfolding low_bit
-is_low = record { most = low_most; none = refl }
-
-pub is_high : Bit high_bit
-unfolding high_bit
-is_high = record { most = high_most; none = refl }
-
-pub is_both : Bit both_bits
-unfolding both_bits
-is_both = record { most = both_most; none = refl }
-
-none_in_zero : (h : ℕ → ℕ) → Bit h → in_byte h 0 ≡ 0
-unfolding in_byte code_at
-none_in_zero h b = let n = b.none in omega arith
-
--- ---- three bytes
--- the sum of four codes put together
-module _ (a b c d : ℕ) (ha : a < 4) (hb : b < 4) (hc : c < 4) (hd : d < 4) where
-  abbrev four_put : ℕ
-  four_put = a + 4 * b + 16 * c + 64 * d
-
-  four_codes : in_byte (λ code. code) four_put ≡ a + b + c + d
-  unfolding in_byte
-  four_codes = let p = place_code_law a b c d ha hb hc hd in cc (p.0, p.1, p.2, p.3)
-
-module _ (x y z : ℕ) (hx : x < 256) (hy : y < 256) (hz : z < 256) where
-  abbrev lows : ℕ → ℕ
-  lows p = low_bit (code_at x p) + low_bit (code_at y p) + low_bit (code_at z p)
-
-  lows_most : (p : ℕ) → lows p < 4
-  lows_most p = omega (arith, low_most (code_at x p), low_most (code_at y p), low_most (code_at z p))
-
-  three_placed : bit_and x 85 + bit_and y 85 + bit_and z 85 ≡ lows 0 + 4 * lows 1 + 16 * lows 2 + 64 * lows 3
-  three_placed = omega (arith, low_placed x hx, low_placed y hy, low_placed z hz)
-
-  pub three_most : bit_and x 85 + bit_and y 85 + bit_and z 85 < 256
-  three_most = omega (arith, three_placed, lows_most 0, lows_most 1, lows_most 2, lows_most 3)
-
-  pub three_low : in_byte (λ code. code) (bit_and x 85 + bit_and y 85 + bit_and z 85) ≡ in_byte low_bit x + in_byte low_bit y + in_byte low_bit z
-  unfolding in_byte
-  three_low =
-      ap (in_byte (λ code. code)) three_placed ∙ four_codes (lows 0) (lows 1) (lows 2) (lows 3) (lows_most 0) (lows_most 1) (lows_most 2) (lows_most 3) ∙ omega arith
-
 -- ---- sums over codes
-total_most : (h code : ℕ → ℕ) → ((x : ℕ) → h x ≤ 1) → (n : ℕ) → total h code n ≤ n
+total_most : (h code : ℕ → ℕ) → Bit h → (n : ℕ) → total h code n ≤ n
 unfolding total
 total_most h code m zero = omega arith
 total_most h code m (suc n) = omega (arith, total_most h code m n, m (code n))
@@ -136,54 +87,105 @@ module _ (h : ℕ → ℕ) (file : List ℕ) where
       ∙ ap (λ (x : ℕ). total_items h file start (4 * w) + x) (total_ext h _ _ n (λ k l. item_on start w k))
 
   items_most : Bit h → (start n : ℕ) → total_items h file start n ≤ n
-  items_most m start n = total_most h (λ i. code_at (get_or file (start + i / 4) 0) (i % 4)) m.most n
+  items_most m start n = total_most h (λ i. code_at (get_or file (start + i / 4) 0) (i % 4)) m n
 
-  -- ---- j bytes of a row
-  pub row_none : (at : ℕ) → 0 ≡ total_items h file at 0
+-- ---- so many rows of 16 bytes
+-- the sum of four codes put together
+module _ (a b c d : ℕ) (ha : a < 4) (hb : b < 4) (hc : c < 4) (hd : d < 4) where
+  abbrev four_put : ℕ
+  four_put = a + 4 * b + 16 * c + 64 * d
+
+  four_codes : in_byte (λ code. code) four_put ≡ a + b + c + d
+  unfolding in_byte
+  four_codes = let p = place_code_law a b c d ha hb hc hd in cc (p.0, p.1, p.2, p.3)
+
+module _ (h : ℕ → ℕ) (file : List ℕ) (at : ℕ) where
+  -- byte j of row r
+  abbrev byte_of : ℕ → ℕ → ℕ
+  byte_of j r = get_or file (at + 16 * r + j) 0
+
+  -- the sum of the bytes j of r rows, each with h of each code in the code's place
+  abbrev pub column : ℕ → ℕ → ℕ
+  column j r = total (placed h) (byte_of j) r
+
+  -- the sum of h over the codes at place p of those bytes
+  abbrev lane : ℕ → ℕ → ℕ → ℕ
+  lane j p r = total h (λ k. code_at (byte_of j k) p) r
+
+  lanes : (j r : ℕ) → column j r ≡ lane j 0 r + 4 * lane j 1 r + 16 * lane j 2 r + 64 * lane j 3 r
   unfolding total
-  row_none at = refl
+  lanes j zero = omega arith
+  lanes j (suc r) = omega (arith, lanes j r)
 
-  module _ (at j sum more x : ℕ) (m : Bit h) (e : sum ≡ total_items h file at (4 * j)) (f : more ≡ in_byte h x + in_byte h 0 + in_byte h 0)
-      (ex : x ≡ get_or file (at + j) 0) where
-    pub row_more_law : sum + more ≡ total_items h file at (4 * (j + 1))
-    row_more_law = omega (arith, e, f, byte_more file at h j x ex, none_in_zero h m)
+  lane_most : Bit h → (j p r : ℕ) → lane j p r ≤ r
+  lane_most m j p r = total_most h (λ k. code_at (byte_of j k) p) m r
 
-    pub row_room : j < 16 → sum + more < 256
-    row_room l = omega (arith, row_more_law, items_most m at (4 * (j + 1)))
+  column_codes : Bit h → (j r : ℕ) → r ≤ 3 → in_byte (λ code. code) (column j r) ≡ lane j 0 r + lane j 1 r + lane j 2 r + lane j 3 r
+  column_codes m j r l =
+      let a : (p : ℕ) → lane j p r < 4 = λ p. omega (arith, lane_most m j p r) in
+      ap (in_byte (λ code. code)) (lanes j r) ∙ four_codes (lane j 0 r) (lane j 1 r) (lane j 2 r) (lane j 3 r) (a 0) (a 1) (a 2) (a 3)
 
-  -- ---- j bytes of each of three rows of 16
+  pub column_none : (j : ℕ) → 0 ≡ column j 0
+  unfolding total
+  column_none j = refl
+
+  -- the byte of one row more
+  module _ (m : Bit h) (j r sum more x : ℕ) (e : sum ≡ column j r) (f : more ≡ placed h x) (ex : x ≡ byte_of j r) where
+    pub column_more : sum + more ≡ column j (r + 1)
+    unfolding total
+    column_more =
+        let n : r + 1 ≡ suc r = omega arith in
+        let s = ap (column j) n in
+        let g = ap (placed h) ex in
+        omega (arith, e, f, g, s)
+
+    pub column_room : (rows : ℕ) → r < rows → rows ≤ 3 → sum + more < 256
+    column_room rows l b =
+        omega (arith, column_more, lanes j (r + 1), lane_most m j 0 (r + 1), lane_most m j 1 (r + 1), lane_most m j 2 (r + 1), lane_most m j 3 (r + 1))
+
+  -- the first j bytes of each of so many rows
   abbrev pub in_rows : ℕ → ℕ → ℕ
-  in_rows at j = total_items h file at (4 * j) + total_items h file (at + 16) (4 * j) + total_items h file (at + 32) (4 * j)
+  in_rows rows j = total (λ r. total_items h file (at + 16 * r) (4 * j)) (λ r. r) rows
 
-  pub rows_none : (at : ℕ) → 0 ≡ in_rows at 0
+  pub rows_none : (rows : ℕ) → 0 ≡ in_rows rows 0
   unfolding total
-  rows_none at = refl
+  rows_none zero = refl
+  rows_none (suc rows) = omega (arith, rows_none rows)
+
+  lanes_more : (rows j : ℕ) → in_rows rows (j + 1) ≡ in_rows rows j + (lane j 0 rows + lane j 1 rows + lane j 2 rows + lane j 3 rows)
+  unfolding total in_byte
+  lanes_more zero j = omega arith
+  lanes_more (suc rows) j = omega (arith, lanes_more rows j, byte_more file (at + 16 * rows) h j (byte_of j rows) refl)
+
+  rows_most : Bit h → (rows j : ℕ) → j ≤ 16 → in_rows rows j ≤ 64 * rows
+  unfolding total
+  rows_most m zero j l = omega arith
+  rows_most m (suc rows) j l = omega (arith, rows_most m rows j l, items_most h file m (at + 16 * rows) (4 * j))
 
   -- one byte more of each
-  module _ (at j sum more x y z : ℕ) (m : Bit h) (e : sum ≡ in_rows at j) (f : more ≡ in_byte h x + in_byte h y + in_byte h z) (ex : x ≡ get_or file (at + j) 0)
-      (ey : y ≡ get_or file (at + 16 + j) 0) (ez : z ≡ get_or file (at + 32 + j) 0) where
-    pub rows_more_law : sum + more ≡ in_rows at (j + 1)
+  module _ (m : Bit h) (rows r j sum bits more : ℕ) (e : sum ≡ in_rows rows j) (f : bits ≡ column j r) (g : more ≡ in_byte (λ code. code) bits)
+      (er : r ≡ rows) (l : rows ≤ 3) where
+    pub rows_more_law : sum + more ≡ in_rows rows (j + 1)
     rows_more_law =
-        let p = byte_more file at h j x ex in
-        let q = byte_more file (at + 16) h j y ey in
-        let r = byte_more file (at + 32) h j z ez in
-        omega (arith, e, f, p, q, r)
+        let c = ap (in_byte (λ code. code)) (f ∙ ap (column j) er) ∙ column_codes m j rows l in
+        omega (arith, e, g, c, lanes_more rows j)
 
     pub rows_room : j < 16 → sum + more < 256
-    rows_room l =
-        let r = rows_more_law in
-        let x = items_most m at (4 * (j + 1)) in
-        let y = items_most m (at + 16) (4 * (j + 1)) in
-        let z = items_most m (at + 32) (4 * (j + 1)) in
-        omega (arith, r, x, y, z)
+    rows_room b = omega (arith, rows_more_law, rows_most m rows (j + 1) (omega arith))
 
-  pub rows_all : (at sum : ℕ) → sum ≡ in_rows at 16 → sum ≡ total_items h file at 192
-  rows_all at sum e =
-      let p = items_add at 16 128 in
-      let q = items_add (at + 16) 16 64 in
-      let r : at + 16 + 16 ≡ at + 32 = omega arith in
-      let s = ap (λ (x : ℕ). total_items h file x 64) r in
-      omega (arith, e, p, q, s)
+  all_rows : (rows : ℕ) → in_rows rows 16 ≡ total_items h file at (64 * rows)
+  unfolding total
+  all_rows zero = refl
+  all_rows (suc rows) =
+      let p = items_add h file at (16 * rows) 64 in
+      let a : 64 * suc rows ≡ 4 * (16 * rows) + 64 = omega arith in
+      let b : 4 * (16 * rows) ≡ 64 * rows = omega arith in
+      let s = ap (total_items h file at) a in
+      let t = ap (total_items h file at) b in
+      omega (arith, p, s, t, all_rows rows)
+
+  pub rows_all : (rows j sum : ℕ) → sum ≡ in_rows rows j → j ≡ 16 → sum ≡ total_items h file at (64 * rows)
+  rows_all rows j sum e f = e ∙ ap (in_rows rows) f ∙ all_rows rows
 
 -- ---- rows so far
 module _ (file : List ℕ) (start : ℕ) where
@@ -267,9 +269,9 @@ module _ (code : ℕ → ℕ) where
 module _ (file : List ℕ) (start n : ℕ) (bits : BitCounts) (r : BitsCounted file start n bits) where
   pub counted_most : (bits.low ≤ n) × (bits.high ≤ n) × (bits.both ≤ n)
   counted_most =
-      let a = items_most low_bit file is_low start n in
-      let b = items_most high_bit file is_high start n in
-      let c = items_most both_bits file is_both start n in
+      let a = items_most low_bit file low_most start n in
+      let b = items_most high_bit file high_most start n in
+      let c = items_most both_bits file both_most start n in
       (omega (arith, r.low_is), omega (arith, r.high_is), omega (arith, r.both_is))
 
   pub counted_order : Ordered n bits

@@ -22,6 +22,10 @@ total_items h file start n = total h (λ i. code_at (get_or file (start + i / 4)
 unfoldable pub in_byte : (ℕ → ℕ) → ℕ → ℕ
 in_byte h byte = h (code_at byte 0) + h (code_at byte 1) + h (code_at byte 2) + h (code_at byte 3)
 
+-- the byte that has h of each code in the place of the code
+abbrev pub placed : (ℕ → ℕ) → ℕ → ℕ
+placed h byte = h (code_at byte 0) + 4 * h (code_at byte 1) + 16 * h (code_at byte 2) + 64 * h (code_at byte 3)
+
 -- ---- tallies: the four counts of up to 65,535 codes in one number, 16 bits each, in the order of a marker's places
 -- the weight of a code
 unfoldable pub weight : ℕ → ℕ

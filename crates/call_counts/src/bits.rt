@@ -1,6 +1,6 @@
 // The two bits of each code, counted in many bytes at once.
 ghost use Rattle.std.specs.Prelude.{◌≡◌, ◌+◌, ◌-◌, ◌*◌, ◌^◌, ◌<◌, ◌≤◌, length};
-ghost use Rattle.call_counts.specs.Private.{in_byte, low_bit, high_bit, both_bits, BitsCounted, Ordered, bits_sum, TallyOf, tally_items};
+ghost use Rattle.call_counts.specs.Private.{in_byte, placed, low_bit, high_bit, both_bits, BitsCounted, Ordered, bits_sum, TallyOf, tally_items};
 
 // How many codes have the low bit, the high bit, and both.
 #[derive(Clone, Copy)]
@@ -45,68 +45,52 @@ fn sum_of_codes(byte: u8) -> u8
     (pairs & 0x0F) + (pairs >> 4)
 }
 
-// How many codes of three bytes have the low bit.
-#[tactic(auto, using(crate::proofs::BitLaws::three_low, crate::proofs::BitLaws::three_most))]
-fn low_bits(x: u8, y: u8, z: u8) -> u8
-    ensures { result ≡ in_byte low_bit x + in_byte low_bit y + in_byte low_bit z }
+// The low bits of the codes of a byte, each in its code's place.
+#[tactic(auto, using(crate::proofs::BitLaws::low_placed))]
+fn low_bits(x: u8) -> u8
+    ensures { result ≡ placed low_bit x }
 {
-    sum_of_codes((x & 0x55) + (y & 0x55) + (z & 0x55))
+    x & 0x55
 }
 
-// The high bit.
+// The high bits.
 #[tactic(auto, using(crate::proofs::BitLaws::high_low))]
-fn high_bits(x: u8, y: u8, z: u8) -> u8
-    ensures { result ≡ in_byte high_bit x + in_byte high_bit y + in_byte high_bit z }
+fn high_bits(x: u8) -> u8
+    ensures { result ≡ placed high_bit x }
 {
-    low_bits(x >> 1, y >> 1, z >> 1)
+    low_bits(x >> 1)
 }
 
-// Both.
+// 1 where both bits are 1.
 #[tactic(auto, using(crate::proofs::BitLaws::both_low))]
-fn both_bits(x: u8, y: u8, z: u8) -> u8
-    ensures { result ≡ in_byte both_bits x + in_byte both_bits y + in_byte both_bits z }
+fn both_bits(x: u8) -> u8
+    ensures { result ≡ placed both_bits x }
 {
-    low_bits(x & (x >> 1), y & (y >> 1), z & (z >> 1))
+    low_bits(x & (x >> 1))
 }
 
-// The bits of a row of 16 bytes, which is one vector.
-#[tactic(auto, using(crate::proofs::BitLaws::is_low, crate::proofs::BitLaws::is_high, crate::proofs::BitLaws::is_both, crate::proofs::BitLaws::row_none, crate::proofs::BitLaws::row_more_law, crate::proofs::BitLaws::row_room))]
-fn count_row(file: &[u8], at: usize) -> BitCounts
-    requires { at + 16 ≤ length file.now }
-    ensures { BitsCounted file.now at 64 result }
+// The bits of neighbouring rows of 16 bytes, a row being one vector; with at most three no sum passes a byte.
+#[tactic(auto, using(crate::proofs::BitLaws::low_most, crate::proofs::BitLaws::high_most, crate::proofs::BitLaws::both_most, crate::proofs::BitLaws::column_none, crate::proofs::BitLaws::column_more, crate::proofs::BitLaws::column_room, crate::proofs::BitLaws::rows_none, crate::proofs::BitLaws::rows_more_law, crate::proofs::BitLaws::rows_room, crate::proofs::BitLaws::rows_all))]
+fn count_rows<const ROWS: usize>(file: &[u8], at: usize) -> BitCounts
+    requires { (at + 16 * ROWS ≤ length file.now) × (ROWS ≤ 3) }
+    ensures { BitsCounted file.now at (64 * ROWS) result }
 {
     let mut low: u8 = 0;
     let mut high: u8 = 0;
     let mut both: u8 = 0;
     for j in 0..16 {
-        let x = file[at + j];
-        low = low + low_bits(x, 0, 0);
-        high = high + high_bits(x, 0, 0);
-        both = both + both_bits(x, 0, 0);
-    }
-    BitCounts {
-        low: u64::from(low),
-        high: u64::from(high),
-        both: u64::from(both),
-    }
-}
-
-// The bits of three rows together: no sum passes a byte.
-#[tactic(auto, using(crate::proofs::BitLaws::is_low, crate::proofs::BitLaws::is_high, crate::proofs::BitLaws::is_both, crate::proofs::BitLaws::rows_none, crate::proofs::BitLaws::rows_room))]
-fn count_three_rows(file: &[u8], at: usize) -> BitCounts
-    requires { at + 48 ≤ length file.now }
-    ensures { BitsCounted file.now at 192 result }
-{
-    let mut low: u8 = 0;
-    let mut high: u8 = 0;
-    let mut both: u8 = 0;
-    for j in 0..16 {
-        let x = file[at + j];
-        let y = file[at + 16 + j];
-        let z = file[at + 32 + j];
-        low = low + low_bits(x, y, z);
-        high = high + high_bits(x, y, z);
-        both = both + both_bits(x, y, z);
+        let mut lows: u8 = 0;
+        let mut highs: u8 = 0;
+        let mut boths: u8 = 0;
+        for r in 0..ROWS {
+            let x = file[at + 16 * r + j];
+            lows = lows + low_bits(x);
+            highs = highs + high_bits(x);
+            boths = boths + both_bits(x);
+        }
+        low = low + sum_of_codes(lows);
+        high = high + sum_of_codes(highs);
+        both = both + sum_of_codes(boths);
     }
     BitCounts {
         low: u64::from(low),
@@ -127,10 +111,10 @@ pub(crate) fn tally_rows(file: &[u8], start: usize, rows: usize) -> u64
     };
     let triples = rows / 3;
     for triple in 0..triples {
-        bits = bits.plus(count_three_rows(file, start + 48 * triple));
+        bits = bits.plus(count_rows::<3>(file, start + 48 * triple));
     }
     for row in 3 * triples..rows {
-        bits = bits.plus(count_row(file, start + 16 * row));
+        bits = bits.plus(count_rows::<1>(file, start + 16 * row));
     }
     bits.tally_of((64 * rows) as u64)
 }

@@ -6,7 +6,7 @@ use lib.Signed.{mag}
 use mir.ValLaws.{to_z-of_z}
 use Rattle.answer.specs.Answer.{done, refused, count_limit}
 use Rattle.entries.specs.Entry.{is_good, means, first_bad, least, greatest, byte_of, span, span_answer}
-use Rattle.entries.specs.Private.{IsSpan, Reaches}
+use Rattle.entries.specs.Private.{IsSpan, bytes_of}
 use Rattle.entries.proofs.EntryLaws.{means_below, pair_good}
 
 -- ---- the span of a list with one entry more
@@ -83,80 +83,42 @@ module _ (count : ℕ) where
       let o = least_most first bytes in
       (omega (arith, low, long, o), omega (arith, low, long, o, below))
 
--- ---- the step, over any places
+-- ---- the step, over items, whose bytes are the span's
 min_bytes : (a b : ℕ) → min a b / 4 ≡ min (a / 4) (b / 4)
 min_bytes a b = omega arith
 
 max_bytes : (a b : ℕ) → max a b / 4 ≡ max (a / 4) (b / 4)
 max_bytes a b = omega arith
 
-module _ (count : ℕ) where
-  -- a list with one entry more has no bad one exactly if neither it nor the list has
-  last_good : (es : List ℤ) (e : ℤ) → first_bad count es ≡ None → is_good count e ≡ true → first_bad count (es ++ (e ∷ [])) ≡ None
-  unfolding first_bad
-  last_good [] e f g = simp g refl
-  last_good (x ∷ xs) e f g = let p = pair_good (is_good count x) (first_bad count xs) x f in simp p.0 (last_good xs e p.1 g)
+pub item_next :
+    (count : ℕ) (es : List ℤ) (e : ℤ) (item lowest highest lowest' highest' : ℕ) → lowest' ≡ min lowest item → highest' ≡ max highest item → item ≡ means count e
+    → IsSpan count es (bytes_of (Some (lowest, highest))) → IsSpan count (es ++ (e ∷ [])) (bytes_of (Some (lowest', highest')))
+item_next count es e item lowest highest lowest' highest' a b q s =
+    span_next count e item q es _ _ _ _ (ap (λ (n : ℕ). n / 4) a ∙ min_bytes lowest item) (ap (λ (n : ℕ). n / 4) b ∙ max_bytes highest item) s
 
-  both_good : (es : List ℤ) (e : ℤ) → first_bad count (es ++ (e ∷ [])) ≡ None → (first_bad count es ≡ None) × (is_good count e ≡ true)
-  unfolding first_bad
-  both_good [] e f = (refl, (pair_good (is_good count e) None e f).0)
-  both_good (x ∷ xs) e f =
-      let p = pair_good (is_good count x) (first_bad count (xs ++ (e ∷ []))) x f in
-      let r = both_good xs e p.1 in
-      (simp p.0 r.0, r.1)
-
-  -- the entry e, whose place is p
-  module _ (e : ℤ) (p : ℕ) (t : (ltb p count ≡ is_good count e) × (is_good count e ≡ true → p ≡ means count e)) where
-    pub reaches_first : (es : List ℤ) → Reaches count es None → Reaches count (es ++ (e ∷ [])) (Some (p, p))
-    reaches_first es r =
-        record {
-          spans = λ f. let g = both_good es e f in span_first count e p (t.1 g.1) es (r.spans g.0);
-          tests = λ b. last_good es e (r.tests refl) (sym t.0 ∙ b);
-        }
-
-    pub reaches_next :
-        (es : List ℤ) (lowest highest lowest' highest' : ℕ) → lowest' ≡ min lowest p → highest' ≡ max highest p
-        → Reaches count es (Some (lowest, highest)) → Reaches count (es ++ (e ∷ [])) (Some (lowest', highest'))
-    reaches_next es lowest highest lowest' highest' a b r =
-        record {
-          spans =
-              λ f.
-              let g = both_good es e f in
-              span_next count e p (t.1 g.1) es _ _ _ _
-              (ap (λ (n : ℕ). n / 4) a ∙ min_bytes lowest p) (ap (λ (n : ℕ). n / 4) b ∙ max_bytes highest p) (r.spans g.0);
-          tests =
-              λ h.
-              let below : highest' < count = ltb-true highest' count h in
-              last_good es e (r.tests (lt-ltb highest count (omega (arith, below, b)))) (sym t.0 ∙ lt-ltb p count (omega (arith, below, b)));
-        }
-
--- ---- the walk: after i entries `sofar` is of the list that far
+-- ---- the walk: after i entries `sofar` is the span of the list that far
 module _ (count : ℕ) (list : List ℤ) where
   pub record Walked (i : ℕ) (sofar : Option (ℕ × ℕ)) : Type 0 where
     pub bound : i ≤ length list
-    pub far : Reaches count (take i list) sofar
+    pub far : IsSpan count (take i list) (bytes_of sofar)
 
   pub walked_none : Walked 0 None
-  unfolding span first_bad
-  walked_none = record { bound = omega arith; far = record { spans = λ _. refl; tests = λ _. refl } }
+  unfolding span
+  walked_none = record { bound = omega arith; far = refl }
 
   -- one step, known by its promise alone
   pub walked_more :
-      (i : ℕ) (sofar sofar' : Option (ℕ × ℕ)) → Walked i sofar → i < length list → mag (get_or list i (pos 0)) < 2 ^ 63
-      → ((before : List ℤ) → Reaches count before sofar → Reaches count (before ++ (to_z w64 (of_z w64 (get_or list i (pos 0))) ∷ [])) sofar')
+      (i : ℕ) (sofar sofar' : Option (ℕ × ℕ)) → Walked i sofar → i < length list
+      → ((before : List ℤ) → IsSpan count before (bytes_of sofar) → IsSpan count (before ++ (get_or list i (pos 0) ∷ [])) (bytes_of sofar'))
       → Walked (i + 1) sofar'
-  walked_more i sofar sofar' w h f step =
+  walked_more i sofar sofar' w h step =
       record {
         bound = omega arith;
-        far =
-            subst (λ (l : List ℤ). Reaches count l sofar')
-            (ap (λ (e : ℤ). take i list ++ (e ∷ [])) (to_z-of_z w64 (get_or list i (pos 0)) (record { sfits = f }))
-            ∙ sym (rw add-one (take-suc list i (pos 0) h)))
-            (step (take i list) w.far);
+        far = step (take i list) w.far ∙ ap (span count) (sym (rw add-one (take-suc list i (pos 0) h)));
       }
 
-  pub walked_all : (i : ℕ) (sofar : Option (ℕ × ℕ)) → Walked i sofar → length list ≤ i → Reaches count list sofar
-  walked_all i sofar w h = subst (λ (l : List ℤ). Reaches count l sofar) (take_all i list h) w.far
+  pub walked_all : (i : ℕ) (sofar : Option (ℕ × ℕ)) → Walked i sofar → length list ≤ i → IsSpan count list (bytes_of sofar)
+  walked_all i sofar w h = w.far ∙ ap (span count) (take_all i list h)
 
 -- ---- the answer of `byte_span`, by its tests
 module _ (count : ℕ) (list : List ℤ) where

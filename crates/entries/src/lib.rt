@@ -4,7 +4,7 @@
 ghost use Rattle.std.specs.Prelude.{◌≡◌, ℕ, Bool, true, false, List, [], ◌∷◌, ◌++◌, ℤ, nat_lt};
 ghost use Rattle.entries.specs.Entry.{is_good, means, first_bad, in_order, entry_answer, span_answer};
 ghost use Rattle.entries.specs.Says.{item_says, span_says};
-ghost use Rattle.entries.specs.Private.{Reaches};
+ghost use Rattle.entries.specs.Private.{IsSpan, bytes_of};
 
 // An animal's number and a marker's number, never one for the other.
 #[derive(Clone, Copy, Debug, PartialEq, Eq)]
@@ -162,22 +162,19 @@ pub enum SpanError {
     IidIndexTooBig(i64),
 }
 
-// The step: from the lowest and the highest place so far, none of nothing, to those of the list with the next entry. With a bad entry in the list the
-// highest is not below the count, as no place of a bad entry is.
-#[tactic(auto, using(crate::proofs::EntryLaws::placed, crate::proofs::SpanLaws::reaches_first, crate::proofs::SpanLaws::reaches_next))]
-fn widened(count: usize, sofar: Option<(usize, usize)>, entry: i64) -> Option<(usize, usize)>
-    ensures { (before : List ℤ) → Reaches count before sofar → Reaches count (before ++ (entry ∷ [])) result }
+// The step: the span so far and the next item, which some entry means, make the span of the list with that entry. A span so far is its lowest and its
+// highest item, and none of nothing.
+fn widened(sofar: Option<(usize, usize)>, item: usize) -> Option<(usize, usize)>
+    ensures { (count : ℕ) (before : List ℤ) (entry : ℤ) → item ≡ means count entry → IsSpan count before (bytes_of sofar)
+        → IsSpan count (before ++ (entry ∷ [])) (bytes_of result) }
 {
-    let next = place(count, entry);
     match sofar {
-        None => Some((next, next)),
-        Some((lowest, highest)) => Some((lowest.min(next), highest.max(next))),
+        None => Some((item, item)),
+        Some((lowest, highest)) => Some((lowest.min(item), highest.max(item))),
     }
 }
 
-// The byte span of a list, as its lowest byte and its length in bytes: one walk, in which each entry meets the step. A bad entry is looked for only
-// where the highest place is not below the count: with a test of each entry in the walk it took 2.0 nanoseconds an entry, and without 0.8.
-#[tactic(auto, using(crate::proofs::SpanLaws::span_too_large, crate::proofs::SpanLaws::walked_none, crate::proofs::SpanLaws::walked_more))]
+// The byte span of a list, as its lowest byte and its length in bytes: one walk, in which each entry is tested and meets the step.
 pub fn byte_span(count: usize, list: &[i64]) -> Result<(usize, usize), SpanError>
     ensures { span_says result ≡ span_answer count list.now }
 {
@@ -186,16 +183,15 @@ pub fn byte_span(count: usize, list: &[i64]) -> Result<(usize, usize), SpanError
     }
     let mut sofar = None;
     for &next in list {
-        sofar = widened(count, sofar, next);
+        let item = place(count, next);
+        if item >= count {
+            return Err(SpanError::IidIndexTooBig(next));
+        }
+        sofar = widened(sofar, item);
     }
     match sofar {
         None => Ok((0, 0)),
         Some((lowest, highest)) => {
-            if highest >= count {
-                if let Some(entry) = first_bad(count, list) {
-                    return Err(SpanError::IidIndexTooBig(entry));
-                }
-            }
             let lowest_byte = lowest / 4;
             let highest_byte = highest / 4;
             Ok((lowest_byte, highest_byte - lowest_byte + 1))

@@ -9,21 +9,21 @@ loop-triple-init c = bits_none _ _
 pub plus-bits-requires : goal.plus-bits-requires
 plus-bits-requires c =
     let a = counted_most _ _ _ _ c.loop-triple.invariant in
-    let b = counted_most _ _ _ _ c.count_three_rows.ensures in
+    let b = counted_most _ _ _ _ c.count_rows.ensures in
     (omega arith, omega arith, omega arith)
 
 pub loop-triple-preserved : goal.loop-triple-preserved
 loop-triple-preserved c =
-    bits_more _ _ (3 * c.loop-triple.triple) 3 _ _ _ _ _ _ c.plus-bits.ensures (omega arith) (omega arith) (omega arith) c.loop-triple.invariant c.count_three_rows.ensures
+    bits_more _ _ (3 * c.loop-triple.triple) 3 _ _ _ _ _ _ c.plus-bits.ensures (omega arith) (omega arith) (omega arith) c.loop-triple.invariant c.count_rows.ensures
 
 pub plus-bits-requires-in-loop-row : goal.plus-bits-requires-in-loop-row
 plus-bits-requires-in-loop-row c =
     let a = counted_most _ _ _ _ c.loop-row.invariant in
-    let b = counted_most _ _ _ _ c.count_row.ensures in
+    let b = counted_most _ _ _ _ c.count_rows-in-loop-row.ensures in
     (omega arith, omega arith, omega arith)
 
 pub loop-row-preserved : goal.loop-row-preserved
-loop-row-preserved c = bits_more _ _ c.loop-row.row 1 _ _ _ _ _ _ c.plus-bits-in-loop-row.ensures (omega arith) (omega arith) (omega arith) c.loop-row.invariant c.count_row.ensures
+loop-row-preserved c = bits_more _ _ c.loop-row.row 1 _ _ _ _ _ _ c.plus-bits-in-loop-row.ensures (omega arith) (omega arith) (omega arith) c.loop-row.invariant c.count_rows-in-loop-row.ensures
 
 pub tally_of-requires : goal.tally_of-requires
 tally_of-requires c =
