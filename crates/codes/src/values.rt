@@ -65,7 +65,7 @@ impl BedVal for f64 {
     }
 }
 
-// How values are coded: the flag, and the value that stands for missing.
+// How values are coded: the flag, and the value that stands for missing. The calls of the original keep the two as its parameters.
 #[derive(Clone, Copy)]
 pub struct Coding<T: BedVal> {
     pub is_a1_counted: bool,

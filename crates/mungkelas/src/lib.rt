@@ -1,4 +1,4 @@
-// The calls of the C interface, which mungkelas_c exports. Each is a thin function over the core's, whose result is told as a BedAnswer.
+// The calls of the C interface, which mungkelas_c exports. Each takes C's parameters, is a thin function over the core's, and tells its result as a BedAnswer.
 #![tactic(auto)]
 
 mod lists;
