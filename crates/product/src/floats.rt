@@ -1,4 +1,7 @@
 // Values made floats from their bytes, and looked at in them.
+//
+// Each function takes the bytes and a place, as `float_at` and `NoNan` of the specs do: of a slice from the place on, each contract would
+// have to be carried over to the bytes by a law at each call.
 ghost use Rattle.std.specs.Prelude.{◌≡◌, true, ◌+◌, ◌*◌, ◌^◌, ◌<◌, ◌≤◌, length, take, drop};
 ghost use Rattle.answer.specs.Lists.{tabulate};
 ghost use Rattle.product.specs.Values.{le_number, float_at};
