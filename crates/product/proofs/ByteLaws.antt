@@ -1,6 +1,6 @@
 -- Laws of the number that bytes make, and of the float that a number makes.
 use mathlib.Core.Path.{◌≡◌, refl, sym, ap, ◌∙◌, subst}
-use mathlib.Core.Bool.{Bool, true, false, not}
+use mathlib.Core.Bool.{Bool, not}
 use mathlib.Core.List.{List}
 use Prim.Native.Nat.{ℕ, suc, ◌+◌, ◌*◌, ◌%◌, ◌≤◌, ◌<◌}
 use native.Mathlib.Numerals.{add-one}
@@ -8,9 +8,9 @@ use native.Mathlib.Omega.{arith}
 use lib.ListN.{length, take, drop, get_or}
 use lib.Seq.{drop-cons}
 use lib.Dec.{T}
-use lib.Ieee.{Float, nan, inf, fin, Format, ones, hid, top, is_nan, nan_bits, of_bits, binary64}
-use lib.Ieee.Bits.{nan_bits_is, nan_bits_above}
-use borrow.Author.Tests.{lt-ltb, le-ltb}
+use lib.Ieee.{Format, ones, hid, top, nan_bits, of_bits, binary64}
+use lib.Ieee.Bits.{nan_bits_above}
+use borrow.Author.Tests.{le-ltb}
 use Rattle.product.specs.Values.{le_number, float_at}
 use Rattle.product.specs.Private.{NoNan}
 
@@ -28,16 +28,7 @@ pub eight_bytes : (l : List ℕ) (at : ℕ) → at + 8 ≤ length l
 unfolding le_number
 eight_bytes l at h = omega (arith, first_byte l at (at + 1) 7 (omega arith) refl, first_byte l (at + 1) (at + 2) 6 (omega arith) (omega arith), first_byte l (at + 2) (at + 3) 5 (omega arith) (omega arith), first_byte l (at + 3) (at + 4) 4 (omega arith) (omega arith), first_byte l (at + 4) (at + 5) 3 (omega arith) (omega arith), first_byte l (at + 5) (at + 6) 2 (omega arith) (omega arith), first_byte l (at + 6) (at + 7) 1 (omega arith) (omega arith), first_byte l (at + 7) (at + 8) 0 (omega arith) (omega arith))
 
--- a number is a NaN's pattern exactly if it is above infinity's, its sign left out
-nan_only : (x : Float) → is_nan x ≡ true → x ≡ nan
-unfolding is_nan
-nan_only nan e = refl
-nan_only (inf s) e = let z : ◌≡◌ {A = Bool} false true = e in cc
-nan_only (fin s m d) e = let z : ◌≡◌ {A = Bool} false true = e in cc
-
-pub pattern_nan : (f : Format) (n : ℕ) → ones f * hid f < n % top f → of_bits f n ≡ nan
-pattern_nan f n h = nan_only (of_bits f n) (sym (nan_bits_is f n) ∙ nan_bits_above f n ∙ lt-ltb (ones f * hid f) (n % top f) h)
-
+-- a number that is not above infinity's pattern, its sign left out, is no NaN's
 pub pattern_number : (f : Format) (n : ℕ) → n % top f ≤ ones f * hid f → T (not (nan_bits f n))
 pattern_number f n h = subst (λ (b : Bool). T (not b)) (sym (nan_bits_above f n ∙ le-ltb (ones f * hid f) (n % top f) h)) tt
 

@@ -1,10 +1,13 @@
 // Values made floats from their bytes, and looked at in them.
+//
+// Each function takes the bytes and a place, as `float_at` and `NoNan` of the specs do: of a slice from the place on, each contract would
+// have to be carried over to the bytes by a law at each call.
 ghost use Rattle.std.specs.Prelude.{◌≡◌, true, ◌+◌, ◌*◌, ◌^◌, ◌<◌, ◌≤◌, length, take, drop};
-ghost use Rattle.std.specs.Float.{binary64};
-ghost use Rattle.std.specs.Float.Ieee.{of_bits};
 ghost use Rattle.answer.specs.Lists.{tabulate};
 ghost use Rattle.product.specs.Values.{le_number, float_at};
 ghost use Rattle.product.specs.Private.{NoNan};
+
+use std::num;
 
 // The number of eight bytes from a place on, low byte first.
 #[tactic(auto, using(crate::proofs::ByteLaws::eight_bytes))]
@@ -24,24 +27,13 @@ pub(crate) fn eight_at(bytes: &[u8], at: usize) -> u64
     ])
 }
 
-// The f64 of a bit pattern. The language makes no float from a NaN's pattern, so that is tested first.
-#[tactic(auto, using(crate::proofs::ByteLaws::pattern_nan, crate::proofs::ByteLaws::pattern_number))]
-fn float_of_bits(n: u64) -> f64
-    ensures { result ≡ of_bits binary64 n }
-{
-    if n % 9223372036854775808 > 9218868437227405312 {
-        return 0.0 / 0.0;
-    }
-    f64::from_bits(n)
-}
-
 // The f64 of eight bytes from a place on.
 #[tactic(auto, using(crate::proofs::ByteLaws::float_of))]
 pub(crate) fn float_at(bytes: &[u8], at: usize) -> f64
     requires { at + 8 ≤ length bytes.now }
     ensures { result ≡ float_at bytes.now at }
 {
-    float_of_bits(eight_at(bytes, at))
+    num::f64_from_bits_with_nan(eight_at(bytes, at))
 }
 
 // Whether n neighbouring values are all finite. The others are counted, which takes no branch for each value.

@@ -1,11 +1,11 @@
 // Lines of values: where they stand, their values, and a tile of them.
-ghost use Rattle.std.specs.Prelude.{◌≡◌, true, ◌+◌, ◌*◌, ◌<◌, ◌≤◌, length, eqb};
+ghost use Rattle.std.specs.Prelude.{◌≡◌, true, ◌+◌, ◌-◌, ◌*◌, ◌<◌, ◌≤◌, length, eqb};
 ghost use Rattle.answer.specs.Lists.{tabulate};
 ghost use Rattle.product.specs.Private.{TileHas, RunsNoNan};
 ghost use Rattle.product.specs.Lent.{value_at, line_value};
 
 use crate::floats;
-use crate::lent::{Lines, Runs, Spaced};
+use crate::lent::{Lines, Rows, Runs, Spaced};
 
 impl<'a> Spaced<'a> {
     // Value i.
@@ -27,7 +27,8 @@ impl<'a> Spaced<'a> {
         }
     }
 
-    // `load_each` of eight values, each by a load of its own, so that the processor fetches each line ahead.
+    // `load_each` of eight values, each by a load of its own. By `load_each` A'A of width 2, 3 and 8 took 1.02 to 1.05 of the time
+    // (5,003 animals, 801 markers).
     #[tactic(auto, using(crate::proofs::InPlaceLaws::eight_filled))]
     fn load_eight(&self, dst: &mut [f64])
         requires { (length dst.old ≡ 8) × (self.now.count ≡ 8) }
@@ -102,34 +103,6 @@ impl<'a> Lines<'a> {
         }
     }
 
-    // Value k of lines r to r + m - 1.
-    fn across(&self, r: usize, m: usize, k: usize) -> Spaced<'a>
-        requires { (0 < m) × (r + m ≤ self.now.lines) × (k < self.now.terms) }
-        ensures { (result.count ≡ m) × (result.bytes.now ≡ self.now.bytes.now) × (result.step ≡ self.now.line)
-            × (result.at ≡ self.now.base + 8 * (r * self.now.line + k * self.now.step)) }
-    {
-        Spaced {
-            bytes: self.bytes,
-            at: self.place(r, k),
-            step: self.line,
-            count: m,
-        }
-    }
-
-    // The four values of lines r to r + m - 1, which are neighbours: value t of each is in run t.
-    pub(crate) fn runs(&self, r: usize, m: usize) -> Runs<'a>
-        requires { (self.now.line ≡ 1) × (self.now.terms ≡ 4) × (0 < m) × (r + m ≤ self.now.lines) }
-        ensures { (result.count ≡ m) × (result.bytes.now ≡ self.now.bytes.now) × (result.step ≡ self.now.step)
-            × (result.at ≡ self.now.base + 8 * (r * self.now.line + 0 * self.now.step)) }
-    {
-        Runs {
-            bytes: self.bytes,
-            at: self.place(r, 0),
-            step: self.step,
-            count: m,
-        }
-    }
-
     // The same lines with values k to k + n - 1 of each.
     pub(crate) fn part(&self, k: usize, n: usize) -> Lines<'a>
         requires { (0 < self.now.lines) × (0 < n) × (k + n ≤ self.now.terms) }
@@ -145,15 +118,46 @@ impl<'a> Lines<'a> {
             terms: n,
         }
     }
+}
 
-    // Loads a tile: value i of line r + j to x[i × g + j], for i below n and j below m.
-    pub(crate) fn load_tile(&self, n: usize, r: usize, m: usize, g: usize, x: &mut [f64])
-        requires { (0 < m) × (m ≤ g) × (n * g ≤ length x.old) × (r + m ≤ self.now.lines) × (n ≤ self.now.terms) }
-        ensures { TileHas x.new g (line_value self.now) r n m }
+impl<'a> Rows<'a> {
+    // Value k of each of their lines.
+    fn across(&self, k: usize) -> Spaced<'a>
+        requires { k < self.now.lines.now.terms }
+        ensures { (self.now.top + result.count ≡ self.now.bottom) × (result.bytes.now ≡ self.now.lines.now.bytes.now) × (result.step ≡ self.now.lines.now.line)
+            × (result.at ≡ self.now.lines.now.base + 8 * (self.now.top * self.now.lines.now.line + k * self.now.lines.now.step)) }
     {
+        Spaced {
+            bytes: self.lines.bytes,
+            at: self.lines.place(self.top, k),
+            step: self.lines.line,
+            count: self.bottom - self.top,
+        }
+    }
+
+    // The four values of their lines, which are neighbours: value t of each is in run t.
+    pub(crate) fn runs(&self) -> Runs<'a>
+        requires { (self.now.lines.now.line ≡ 1) × (self.now.lines.now.terms ≡ 4) }
+        ensures { (self.now.top + result.count ≡ self.now.bottom) × (result.bytes.now ≡ self.now.lines.now.bytes.now) × (result.step ≡ self.now.lines.now.step)
+            × (result.at ≡ self.now.lines.now.base + 8 * (self.now.top * self.now.lines.now.line + 0 * self.now.lines.now.step)) }
+    {
+        Runs {
+            bytes: self.lines.bytes,
+            at: self.lines.place(self.top, 0),
+            step: self.lines.step,
+            count: self.bottom - self.top,
+        }
+    }
+
+    // Loads a tile: value i of row j to x[i × g + j], for the first n values of each.
+    pub(crate) fn load_tile(&self, n: usize, g: usize, x: &mut [f64])
+        requires { (self.now.bottom - self.now.top ≤ g) × (n * g ≤ length x.old) × (n ≤ self.now.lines.now.terms) }
+        ensures { TileHas x.new g (line_value self.now.lines.now) self.now.top n (self.now.bottom - self.now.top) }
+    {
+        let m = self.bottom - self.top;
         for i in 0..n {
             let from = i * g;
-            self.across(r, m, i).load(&mut x[from..from + m]);
+            self.across(i).load(&mut x[from..from + m]);
         }
     }
 }

@@ -75,7 +75,8 @@ impl<'a> Tile<'a> {
 }
 
 impl<'a> Runs<'a> {
-    // Value j of run t, of runs in which none is a NaN.
+    // Value j of run t, of runs in which none is a NaN. That is a clause here and at `add_four`: a struct with it as a ghost field would
+    // be made in `add_products` only, anew for each column, and owe the same there.
     #[tactic(auto, using(crate::proofs::ByteLaws::float_of, crate::proofs::ByteLaws::number_of))]
     fn value(self, t: usize, j: usize) -> f64
         requires { (t < 4) × (j < self.count) × RunsNoNan self.bytes.now self.at self.step self.count }
@@ -84,7 +85,8 @@ impl<'a> Runs<'a> {
         f64::from_bits(floats::eight_at(self.bytes, self.at + 8 * (t * self.step) + 8 * j))
     }
 
-    // Adds four products to each sum, upward: of its values, none of them a NaN, with those of a line.
+    // Adds four products to each sum, upward: of its values, none of them a NaN, with those of a line. One function of this and the
+    // tile's would take the load as a closure, with a clause that it may be called and one for what it gives.
     #[tactic(auto, using(crate::proofs::InPlaceLaws::fills, crate::proofs::RowLaws::four_step))]
     fn add_four(self, line: &Spaced, sums: &mut [f64])
         requires { (length sums.old ≡ self.count) × RunsNoNan self.bytes.now self.at self.step self.count × (line.now.count ≡ 4) }
@@ -116,7 +118,7 @@ pub(crate) fn add_products(block: &Block, c: usize, sums: &mut [f64])
     let lines = block.rows.lines;
     let line = lines.along(c);
     if block.loaded != lines.terms {
-        lines.runs(block.rows.top, sums.len()).add_four(&line, sums);
+        block.rows.runs().add_four(&line, sums);
     } else if sums.len() <= 8 {
         block.tile.add_eight(&line, sums);
     } else {

@@ -52,8 +52,7 @@ impl<'a> Rows<'a> {
         if !(self.lines.are_neighbours() && self.lines.terms == 4) {
             return self.lines.terms;
         }
-        let runs = self.lines.runs(self.top, self.bottom - self.top);
-        if runs.are_finite() {
+        if self.runs().are_finite() {
             0
         } else {
             self.lines.terms
@@ -104,7 +103,7 @@ fn add_blocks(rows: &Rows, g: usize, width: usize, x: &mut [f64], piece: &mut [f
             bottom: top + m,
         };
         let loaded = rows.tile_terms();
-        lines.load_tile(loaded, top, m, g, x);
+        rows.load_tile(loaded, g, x);
         let block = Block {
             rows,
             tile: Tile { x, g },

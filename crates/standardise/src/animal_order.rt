@@ -1,4 +1,7 @@
 // A matrix in animal order: the statistics of all markers, then the values, each pass along the rows, tile by tile.
+//
+// `base` and `width` stay two numbers: a struct with `width ≤ tile_width` as a ghost field would spare the clause in `count_tile`, `load` and
+// `apply_tile` only. `count_rows` and `apply_row` have no base, `at` and `put` one marker, and would keep theirs.
 ghost use Rattle.std.specs.Prelude.{◌≡◌, true, false, ◌&&◌, cond, ℕ, ◌+◌, ◌*◌, ◌≤◌, ◌<◌, length};
 ghost use Rattle.std.specs.Float.{binary64};
 ghost use Rattle.answer.specs.Answer.{is_done};

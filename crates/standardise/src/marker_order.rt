@@ -34,7 +34,8 @@ fn column_stats(column: &[f64]) -> Result<MarkerStats, MarkerError>
 {
     let mut a = Accumulator::default();
     let mut passed = 0;
-    // A `while`, whose step is one or four: a `for` over fours, which tests each of a four with a NaN, took 1.03 of the time (2 % missing).
+    // A `while`, whose step is one or four: a `for` over fours, which tests each of a four with a NaN, took 1.03 of the time (2 % missing),
+    // which counts where this row is near C's: 0.97 to 1.20 of C with 64 animals (docs/SPEED.md).
     while column.len() - passed > 3 {
         let some = add_some(
             a,

@@ -1,4 +1,7 @@
 // The statistics buffer: a marker's mean, its deviation and how many of its values were observed, marker after marker.
+//
+// `StatsIn` is a clause: of a struct of the buffer and a marker there would be two, since `Scales::load` may only read the buffer and the
+// others write it.
 ghost use Rattle.std.specs.Prelude.{◌≡◌, ◌+◌, ◌*◌, get_or};
 ghost use Rattle.std.specs.Float.{nan};
 ghost use Rattle.statistics.specs.Statistics.{stats_per_marker, in_places, stats_at};

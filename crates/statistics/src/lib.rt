@@ -4,10 +4,10 @@
 ghost use Rattle.std.specs.Prelude.{◌≡◌};
 ghost use Rattle.std.specs.Float.{binary64};
 ghost use Rattle.std.specs.Float.Ieee.{div};
-ghost use Rattle.statistics.specs.Statistics.{start, one, counted, stats_from, is_infinite, scaled_by};
+ghost use Rattle.statistics.specs.Statistics.{one, counted, stats_from, is_infinite, scaled_by};
 
 // Count, sum and sum of squares over a marker's values that are no NaN.
-#[derive(Clone, Copy, Debug, PartialEq)]
+#[derive(Clone, Copy, Debug, Default, PartialEq)]
 pub struct Accumulator {
     pub count: f64,
     pub sum: f64,
@@ -41,18 +41,6 @@ pub struct Scale {
     pub mean: f64,
     pub factor: f64,
     pub infinite: bool,
-}
-
-impl Default for Accumulator {
-    ghost is_default = { λ a. a ≡ start };
-
-    fn default() -> Accumulator {
-        Accumulator {
-            count: 0.0,
-            sum: 0.0,
-            squares: 0.0,
-        }
-    }
 }
 
 impl Accumulator {

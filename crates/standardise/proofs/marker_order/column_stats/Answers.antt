@@ -1,6 +1,6 @@
 -- `column_stats`: some values more, or one.
-use Rattle.std.proofs.Common.{◌+◌, length, ap, ◌∙◌, arith, refl}
-use lib.Ieee.{binary64}
+use Rattle.std.proofs.Common.{◌+◌, length, ap, ◌∙◌, arith, rules, refl}
+use lib.Ieee.{binary64, of_bits}
 use Rattle.statistics.specs.Statistics.{counted, accumulated}
 use Rattle.statistics.proofs.CountLaws.{accumulated_more, column_found}
 use Rattle.standardise.specs.Private.{nth}
@@ -9,8 +9,8 @@ use native.Mathlib.Nat.{add_assoc}
 use Rattle.standardise.proofs.marker_order.column_stats.Goals as goal
 
 pub loop-passed-init : goal.loop-passed-init
-unfolding accumulated
-loop-passed-init c = (omega arith, c.default-a.ensures)
+unfolding accumulated of_bits
+loop-passed-init c = (omega arith, search rules)
 
 pub loop-passed-smaller : goal.loop-passed-smaller
 loop-passed-smaller c = omega (arith, c.add_some-some.ensures.0, c.add_some-some.ensures.1, c.loop-passed-test.true)
