@@ -56,7 +56,7 @@ fn read_line<T: BedVal>(
     n: usize,
     val: &mut [T],
 )
-    requires { Inside file.now part.byte part.place parts.now n × (n ≤ 2048) × (at + n ≤ length val.old) }
+    requires { Inside file.now part.byte part.place parts.now n × (at + n ≤ length val.old) }
     ensures { DrawnLine values.entry.table.now T.width.zero
         file.now part.byte part.place parts.now at n val.old n val.new }
 {
@@ -80,7 +80,7 @@ fn read_pair<T: BedVal>(
     at: usize,
     val: &mut [T],
 )
-    requires { Inside file.now start 0 parts.now (k + 2) × (k + 2 ≤ 2048) × (at + 1 < length val.old) }
+    requires { Inside file.now start 0 parts.now (k + 2) × (at + 1 < length val.old) }
     ensures { val.new ≡ set_two val.old at
         (entry_value values.entry.table.now T.width.zero file.now start parts.now k)
         (entry_value values.entry.table.now T.width.zero file.now start parts.now (k + 1)) }
@@ -108,8 +108,7 @@ fn read_pairs<T: BedVal>(
     inner: usize,
     val: &mut [T],
 )
-    requires { FourInside file.now starts.now parts.now (k + 2) × (k + 2 ≤ 2048)
-        × (at + 3 * inner + k + 2 ≤ length val.old) }
+    requires { FourInside file.now starts.now parts.now (k + 2) × (at + 3 * inner + k + 2 ≤ length val.old) }
     ensures { val.new ≡ set_pairs val.old at inner k
         (block_value values.entry.table.now T.width.zero file.now starts.now parts.now) }
 {
@@ -136,7 +135,7 @@ fn read_four<T: BedVal>(
     n: usize,
     val: &mut [T],
 )
-    requires { FourInside file.now starts.now parts.now n × (2 ≤ n) × (n ≤ 2048) × (at + 3 * inner + n ≤ length val.old) }
+    requires { FourInside file.now starts.now parts.now n × (2 ≤ n) × (at + 3 * inner + n ≤ length val.old) }
     ensures { Drawn T.width.zero 4 n (λ j k. at + j * inner + k)
         (block_value values.entry.table.now T.width.zero file.now starts.now parts.now)
         val.old n val.new }

@@ -6,7 +6,7 @@ use Rattle.bed_read.proofs.read.read_line.Goals as goal
 pub loop-k-preserved : goal.loop-k-preserved
 loop-k-preserved g c =
     let t = c.loop-k-test.true in
-    let l = c.requires.2 in
+    let l = c.requires.1 in
     drawn_one _ _ _ _ _ _ _ _ _ _ c.loop-k.invariant t refl refl (omega arith)
     (same_place _ _ _ _ _ _ (ap (λ x. c.args.part.place + x) c.from.ensures) c.call_value.ensures)
 

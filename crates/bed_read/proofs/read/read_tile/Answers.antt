@@ -11,7 +11,7 @@ read_four-requires g c =
     let h : 4 * l.four + 4 ≤ length m.outer.now = omega (arith, c.loop-four-test.true, c.lines_by_four-fours.ensures.0) in
     let e = lines_end (4 * l.four) 4 _ (length m.inner.now) _ h l.invariant.rows.long in
     let b = c.lines_by_four-fours.ensures.1 (omega (arith, c.loop-four-test.true)) in
-    (four_inside _ _ _ _ _ _ _ m.ready _ l.val _ _ _ _ c.requires.2 c.requires.0 l.invariant _ c.four_starts-starts.ensures b.0 h, b.1, c.requires.3, omega (arith, e, c.requires.1, c.requires.2))
+    (four_inside _ _ _ _ _ _ _ m.ready _ l.val _ _ _ _ c.requires.2 c.requires.0 l.invariant _ c.four_starts-starts.ensures b.0 h c.requires.3, b.1, omega (arith, e, c.requires.1, c.requires.2))
 
 pub loop-four-preserved : goal.loop-four-preserved
 loop-four-preserved g c =
@@ -26,7 +26,7 @@ read_line-requires g c =
     let m = c.args.lines.now in
     let p = c.outer_part-part.ensures in
     let e = lines_end c.loop-o.o 1 _ (length m.inner.now) _ (omega (arith, c.loop-o-test.true)) c.loop-o.invariant.rows.long in
-    (parts_inside _ _ _ _ _ m.ready _ _ _ c.requires.0 c.requires.2 _ _ _ c.loop-o-test.true p.byte_is p.place_is, c.requires.3, omega (arith, e, c.requires.1, c.requires.2))
+    (parts_inside _ _ _ _ _ m.ready _ _ _ c.requires.0 c.requires.2 _ _ _ c.loop-o-test.true p.byte_is p.place_is c.requires.3, omega (arith, e, c.requires.1, c.requires.2))
 
 pub loop-o-preserved : goal.loop-o-preserved
 loop-o-preserved g c =
