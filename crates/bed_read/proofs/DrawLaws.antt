@@ -1,13 +1,15 @@
 -- Storing values one after the other, over any type of values.
 use mathlib.Core.Path.{◌≡◌, refl, sym, ap, subst, ◌∙◌}
-use mathlib.Core.List.{List}
-use Prim.Native.Nat.{ℕ, zero, suc, ◌+◌, ◌*◌, ◌<◌, ◌≤◌}
+use mathlib.Core.List.{List, ◌++◌}
+use Prim.Native.Nat.{ℕ, zero, suc, ◌+◌, ◌-◌, ◌*◌, ◌<◌, ◌≤◌}
 use native.Mathlib.Omega.{arith}
-use lib.ListN.{length, get_or, set, length-set}
-use lib.Seq.{get_or-set_same, get_or-set_other, set_out}
+use lib.ListN.{length, get_or, set, take, drop, length-set, length-append, length-drop, get_or-append}
+use lib.Seq.{length-take-le, get_or-take, get_or-drop, get_or-set_same, get_or-set_other, set_out}
+use borrow.Rule.Slice.PartMut.{put_mid}
+use Rattle.std.proofs.lemmas.List.{get_or-append_right}
 use Rattle.answer.specs.Lists.{tabulate}
 use Rattle.answer.proofs.Tests.{by_lt}
-use Rattle.answer.proofs.Tabulate.{is_tabulate}
+use Rattle.answer.proofs.Tabulate.{length_tabulate, get_d_tabulate, is_tabulate}
 use Rattle.bed_read.specs.Private.{set_two, set_pairs, Drawn}
 
 -- two places set
@@ -31,6 +33,10 @@ module _ {A : Type 0} where
       ∙ ap (λ (x : List A). set_two x (at + k + n + n + n) (f 3 k) (f 3 (k + 1))) e3
       ∙ ap (λ (x : List A). set_two (set_two x (at + k + n + n) (f 2 k) (f 2 (k + 1))) (at + k + n + n + n) (f 3 k) (f 3 (k + 1))) e2
       ∙ ap (λ (x : List A). set_two (set_two (set_two x (at + k + n) (f 1 k) (f 1 (k + 1))) (at + k + n + n) (f 2 k) (f 2 (k + 1))) (at + k + n + n + n) (f 3 k) (f 3 (k + 1))) e1
+
+-- the length of a part
+pub part_length : {A : Type 0} (at k m : ℕ) (old : List A) → at + m ≤ length old → k ≡ m → length (take k (drop at old)) ≡ m
+part_length at k m old h e = length-take-le k (drop at old) (let l = length-drop at old in omega arith) ∙ e
 
 module _ {A : Type 0} (d : A) where
   -- one store of what belongs there
@@ -76,15 +82,65 @@ module _ {A : Type 0} (d : A) where
             (subst (λ (y : ℕ). get_or (set out p v) y d ≡ G y) at (here G out p v (right G a) (omega (arith, f.long)))))
         puts G a (suc i) t b c = absurd (omega arith)
 
-    -- all places of one line that is the whole list
-    pub drawn_all : (new : List A) → Drawn d 1 m (λ _ t. t) value old m new → length old ≡ m → new ≡ tabulate m (value 0)
-    drawn_all new f l =
-        is_tabulate new m (value 0) d (f.long ∙ l) (λ t h. (f.draws (value 0) first).1 0 t (omega arith) h)
-      where
-        first : (j t : ℕ) → j < 1 → t < m → value j t ≡ value 0 t
-        first zero t h b = refl
-        first (suc j) t h b = absurd (omega arith)
+  -- all places of one line that is the whole list
+  pub drawn_all :
+      (m : ℕ) (value : ℕ → ℕ → A) (old : List A) (k : ℕ) (new : List A) → Drawn d 1 m (λ _ t. t) value old k new → length old ≡ m → m ≤ k
+      → new ≡ tabulate m (value 0)
+  drawn_all m value old k new f l e =
+      is_tabulate new m (value 0) d (f.long ∙ l) (λ t h. (f.draws (value 0) first).1 0 t (omega arith) (omega arith))
+    where
+      first : (j t : ℕ) → j < 1 → t < m → value j t ≡ value 0 t
+      first zero t h b = refl
+      first (suc j) t h b = absurd (omega arith)
 
+  -- a part that is stored is a line from its first place on
+  module _ (at k m : ℕ) (f : ℕ → A) (old part : List A) (h : at + m ≤ length old) (ek : k ≡ m) (e : part ≡ tabulate (length (take k (drop at old))) f) where
+    first_long : length (take at old) ≡ at
+    first_long = length-take-le at old (omega arith)
+
+    part_long : length part ≡ m
+    part_long = ap length e ∙ length_tabulate (length (take k (drop at old))) f ∙ part_length at k m old h ek
+
+    in_first : (q : ℕ) → q < at → get_or (put_mid at k old part) q d ≡ get_or old q d
+    in_first q b = get_or-append (take at old) (part ++ drop k (drop at old)) d q (omega (arith, first_long)) ∙ get_or-take at old q d b
+
+    in_part : (q : ℕ) → at ≤ q → q < at + m → get_or (put_mid at k old part) q d ≡ f (q - at)
+    in_part q a b =
+        get_or-append_right (take at old) (part ++ drop k (drop at old)) at q d first_long a
+        ∙ get_or-append part (drop k (drop at old)) d (q - at) (omega (arith, part_long))
+        ∙ ap (λ (l : List A). get_or l (q - at) d) e
+        ∙ get_d_tabulate (length (take k (drop at old))) f (q - at) d (omega (arith, part_length at k m old h ek))
+
+    in_rest : (q : ℕ) → at + m ≤ q → get_or (put_mid at k old part) q d ≡ get_or old q d
+    in_rest q b =
+        get_or-append_right (take at old) (part ++ drop k (drop at old)) at q d first_long (omega arith)
+        ∙ get_or-append_right part (drop k (drop at old)) m (q - at) d part_long (omega arith)
+        ∙ get_or-drop k (drop at old) (q - at - m) d
+        ∙ get_or-drop at old (k + (q - at - m)) d
+        ∙ ap (λ (x : ℕ). get_or old x d) (omega arith)
+
+    put_long : length (put_mid at k old part) ≡ length old
+    put_long =
+        length-append (take at old) (part ++ drop k (drop at old))
+        ∙ (let l = length-append part (drop k (drop at old)) in
+        let r = length-drop k (drop at old) in
+        let s = length-drop at old in omega (arith, first_long, part_long))
+
+    pub drawn_part : Drawn d 1 m (λ _ t. at + t) (λ _ t. f t) old m (put_mid at k old part)
+    drawn_part =
+        record {
+          bound = omega arith;
+          long = put_long;
+          draws = λ G a. (
+            λ q r. by_lt q at (λ b. in_first q b ∙ r) (λ b. by_lt q (at + m) (λ c. there G a q b c) (λ c. in_rest q c ∙ r)),
+            λ j t i b. there G a (at + t) (omega arith) (omega arith),
+          );
+        }
+      where
+        there : (G : ℕ → A) → ((j t : ℕ) → j < 1 → t < m → f t ≡ G (at + t)) → (q : ℕ) → at ≤ q → q < at + m → get_or (put_mid at k old part) q d ≡ G q
+        there G a q b c = in_part q b c ∙ a 0 (q - at) (omega arith) (omega arith) ∙ ap G (omega arith)
+
+  module _ (m : ℕ) (place : ℕ → ℕ → ℕ) (value : ℕ → ℕ → A) (old : List A) where
     -- two neighbouring places of one of four lines
     module _ (r : ℕ) (hm : r + 2 ≤ m) (j : ℕ) (hj : j < 4) (out new : List A) (p : ℕ) (at : p ≡ place j r) (next : p + 1 ≡ place j (r + 1)) (l : p + 1 < length out)
         (e : new ≡ set_two out p (value j r) (value j (r + 1))) where
@@ -191,6 +247,3 @@ module _ {A : Type 0} (d : A) where
   module _ (m : ℕ) (place : ℕ → ℕ → ℕ) (value : ℕ → ℕ → A) (old : List A) (lines : ℕ) where
     pub drawn_to : (k j : ℕ) (new : List A) → Drawn d lines m place value old k new → k ≡ j → Drawn d lines m place value old j new
     drawn_to k j new f e = subst (λ (x : ℕ). Drawn d lines m place value old x new) e f
-
-    pub drawn_end : (k : ℕ) (new : List A) → Drawn d lines m place value old k new → m ≤ k → Drawn d lines m place value old m new
-    drawn_end k new f h = drawn_to k m new f (let b = f.bound in omega arith)

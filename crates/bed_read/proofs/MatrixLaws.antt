@@ -71,10 +71,10 @@ module _ {A : Type 0} (table : List A) (d : A) (file : List ℕ) (shape : Shape)
     -- four lines that are blocks
     module _ (starts : List ℕ) (es : (j : ℕ) → j < 4 → get_or starts j 0 ≡ entry_byte shape animals outer (o + j)) (blocks : is_block shape.mode1 animals ≡ true)
         (h : o + 4 ≤ length outer) where
-      pub four_inside : (j : ℕ) → j < 4 → Inside file (get_or starts j 0) 0 parts (until - from)
-      four_inside j b =
+      pub four_inside : until - from ≤ 2048 → (j : ℕ) → j < 4 → Inside file (get_or starts j 0) 0 parts (until - from)
+      four_inside m j b =
           parts_inside file shape animals outer inner r from until parts s u (o + j) (get_or starts j 0) 0 (omega arith) (es j b)
-          (sym (block_place shape animals outer (o + j) blocks))
+          (sym (block_place shape animals outer (o + j) blocks)) m
 
       pub four_read :
           Drawn d 4 (until - from) (λ j k. o * length inner + from + j * length inner + k) (λ j k. place_value (value_in table d) file (get_or starts j 0 + get_or parts.bytes k 0) (get_or parts.places k 0)) val (until - from) new

@@ -1,6 +1,7 @@
 -- What only private functions speak in.
 use Rattle.std.specs.Prelude.{◌≡◌, Bool, true, false, cond, List, map, ℕ, ◌+◌, ◌*◌, ◌/◌, ◌%◌, ◌<◌, ◌≤◌, ℤ, length, get_or, set}
 use Rattle.codes.specs.Code.{code_at, code_table}
+use Rattle.calls.specs.declared.Part.{Part}
 use Rattle.calls.specs.declared.Shape.{Shape}
 use Rattle.calls.specs.declared.parts.Parts.{Parts}
 use Rattle.calls.specs.Lists.{entry_byte, Inside}
@@ -27,6 +28,14 @@ pub record ByCode {A : Type 0} (table : List A) (d : A) : Type 0 where
 -- the value at a place of a byte, where v is the value of a code
 unfoldable pub place_value : {A : Type 0} → (ℕ → A) → List ℕ → ℕ → ℕ → A
 place_value v file byte place = v (code_at (get_or file byte 0) place)
+
+-- the value of item k of the block that starts at a byte
+abbrev pub item_value : {A : Type 0} → List A → A → List ℕ → ℕ → ℕ → A
+item_value table d file start k = place_value (value_in table d) file (start + k / 4) (k % 4)
+
+-- the value of entry k in a line
+abbrev pub part_value : {A : Type 0} → List A → A → List ℕ → Part → Parts → ℕ → A
+part_value table d file part parts k = place_value (value_in table d) file (part.byte + get_or parts.bytes k 0) (part.place + get_or parts.places k 0)
 
 -- the value of entry k in the block that starts at a byte
 abbrev pub entry_value : {A : Type 0} → List A → A → List ℕ → ℕ → Parts → ℕ → A
@@ -64,16 +73,6 @@ pub record Drawn {A : Type 0} (d : A) (lines m : ℕ) (place : ℕ → ℕ → �
   pub draws :
       (G : ℕ → A) → ((j t : ℕ) → j < lines → t < m → value j t ≡ G (place j t))
       → ((p : ℕ) → get_or old p d ≡ G p → get_or new p d ≡ G p) × ((j t : ℕ) → j < lines → t < k → get_or new (place j t) d ≡ G (place j t))
-
--- of one line from place `at` on: the items of a block in order
-abbrev pub DrawnInOrder : {A : Type 0} → List A → A → List ℕ → ℕ → ℕ → ℕ → List A → ℕ → List A → Type 0
-DrawnInOrder table d file start at n old k new =
-    Drawn d 1 n (λ _ i. at + i) (λ _ i. place_value (value_in table d) file (start + i / 4) (i % 4)) old k new
-
--- of one line from place `at` on: resolved entries
-abbrev pub DrawnLine : {A : Type 0} → List A → A → List ℕ → ℕ → ℕ → Parts → ℕ → ℕ → List A → ℕ → List A → Type 0
-DrawnLine table d file byte place parts at n old k new =
-    Drawn d 1 n (λ _ i. at + i) (λ _ i. place_value (value_in table d) file (byte + get_or parts.bytes i 0) (place + get_or parts.places i 0)) old k new
 
 -- every line of a matrix is filled up to place `from`: g o t is what belongs at place t of line o
 pub record Rows {A : Type 0} (g : ℕ → ℕ → A) (d : A) (outer inner : ℕ) (val : List A) (from : ℕ) : Type 0 where

@@ -6,6 +6,7 @@ ghost use Rattle.bed_read.specs.Private.{FourBytes};
 
 use calls::{Part, Shape};
 use entries::Item;
+use std::array;
 use std::marker::PhantomData;
 
 // An accepted file and two good lists: `outer` names the lines, `inner` the places of each. One is of animals, the other of markers.
@@ -48,11 +49,6 @@ impl<'a, O: Item, I: Item> Lines<'a, O, I> {
         requires { o + 4 ≤ length self.now.outer.now }
         ensures { FourBytes self.now.shape O.is_animal self.now.outer.now o result }
     {
-        [
-            self.outer_part(o).byte,
-            self.outer_part(o + 1).byte,
-            self.outer_part(o + 2).byte,
-            self.outer_part(o + 3).byte,
-        ]
+        array::from_fn(|j| self.outer_part(o + j).byte)
     }
 }

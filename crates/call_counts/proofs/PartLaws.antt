@@ -19,10 +19,10 @@ use Rattle.call_counts.proofs.TallyLaws.{total_ext}
 -- n resolved entries at entry m of the marker list
 module _ (file : List ℕ) (shape : Shape) (il sl : List ℤ) (r : Ready file shape false sl il) (m from n : ℕ) (hm : m < length sl) (l : from + n ≤ length il)
     (part : Part) (pm : IsEntryPart shape false sl m part) (parts : Parts) (e : EntryParts shape true il from (from + n) parts) where
-  pub run_inside : Inside file part.byte part.place parts n
-  run_inside =
+  pub run_inside : n ≤ 2048 → Inside file part.byte part.place parts n
+  run_inside h =
       subst (Inside file part.byte part.place parts) (omega arith)
-      (parts_inside file shape false sl il r from (from + n) parts e l m part.byte part.place hm pm.byte_is pm.place_is)
+      (parts_inside file shape false sl il r from (from + n) parts e l m part.byte part.place hm pm.byte_is pm.place_is (omega arith))
 
   run_code :
       (k : ℕ) → k < n

@@ -5,7 +5,8 @@ ghost use Rattle.calls.specs.Lists.{Ready};
 use calls::Shape;
 
 // An accepted file and two good lists.
-// Not bed_read's `Lines`: a definition names that by its two types of items and what their trait says of each, and both lists have their names here.
+// Not bed_read's `Lines`, which is for either order of the two lists: counting needs one order only, and every definition of specs/ that takes `Lines`
+// has to name its two types of items and what their trait says of each.
 #[derive(Drop)]
 pub(crate) struct Lists<'a> {
     pub file: &'a [u8],

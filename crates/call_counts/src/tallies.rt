@@ -34,7 +34,7 @@ pub(crate) fn tally_parts(
     n: usize,
     table: &TallyTable,
 ) -> u64
-    requires { Inside file.now part.byte part.place parts.now n × (n ≤ 2048) }
+    requires { Inside file.now part.byte part.place parts.now n }
     ensures { result ≡ tally_parts file.now part parts.now n }
 {
     let mut sum: u64 = 0;

@@ -267,9 +267,10 @@ module _ (file : List ℕ) (shape : Shape) (animals : Bool) (outer inner : List 
     place_there : (k : ℕ) → k < until - from → place + get_or parts.places k 0 ≡ entry_place shape animals outer o + entry_place shape (not animals) inner (from + k)
     place_there k h = let e = t.place_is k h in omega arith
 
-    pub parts_inside : Inside file byte place parts (until - from)
-    parts_inside =
+    pub parts_inside : until - from ≤ 2048 → Inside file byte place parts (until - from)
+    parts_inside h =
         record {
+          bound = h;
           byte_in = λ k h. subst (λ (x : ℕ). x < length file) (sym (byte_there k h)) (line_inside o (from + k) ho (omega arith));
           place_in = λ k h. subst (λ (x : ℕ). x < 4) (sym (place_there k h)) (line_place o (from + k));
         }

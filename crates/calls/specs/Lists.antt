@@ -1,5 +1,5 @@
 -- The lists of a call, of animals (true) or of markers: what their entries add to where a call stands.
-use Rattle.std.specs.Prelude.{◌≡◌, Bool, not, ◌&&◌, cond, List, ℕ, ◌+◌, ◌-◌, ◌^◌, ◌<◌, nat_lt, ℤ, pos, length, get_or, None}
+use Rattle.std.specs.Prelude.{◌≡◌, Bool, not, ◌&&◌, cond, List, ℕ, ◌+◌, ◌-◌, ◌^◌, ◌<◌, ◌≤◌, nat_lt, ℤ, pos, length, get_or, None}
 use Rattle.answer.specs.Lists.{tabulate}
 use Rattle.entries.specs.Entry.{means, first_bad, in_order}
 use Rattle.calls.specs.declared.Part.{Part}
@@ -61,7 +61,8 @@ pub record EntryParts (shape : Shape) (animals : Bool) (list : List ℤ) (from u
   pub byte_is : (k : ℕ) → k < until - from → get_or parts.bytes k 0 ≡ entry_byte shape animals list (from + k)
   pub place_is : (k : ℕ) → k < until - from → get_or parts.places k 0 ≡ entry_place shape animals list (from + k)
 
--- bytes in the file and places in a byte: those of a line, with those of n entries
+-- bytes in the file and places in a byte: those of a line, with those of the first n entries of the parts
 pub record Inside (file : List ℕ) (byte place : ℕ) (parts : Parts) (n : ℕ) : Type 0 where
+  pub bound : n ≤ 2048
   pub byte_in : (k : ℕ) → k < n → byte + get_or parts.bytes k 0 < length file
   pub place_in : (k : ℕ) → k < n → place + get_or parts.places k 0 < 4

@@ -40,8 +40,8 @@ pub fn at_once<I: Item>(shape: Shape) -> usize
 }
 
 // What each entry of a part of a list adds to the byte and to the place in it.
-// Two arrays, since an array of `Part` was measured slower: 32,768 bytes in place of 18,432, and the loop of call_counts' `tally_parts` (in C, gcc -O3)
-// takes 1.03 to 1.04 times as long.
+// Two arrays, since an array of `Part` was measured slower: 32,768 bytes in place of 18,432, and the loops of call_counts' `tally_parts` and of bed_read's
+// `read_line` for f64 (in C, gcc -O3) take 1.03 to 1.04 times as long.
 #[derive(Drop)]
 pub struct Parts {
     pub places: [u8; 2048],

@@ -15,7 +15,7 @@ count_run-requires c =
     let parts = inner_entries _ _ _ _ _ s.ready fits true refl c.loop-from.from (c.loop-from.from + c.min-n.result) (omega arith) ends (omega arith) c.loop-from.parts c.resolve.new.self c.resolve.ensures in (
       record {
         callable = λ m part h p.
-            let inside = run_inside s.file.now s.shape s.iid_index.now s.sid_index.now s.ready m _ _ h ends part p c.resolve.new.self parts in
+            let inside = run_inside s.file.now s.shape s.iid_index.now s.sid_index.now s.ready m _ _ h ends part p c.resolve.new.self parts most in
             search rules;
         tally_is = λ m part t h p e. run_tally s.file.now s.shape s.iid_index.now s.sid_index.now s.ready m _ _ h ends part p c.resolve.new.self parts t (search rules);
       },
