@@ -1,6 +1,5 @@
--- Laws of the tests of a value: of the code of one that has a code, and whether it has one.
-use Rattle.std.proofs.Common.{◌≡◌, refl, Bool, true, false, not, ◌&&◌, ◌||◌, cond, ℕ, ◌<◌, arith, Some, None}
-use Rattle.std.specs.Option.{is_none}
+-- Laws of the tests of a value: of the code of one that has a code, and of one that may have none.
+use Rattle.std.proofs.Common.{◌≡◌, refl, Bool, true, false, not, ◌&&◌, ◌||◌, cond, ◌<◌, arith, Some, None}
 use Rattle.codes.specs.Value.{Width, code_of, same_or_nan}
 use Rattle.bed_write.specs.Groups.{or_four}
 use Rattle.bed_write.specs.Private.{number_code}
@@ -39,20 +38,3 @@ module _ {V : Type 0} (w : Width V) (flag : Bool) (missing v : V) where
       by_tests flag false false false false true f = refl
       by_tests flag false false false false false true = refl
       by_tests flag false false false false false false = refl
-
-  -- a value without a code, by every test
-  pub none_chosen :
-      not (((w.same v w.zero || w.same v w.one || w.same v w.two) || w.same v missing) || (not (w.same v v) && not (w.same missing missing)))
-      ≡ is_none (code_of w flag missing v)
-  unfolding code_of same_or_nan
-  none_chosen = by_tests flag (w.same v w.zero) (w.same v w.one) (w.same v w.two) (w.same v missing) (not (w.same v v) && not (w.same missing missing))
-    where
-      by_tests :
-          (flag a b c d n : Bool)
-          → not (((a || b || c) || d) || n) ≡ is_none {T = ℕ} (cond a (Some (cond flag 3 0)) (cond b (Some 2) (cond c (Some (cond flag 0 3)) (cond (d || n) (Some 1) None))))
-      by_tests flag true b c d n = refl
-      by_tests flag false true c d n = refl
-      by_tests flag false false true d n = refl
-      by_tests flag false false false true n = refl
-      by_tests flag false false false false true = refl
-      by_tests flag false false false false false = refl

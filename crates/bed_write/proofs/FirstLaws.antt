@@ -1,12 +1,11 @@
 -- Laws of what is found first, and of codes that a value may lack.
-use mathlib.Core.Path.{◌≡◌, refl, sym, ap, ◌∙◌}
+use mathlib.Core.Path.{◌≡◌, refl, ap, ◌∙◌}
 use mathlib.Core.Bool.{Bool, true, false, cond}
 use mathlib.Core.List.{List}
 use Rattle.std.specs.Prelude.{Option, Some, None}
 use Prim.Native.Nat.{ℕ, zero, suc, ◌<◌}
 use native.Mathlib.Omega.{arith}
 use lib.ListN.{length, get_or}
-use Rattle.std.specs.Option.{is_none}
 use Rattle.codes.specs.Value.{Width, code_of, same_or_nan}
 use Rattle.answer.specs.Matrix.{matrix_place}
 use Rattle.bed_write.specs.Packing.{place_code, or_zero, or_else, first_of, if_bad}
@@ -89,12 +88,6 @@ unfolding or_zero
 zero_below (Some c) h = h c refl
 zero_below None h = omega arith
 
--- by whether there is a code
-pub coded_if : (o : Option ℕ) → ((c : ℕ) → o ≡ Some c → c < 4) → is_none o ≡ false → or_four o < 4
-unfolding or_four
-coded_if (Some c) h e = h c refl
-coded_if None h e = absurd (let q : ◌≡◌ {A = ℕ} 0 1 = cc in omega arith)
-
 -- ---- the code of a value is a code
 abbrev pub Coded : (ℕ → Option ℕ) → Type 0
 Coded code = (k c : ℕ) → code k ≡ Some c → c < 4
@@ -127,7 +120,7 @@ pub value_coded :
 unfolding value_code
 value_coded w flag missing order iids sids val a m c e = place_coded w flag missing val (matrix_place order iids sids a m) c e
 
--- a value that is read: its code, if it has one, and that it has one
+-- a value that is read: its code, and the number of it
 module _ {V : Type 0} (w : Width V) (flag : Bool) (missing : V) (vals : List V) (k : ℕ) (v d : V) (h : k < length vals) (e : v ≡ get_or vals k d) where
   pub value_read : code_of w flag missing v ≡ place_code w flag missing vals k
   unfolding place_code
@@ -136,5 +129,5 @@ module _ {V : Type 0} (w : Width V) (flag : Bool) (missing : V) (vals : List V) 
   pub good_read : (r : ℕ) → CodesGood w flag missing v r → or_four (place_code w flag missing vals k) < 4 → r ≡ or_four (place_code w flag missing vals k)
   good_read r g b = let s = ap or_four value_read in g (omega arith) ∙ s
 
-  pub coded_read : (bad : Bool) → bad ≡ is_none (code_of w flag missing v) → bad ≡ false → or_four (place_code w flag missing vals k) < 4
-  coded_read bad b f = coded_if (place_code w flag missing vals k) (place_coded w flag missing vals k) (ap is_none (sym value_read) ∙ sym b ∙ f)
+  pub number_read : (r : ℕ) → r ≡ or_four (code_of w flag missing v) → r ≡ or_four (place_code w flag missing vals k)
+  number_read r s = s ∙ ap or_four value_read

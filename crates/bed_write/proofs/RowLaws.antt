@@ -1,5 +1,5 @@
 -- Writing a file byte by byte, in any order of its blocks: each byte that was written is the file's.
-use Rattle.std.proofs.Common.{◌≡◌, sym, ap, subst, ◌∙◌, List, ℕ, zero, suc, ◌+◌, ◌-◌, ◌*◌, ◌/◌, ◌%◌, ◌<◌, ◌≤◌, arith, length, get_or, length-set}
+use Rattle.std.proofs.Common.{◌≡◌, sym, ap, subst, ◌∙◌, List, [], ◌∷◌, ◌++◌, drop, ℕ, zero, suc, ◌+◌, ◌-◌, ◌*◌, ◌/◌, ◌%◌, ◌<◌, ◌≤◌, arith, length, get_or, length-set, length-append, length-drop}
 use lib.Arith.{digits_lt}
 use native.Mathlib.Nat.{mul_comm, mul-le-mul_right, zero-mul, le_refl, le_of_lt, div-add-mod', mod-lt, div-lt_iff_lt-mul}
 use borrow.Author.Tests.{eqb-true, eqb-false}
@@ -151,23 +151,22 @@ header_done iids sids code w out ew l h =
       here = λ j k. absurd (omega arith);
     }
 
-module _ (iids sids : ℕ) (code : ℕ → ℕ → ℕ) (w : ℕ) (ew : w ≡ block_width iids) (old : List ℕ) (l : length old ≡ 3 + w * sids) where
+-- a buffer into whose first bytes the header was copied
+module _ (iids sids : ℕ) (code : ℕ → ℕ → ℕ) (w : ℕ) (ew : w ≡ block_width iids) (old : List ℕ) (l : length old ≡ 3 + w * sids) (header : List ℕ) (eh : header ≡ 0x6C ∷ 0x1B ∷ 1 ∷ []) where
   abbrev headed : List ℕ
-  headed = set (set (set old 0 0x6C) 1 0x1B) 2 1
+  headed = header ++ drop 3 old
 
   header_at : (p : ℕ) → p < 3 → Same (bed_file iids sids code) headed p
   unfolding bed_file
-  header_at zero h =
-      get_or-set_other (set (set old 0 0x6C) 1 0x1B) 2 0 1 0 (λ e. omega arith)
-      ∙ get_or-set_other (set old 0 0x6C) 1 0 0x1B 0 (λ e. omega arith)
-      ∙ get_or-set_same old 0 0x6C 0 (omega arith)
-  header_at (suc zero) h =
-      get_or-set_other (set (set old 0 0x6C) 1 0x1B) 2 1 1 0 (λ e. omega arith) ∙ get_or-set_same (set old 0 0x6C) 1 0x1B 0 (simp length-set (omega arith))
-  header_at (suc (suc zero)) h = get_or-set_same (set (set old 0 0x6C) 1 0x1B) 2 1 0 (simp length-set (omega arith))
+  header_at zero h = ap (λ (x : List ℕ). get_or (x ++ drop 3 old) 0 0) eh
+  header_at (suc zero) h = ap (λ (x : List ℕ). get_or (x ++ drop 3 old) 1 0) eh
+  header_at (suc (suc zero)) h = ap (λ (x : List ℕ). get_or (x ++ drop 3 old) 2 0) eh
   header_at (suc (suc (suc p))) h = absurd (omega arith)
 
   pub headed_rows : Rows iids sids code w headed 0 0 0 0
-  headed_rows = header_done iids sids code w headed ew (simp length-set (l ∙ sym (whole_size iids sids code w ew))) header_at
+  headed_rows =
+      let e : length header ≡ 3 = ap length eh in
+      header_done iids sids code w headed ew (let s = whole_size iids sids code w ew in omega (arith, length-append header (drop 3 old), length-drop 3 old)) header_at
 
   -- a file without bytes in its blocks
   pub headed_done : w ≡ 0 → headed ≡ bed_file iids sids code

@@ -11,4 +11,4 @@ mod write;
 pub use encode::{EncodeError, encode1};
 pub use matrix::TILE;
 pub use value_codes::{Coder, EncodeVal, WriteVal};
-pub use write::{WriteError, write_val};
+pub use write::{HEADER, WriteError, write_val};

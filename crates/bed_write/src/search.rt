@@ -14,7 +14,7 @@ fn any_bad<T: EncodeVal>(val: &[T], coding: Coding<T>) -> bool
 {
     let mut bad = false;
     for &value in val {
-        bad |= value_codes::is_bad(value, coding.missing);
+        bad |= value_codes::code_or_four(value, coding) > 3;
     }
     bad
 }

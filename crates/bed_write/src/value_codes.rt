@@ -1,10 +1,9 @@
 // The code of a value.
-ghost use Rattle.std.specs.Prelude.{◌≡◌, refl, Bool, cond, ◌<◌};
+ghost use Rattle.std.specs.Prelude.{◌≡◌, refl, cond, ◌<◌};
 ghost use Rattle.codes.specs.Value.{code_of};
 ghost use Rattle.codes.specs.declared.values.Coding.{Coding};
 ghost use Rattle.bed_write.specs.Groups.{or_four, GoodCode, CodesGood};
 ghost use Rattle.bed_write.specs.Private.{number_code};
-ghost use Rattle.std.specs.Option.{is_none};
 ghost use Rattle.codes.proofs.ValueLaws.{same_int_is};
 
 use codes::{BedVal, Coding};
@@ -118,7 +117,7 @@ fn good_code<T: EncodeVal>(value: T, is_a1_counted: bool) -> u8
     number_code(value, is_a1_counted, 1)
 }
 
-// The code of a value, or 4. Where values are looked at one by one, as by the search, this is faster than `is_bad`.
+// The code of a value, or 4. Every test is made, so that several values are looked at at once.
 #[tactic(auto, using(crate::proofs::ChooseLaws::code_chosen))]
 pub(crate) fn code_or_four<T: EncodeVal>(value: T, coding: Coding<T>) -> u8
     ensures { result ≡ or_four (code_of T.width coding.is_a1_counted coding.missing value) }
@@ -127,14 +126,4 @@ pub(crate) fn code_or_four<T: EncodeVal>(value: T, coding: Coding<T>) -> u8
     let unknown = choose(value.same(value), 4, nan);
     let absent = choose(value.same(coding.missing), 1, unknown);
     number_code(value, coding.is_a1_counted, absent)
-}
-
-// Whether a value is none of 0, 1, 2 and missing. Every test is made, so that several values are looked at at once.
-#[tactic(auto, using(crate::proofs::ChooseLaws::none_chosen))]
-pub(crate) fn is_bad<T: EncodeVal>(value: T, missing: T) -> bool
-    ensures { (flag : Bool) → result ≡ is_none (code_of T.width flag missing value) }
-{
-    let is_number = value.same(T::zero()) | value.same(T::one()) | value.same(T::two());
-    let both_nan = !value.same(value) & !missing.same(missing);
-    !(is_number | value.same(missing) | both_nan)
 }

@@ -17,6 +17,9 @@ use blocks::DivError;
 use codes::{BedVal, Coding};
 use entries::{IidIndex, SidIndex};
 
+// The first bytes of a file of mode 1.
+pub const HEADER: [u8; 3] = [0x6C, 0x1B, 1];
+
 // What `write_val` refuses: 18, 4, 15, 16, or 7.
 #[derive(Clone, Copy, Debug, PartialEq, Eq)]
 pub enum WriteError {
@@ -89,9 +92,7 @@ impl<'a, T: BedVal, C: Coder<T>> Writer<'a, T, C> {
         ensures { out.new ≡ bed_file self.now.matrix.iid_count self.now.matrix.sid_count (matrix_code T.width (C.coding self.now.coder)
             self.now.matrix.animal_order self.now.matrix.iid_count self.now.matrix.sid_count self.now.matrix.val.now) }
     {
-        out[0] = 0x6C;
-        out[1] = 0x1B;
-        out[2] = 1;
+        out[..3].copy_from_slice(&HEADER);
         let width = blocks::block_width(self.matrix.iid_count);
         if width == 0 {
             return;

@@ -1,6 +1,5 @@
 -- The canonical file of an accepted file, byte by byte: how far it is written.
-use Rattle.std.proofs.Common.{◌≡◌, List, ℕ, ◌+◌, ◌*◌, ◌≤◌, length}
-use lib.ListN.{set}
+use Rattle.std.proofs.Common.{◌≡◌, List, [], ◌∷◌, ◌++◌, drop, ℕ, ◌+◌, ◌*◌, ◌≤◌, length}
 use Rattle.blocks.specs.Block.{block_width}
 use Rattle.calls.specs.declared.Shape.{Shape}
 use Rattle.calls.specs.Calls.{call_code}
@@ -18,17 +17,14 @@ module _ (file : List ℕ) (shape : Shape) (w : ℕ) (ew : w ≡ block_width sha
   starts out g = header_done shape.iids shape.sids (call_code file shape.iids shape.sids) w out ew g.long g.head
 
   -- the header
-  module _ (old : List ℕ) (l : length old ≡ 3 + w * shape.sids) where
-    abbrev headed : List ℕ
-    headed = set (set (set old 0 0x6C) 1 0x1B) 2 1
-
-    pub only_header : w ≡ 0 → headed ≡ canonical_file file shape.iids shape.sids
+  module _ (old : List ℕ) (l : length old ≡ 3 + w * shape.sids) (header : List ℕ) (eh : header ≡ 0x6C ∷ 0x1B ∷ 1 ∷ []) where
+    pub only_header : w ≡ 0 → header ++ drop 3 old ≡ canonical_file file shape.iids shape.sids
     unfolding canonical_file
-    only_header e = headed_done shape.iids shape.sids (call_code file shape.iids shape.sids) w ew old l e
+    only_header e = headed_done shape.iids shape.sids (call_code file shape.iids shape.sids) w ew old l header eh e
 
-    pub begun : Begun file shape headed
+    pub begun : Begun file shape (header ++ drop 3 old)
     unfolding canonical_file
-    begun = let r = headed_rows shape.iids shape.sids (call_code file shape.iids shape.sids) w ew old l in record { long = r.long; head = r.head }
+    begun = let r = headed_rows shape.iids shape.sids (call_code file shape.iids shape.sids) w ew old l header eh in record { long = r.long; head = r.head }
 
 pub whole_written :
     (file : List ℕ) (shape : Shape) {w : ℕ} {out : List ℕ} {from until b m : ℕ} → Written file shape w out from until b m → shape.sids ≤ from → out ≡ canonical_file file shape.iids shape.sids

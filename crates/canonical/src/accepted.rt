@@ -6,6 +6,7 @@ ghost use Rattle.calls.specs.Places.{Shaped};
 ghost use Rattle.canonical.specs.Canonical.{canonical_file};
 
 use crate::{kept, turned};
+use bed_write::HEADER;
 use calls::Shape;
 
 // The file, its shape, and the width of the blocks to be written.
@@ -25,9 +26,7 @@ impl<'a> Accepted<'a> {
         requires { length out.old ≡ 3 + self.now.out_width * self.now.shape.sids }
         ensures { out.new ≡ canonical_file self.now.file.now self.now.shape.iids self.now.shape.sids }
     {
-        out[0] = 0x6C;
-        out[1] = 0x1B;
-        out[2] = 1;
+        out[..3].copy_from_slice(&HEADER);
         if self.out_width == 0 {
             return;
         }

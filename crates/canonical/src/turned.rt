@@ -68,7 +68,7 @@ impl<'a> Across<'a> {
     }
 }
 
-// The canonical file: tile by tile, and in it four animals at a time.
+// The canonical file: tile by tile, and in it four animals at a time. `write_val` goes by the same tiles: one function for both would be passed how a byte is made, a closure, and public functions ask nothing.
 pub(crate) fn turn_blocks(accepted: &Accepted, out: &mut [u8])
     requires { Begun accepted.now.file.now accepted.now.shape out.old × (accepted.now.shape.mode1 ≡ false) }
     ensures { out.new ≡ canonical_file accepted.now.file.now accepted.now.shape.iids accepted.now.shape.sids }

@@ -5,12 +5,12 @@ use Rattle.bed_write.proofs.write.Writer.write.Goals as goal
 pub returns-then-width-eq0 : goal.returns-then-width-eq0
 returns-then-width-eq0 g c =
     let m = c.args.self.now.matrix in
-    headed_done m.iid_count m.sid_count _ _ c.block_width-width.ensures c.args.out.now (c.requires ∙ ap (λ (x : ℕ). 3 + x * m.sid_count) (sym c.block_width-width.ensures)) c.if-width-eq0.true
+    headed_done m.iid_count m.sid_count _ _ c.block_width-width.ensures c.args.out.now (c.requires ∙ ap (λ (x : ℕ). 3 + x * m.sid_count) (sym c.block_width-width.ensures)) _ c.copy_from_slice.ensures.after c.if-width-eq0.true
 
 pub loop-from-init : goal.loop-from-init
 loop-from-init g c =
     let m = c.args.self.now.matrix in
-    headed_rows m.iid_count m.sid_count _ _ c.block_width-width.ensures c.args.out.now (c.requires ∙ ap (λ (x : ℕ). 3 + x * m.sid_count) (sym c.block_width-width.ensures))
+    headed_rows m.iid_count m.sid_count _ _ c.block_width-width.ensures c.args.out.now (c.requires ∙ ap (λ (x : ℕ). 3 + x * m.sid_count) (sym c.block_width-width.ensures)) _ c.copy_from_slice.ensures.after
 
 pub byte_at-requires : goal.byte_at-requires
 byte_at-requires g c =
