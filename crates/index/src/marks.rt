@@ -27,6 +27,7 @@ pub(crate) fn marked_to_vec(marks: &[u8], list: &mut [i64]) -> Result<usize, Lis
     if n > list.len() {
         return Err(ListError::ListTooShort);
     }
+    // Over `list.iter_mut().zip(marks.iter().enumerate().filter(..))` the proofs of `loop-place-preserved` and `returns` did not close: what the buffer holds later is told by the steps of the iterators.
     let mut at: usize = 0;
     for (i, &mark) in marks.iter().enumerate() {
         if mark != 0 {

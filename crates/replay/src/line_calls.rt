@@ -1,4 +1,5 @@
 // Each call of the C interface, with the numbers and the buffers of its line.
+// `alloc` and `line` stay two arguments: of a struct of both every number would be `self.line.number(..)`, and calls without a buffer need no allocator.
 use crate::call::Call;
 use crate::value::Value;
 use bed_answer::BedAnswer;
