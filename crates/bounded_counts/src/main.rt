@@ -4,10 +4,9 @@
 
 use bed_answer::BedAnswer;
 use bed_file::FileError;
+use bed_write::HEADER;
 use index::{Index, RangeAny};
 use std::io;
-
-const HEADER: [u8; 3] = [0x6C, 0x1B, 1];
 
 fn bounded(rt: &impl Print, many: usize) -> io::Result<()> {
     let accepted = bed_file::accept(&HEADER, 0, many).map_or_else(FileError::number, |()| 0);
