@@ -10,7 +10,7 @@ ghost use Rattle.bed_read.specs.Private.{set_two, set_pairs, Drawn, ReadTo};
 ghost use Rattle.bed_read.specs.Says.{read_says};
 
 use crate::lines::Lines;
-use crate::table::{Values, table_of};
+use crate::table::{Values, fill_table};
 use crate::{ReadError, checks};
 use calls::{Part, Parts};
 use codes::{BedVal, Coding};
@@ -240,10 +240,12 @@ pub fn read_no_alloc<T: BedVal>(
         val.len(),
     )?;
     let shape = calls::shape_of(file, iid_count, sid_count);
-    let table = table_of(Coding {
+    let coding = Coding {
         is_a1_counted,
         missing: missing_value,
-    });
+    };
+    let mut table = [T::zero(); 1024];
+    fill_table(coding, &mut table);
     let values = Values { table: &table };
     if animal_order {
         let lines: Lines<IidIndex, SidIndex> = Lines {

@@ -7,20 +7,19 @@ ghost use Rattle.bed_read.specs.Private.{value_in, ByCode, place_value};
 use codes::{BedVal, CodeTable, Coding};
 use std::alloc::AllocError;
 
-// The value, by a coding, of the code of every byte and place: place p of byte b at 4 × b + p.
-pub(crate) fn table_of<T: BedVal>(coding: Coding<T>) -> [T; 1024]
-    ensures { result ≡ map (value_of T.width coding.is_a1_counted coding.missing) code_table }
+// Fills a table with the value, by a coding, of the code of every byte and place: place p of byte b at 4 × b + p.
+// Filled where the caller has it: handed out as a result, it took its room on the stack twice.
+pub(crate) fn fill_table<T: BedVal>(coding: Coding<T>, table: &mut [T; 1024])
+    ensures { table.new ≡ map (value_of T.width coding.is_a1_counted coding.missing) code_table }
 {
     let codes = CodeTable::new();
     let of_code = coding.set_up_two_bits_to_value();
-    let mut table = [T::zero(); 1024];
     for byte in 0..256 {
         for place in 0..4 {
             let code = codes.code_of_item(byte as u8, place);
             table[4 * byte + place] = of_code[usize::from(code)];
         }
     }
-    table
 }
 
 // A table that has one value for each code. Passed by value, so that the table's address costs no load for each value.

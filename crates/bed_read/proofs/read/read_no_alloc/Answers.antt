@@ -32,7 +32,7 @@ returns-then-animal_order g c =
     let done = (read_done _ _ _ _ _ _ c.in_ok-check_read.ensures).0 in (
       done,
       buffer_read _ _ _ _ _ c.shape_of-shape.result c.shape_of-shape.ensures g.T.BedVal.width _ _ _ true _ _ (sym (ap is_done done)) c.if-animal_order.true
-          (table_read g.T.BedVal.width _ _ _ _ _ _ _ c.shape_of-shape.result _ _ c.table_of-table.ensures c.read_matrix.ensures),
+          (table_read g.T.BedVal.width _ _ _ _ _ _ _ c.shape_of-shape.result _ _ c.fill_table.ensures c.read_matrix.ensures),
     )
 
 pub returns-else-animal_order : goal.returns-else-animal_order
@@ -40,5 +40,5 @@ returns-else-animal_order g c =
     let done = (read_done _ _ _ _ _ _ c.in_ok-check_read.ensures).0 in (
       done,
       buffer_read _ _ _ _ _ c.shape_of-shape.result c.shape_of-shape.ensures g.T.BedVal.width _ _ _ false _ _ (sym (ap is_done done)) c.if-animal_order.false
-          (table_read g.T.BedVal.width _ _ _ _ _ _ _ c.shape_of-shape.result _ _ c.table_of-table.ensures c.read_matrix-else-animal_order.ensures),
+          (table_read g.T.BedVal.width _ _ _ _ _ _ _ c.shape_of-shape.result _ _ c.fill_table.ensures c.read_matrix-else-animal_order.ensures),
     )

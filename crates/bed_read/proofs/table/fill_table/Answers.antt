@@ -1,8 +1,8 @@
--- `table_of`: place i of the table has the value of the code at place i mod 4 of byte i/4.
+-- `fill_table`: place i of the table has the value of the code at place i mod 4 of byte i/4.
 use Rattle.std.proofs.Common.{◌+◌, ◌*◌, ◌≤◌, refl, ◌∙◌, arith, rules}
 use Rattle.codes.specs.Value.{value_of}
 use Rattle.bed_read.proofs.TableLaws.{code_there, code_inside, code_valued, filled_same, filled_more, filled_table}
-use Rattle.bed_read.proofs.table.table_of.Goals as goal
+use Rattle.bed_read.proofs.table.fill_table.Goals as goal
 
 pub loop-byte-init : goal.loop-byte-init
 loop-byte-init g c = record { long = search rules; filled = λ t h. absurd (omega arith) }
