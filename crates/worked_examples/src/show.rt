@@ -97,7 +97,7 @@ impl fmt::Display for Packed {
     }
 }
 
-// The same of decoding one.
+// The same of decoding one. Two enums with refusals of their own: one type of both would be passed the text of each.
 #[derive(Clone, Copy)]
 pub struct Decoded(pub Result<(), DecodeError>);
 
