@@ -8,13 +8,16 @@ use entries::{IidIndex, SidIndex};
 // How many markers are packed together where a matrix or a file goes animal by animal: 16 neighbouring values or codes of four animals are read, and a byte of each of 16 blocks is written.
 pub const TILE: usize = 16;
 
+// In marker order markers of so few animals are packed together too: one of them takes less time than going on to the next does.
+const FEW_ANIMALS: usize = 16;
+
 // How values are gone through in one order.
 #[derive(Clone, Copy)]
 pub(crate) struct Layout {
     // How far apart the values of two neighbouring animals stand, and those of two neighbouring markers.
     pub animal_stride: usize,
     pub marker_stride: usize,
-    // How many markers are packed together: one in marker order.
+    // How many markers are packed together: in marker order one, unless it has few animals.
     pub tile: usize,
 }
 
@@ -42,7 +45,7 @@ impl<'a, T: BedVal> Matrix<'a, T> {
             Layout {
                 animal_stride: 1,
                 marker_stride: self.iid_count,
-                tile: 1,
+                tile: if self.iid_count > FEW_ANIMALS { 1 } else { TILE },
             }
         }
     }

@@ -13,10 +13,10 @@ fn kept_byte(byte: u8, left: usize) -> u8
     ensures { result ≡ kept_byte left byte }
 {
     match left {
-        1 => byte % 4,
-        2 => byte % 16,
+        4.. => byte,
         3 => byte % 64,
-        _ => byte,
+        2 => byte % 16,
+        _ => byte % 4,
     }
 }
 

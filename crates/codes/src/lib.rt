@@ -6,5 +6,5 @@ mod table;
 mod values;
 
 pub use group::{Group, PAD, byte_of};
-pub use table::{CodeTable, code_of_item};
+pub use table::{CodeTable, code_of_item, codes};
 pub use values::{BedVal, Coding};

@@ -38,7 +38,15 @@ const CODES: [u8; 1024] = [
     0, 2, 3, 3, 1, 2, 3, 3, 2, 2, 3, 3, 3, 2, 3, 3, 0, 3, 3, 3, 1, 3, 3, 3, 2, 3, 3, 3, 3, 3, 3, 3,
 ];
 
-// The table, made once by whoever decodes many items.
+// The table.
+#[tactic(auto, unfolding(crate::specs::Code::code_table, crate::specs::Code::code_at, answer::specs::Lists::tabulate))]
+pub fn codes() -> [u8; 1024]
+    ensures { result ≡ code_table }
+{
+    CODES
+}
+
+// The same with what it is, made once by whoever decodes many items.
 #[derive(Drop)]
 pub struct CodeTable {
     codes: [u8; 1024],
@@ -46,11 +54,10 @@ pub struct CodeTable {
 }
 
 impl CodeTable {
-    #[tactic(auto, unfolding(crate::specs::Code::code_table, crate::specs::Code::code_at, answer::specs::Lists::tabulate))]
     pub fn new() -> CodeTable
         ensures { result.codes ≡ code_table }
     {
-        CodeTable { codes: CODES }
+        CodeTable { codes: codes() }
     }
 
     // The code of an item that stands in this byte.

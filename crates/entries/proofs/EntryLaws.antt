@@ -29,10 +29,11 @@ unfolding is_good means
 from_back count (pos i) p hc h f e = absurd (let b : i < 0 = ltb-true i 0 h in omega arith)
 from_back count (negsuc k) p hc h f e = wrapped count k p hc f e
 
-means_from_back : (count : ℕ) (z : ℤ) → lt_z z (pos 0) ≡ true → count - nat_abs z ≡ means count z
-unfolding means
-means_from_back count (pos i) h = absurd (let b : i < 0 = ltb-true i 0 h in omega arith)
-means_from_back count (negsuc k) h = refl
+-- a bad entry from the back
+past_front : (count : ℕ) (z : ℤ) → lt_z z (pos 0) ≡ true → is_good count z ≡ false → 0 ≡ means count z
+unfolding is_good means
+past_front count (pos i) h b = absurd (let c : i < 0 = ltb-true i 0 h in omega arith)
+past_front count (negsuc k) h b = let c : count ≤ k = ltb-false k count b in omega arith
 
 -- a good entry means a number below the count
 pub means_below : (count : ℕ) (z : ℤ) → is_good count z ≡ true → means count z < count
@@ -61,24 +62,23 @@ module _ (count : ℕ) (z : ℤ) (f : SFits w64 z) where
       → (ltb (nat_abs (to_z w64 (of_z w64 z))) count ≡ is_good count z) × (is_good count z ≡ true → nat_abs (to_z w64 (of_z w64 z)) ≡ means count z)
   place_front h = let r = from_front count z (front h) in (ap (λ (y : ℤ). ltb (nat_abs y) count) back ∙ r.0, λ _. ap nat_abs back ∙ r.1)
 
-  -- `number`, from the magnitude m
-  module _ (m : ℕ) (e : m ≡ nat_abs (to_z w64 (of_z w64 z))) where
-    magnitude : m ≡ nat_abs z
-    magnitude = e ∙ ap nat_abs back
+  -- `number` of a bad entry from the front, its magnitude m
+  pub number_front : (m : ℕ) → m ≡ nat_abs (to_z w64 (of_z w64 z)) → lt_z (to_z w64 (of_z w64 z)) (pos 0) ≡ false → m ≡ means count z
+  number_front m e h = e ∙ ap nat_abs back ∙ (from_front count z (front h)).1
 
-    pub number_back : lt_z (to_z w64 (of_z w64 z)) (pos 0) ≡ true → count - m ≡ means count z
-    number_back h = ap (λ (k : ℕ). count - k) magnitude ∙ means_from_back count z (negative h)
-
-    pub number_front : lt_z (to_z w64 (of_z w64 z)) (pos 0) ≡ false → m ≡ means count z
-    number_front h = magnitude ∙ (from_front count z (front h)).1
-
-  -- `is_good` and the step, from the place p
+  -- `is_good`, `number` and the step, from the place p
   module _ (p : ℕ) (t : (ltb p count ≡ is_good count (to_z w64 (of_z w64 z))) × (is_good count (to_z w64 (of_z w64 z)) ≡ true → p ≡ means count (to_z w64 (of_z w64 z)))) where
     pub placed : (ltb p count ≡ is_good count z) × (is_good count z ≡ true → p ≡ means count z)
     placed = subst (λ (y : ℤ). (ltb p count ≡ is_good count y) × (is_good count y ≡ true → p ≡ means count y)) back t
 
     pub tests_good : ltb p count ≡ is_good count z
     tests_good = placed.0
+
+    pub number_good : p < count → p ≡ means count z
+    number_good h = placed.1 (sym placed.0 ∙ lt-ltb p count h)
+
+    pub number_none : count ≤ p → lt_z (to_z w64 (of_z w64 z)) (pos 0) ≡ true → 0 ≡ means count z
+    number_none g h = past_front count z (negative h) (sym placed.0 ∙ le-ltb p count g)
 
   pub still_good : (b : Bool) → b ≡ is_good count (to_z w64 (of_z w64 z)) → b ≡ is_good count z
   still_good b e = e ∙ ap (is_good count) back

@@ -108,17 +108,19 @@ fn is_good(count: usize, entry: i64) -> bool
     place(count, entry) < count
 }
 
-// The number that a good entry means.
-#[tactic(auto, using(crate::proofs::EntryLaws::number_back, crate::proofs::EntryLaws::number_front))]
+// The number that a good entry means: its place, so that the sign is met by no branch. A bad one means 0 from the back, and itself from the front.
+#[tactic(auto, using(crate::proofs::EntryLaws::number_good, crate::proofs::EntryLaws::number_none, crate::proofs::EntryLaws::number_front))]
 fn number(count: usize, entry: i64) -> usize
     ensures { result ≡ means count entry }
 {
-    let size = entry.unsigned_abs() as usize;
-    if entry < 0 {
-        count.saturating_sub(size)
-    } else {
-        size
+    let place = place(count, entry);
+    if place < count {
+        return place;
     }
+    if entry < 0 {
+        return 0;
+    }
+    entry.unsigned_abs() as usize
 }
 
 // The item that a good entry means.

@@ -60,14 +60,16 @@ impl From<SliceError> for ListError {
     }
 }
 
-// A list into the buffer, as it is.
+// A list into the buffer, as it is. Place by place: `copy_from_slice`, of a list that stands in an index, would be `memmove`, which nothing else here needs.
 fn vec_to_vec(vec: &[i64], list: &mut [i64]) -> Result<usize, ListError>
     ensures { Listed vec.now list.old (list_says result) list.new }
 {
     if vec.len() > list.len() {
         return Err(ListError::ListTooShort);
     }
-    list[..vec.len()].copy_from_slice(vec);
+    for k in 0..vec.len() {
+        list[k] = vec[k];
+    }
     Ok(vec.len())
 }
 

@@ -24,6 +24,14 @@ const ATA: Product = Product {
     tile_width: 0,
 };
 
+// A'A of one row, whose columns stand side by side, as the rows of AA' do.
+const ATA_OF_ONE_ROW: Product = Product {
+    least_width: ATA.least_width,
+    rows_together: AAT.rows_together,
+    block_rows: AAT.block_rows,
+    tile_width: AAT.tile_width,
+};
+
 // AA': all rows with some terms, then with the next ones.
 const AAT: Product = Product {
     least_width: 0,
@@ -61,8 +69,9 @@ pub fn file_ata_piece_f64(
         ATA.least_width,
         piece.len(),
     )?;
+    let product = if row_count == 1 { ATA_OF_ONE_ROW } else { ATA };
     walk::lower_piece(
-        ATA,
+        product,
         bytes,
         offset,
         col_start * row_count,
