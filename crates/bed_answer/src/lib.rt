@@ -21,11 +21,10 @@ use bed_write::{EncodeError, WriteError};
 use blocks::DivError;
 use canonical::CanonicalError;
 use entries::SpanError;
-use index::{ListError, RangeError};
+use index::{Bounds, ListError, RangeError};
 use product::PieceError;
 use read_standardised::JoinedError;
 use standardise::StandardiseError;
-use std::ops::Range;
 
 // What every call answers: document 01's number, or 0, and what goes with it, or 0.
 #[repr(C)]
@@ -116,10 +115,10 @@ impl From<Result<(usize, usize), SpanError>> for BedAnswer {
     }
 }
 
-impl From<Result<Range<usize>, RangeError>> for BedAnswer {
+impl From<Result<Bounds, RangeError>> for BedAnswer {
     ghost from_gives = { λ said answer. answer ≡ bed_answer (clip_answer (range_says said)) };
 
-    fn from(said: Result<Range<usize>, RangeError>) -> BedAnswer {
+    fn from(said: Result<Bounds, RangeError>) -> BedAnswer {
         match said {
             Ok(range) => two(0, range.start, range.end),
             Err(RangeError::CountTooLarge) => bare(18),

@@ -95,18 +95,23 @@ fn bounded_list(rt: &impl Print, many: usize) -> io::Result<()> {
     )
 }
 
-fn main(rt: HostRuntime) -> io::Result<()> {
+fn answers(rt: &impl Print) -> io::Result<()> {
     let many = answer::COUNT_LIMIT;
-    bounded(&rt, many)?;
+    bounded(rt, many)?;
     print!(rt;
         "no markers, so none is refused, 2^63 - 1 animals: saw standardised in both orders"
     )?;
-    no_markers(&rt, many, false)?;
-    no_markers(&rt, many, true)?;
+    no_markers(rt, many, false)?;
+    no_markers(rt, many, true)?;
     print!(rt; "\na file of 3 bytes, 0 animals and 2^63 - 1 markers")?;
-    bounded_file(&rt, 0, many)?;
+    bounded_file(rt, 0, many)?;
     print!(rt; "a file of 3 bytes, 2^63 - 1 animals and 0 markers")?;
-    bounded_file(&rt, many, 0)?;
-    bounded_piece(&rt, many)?;
-    bounded_list(&rt, many)
+    bounded_file(rt, many, 0)?;
+    bounded_piece(rt, many)?;
+    bounded_list(rt, many)
+}
+
+// What cannot be written is left unsaid: the program fails for nothing.
+fn main(rt: HostRuntime) {
+    let _ = answers(&rt);
 }

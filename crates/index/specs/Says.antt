@@ -1,8 +1,8 @@
 -- What each result of the code says: document 01's number and the values for each of its cases.
 use Rattle.std.specs.Prelude.{ℕ, [], ◌∷◌, pos, Result, Ok, Err}
-use Rattle.std.specs.declared.ops.Range.{Range}
 use Rattle.answer.specs.Answer.{Answer, done, refused}
 use Rattle.index.specs.declared.ListError.{ListError}
+use Rattle.index.specs.declared.range.Bounds.{Bounds}
 use Rattle.index.specs.declared.range.RangeError.{RangeError}
 
 -- the number of each refusal of a list
@@ -26,6 +26,6 @@ list_says (Ok length) = done (pos length ∷ [])
 list_says (Err error) = refused (list_refusal error) []
 
 -- the start and the end of a range, or a refusal
-abbrev pub range_says : Result (Range ℕ) RangeError → Answer
+abbrev pub range_says : Result Bounds RangeError → Answer
 range_says (Ok range) = done (pos range.start ∷ pos range.end ∷ [])
 range_says (Err error) = refused (range_refusal error) []

@@ -10,7 +10,7 @@ mod marks;
 mod range;
 mod slice;
 
-pub use range::{RangeAny, RangeError};
+pub use range::{Bounds, RangeAny, RangeError};
 pub use slice::SliceInfo1;
 use slice::{RangeNdSlice, SliceError};
 
@@ -94,7 +94,7 @@ impl<'a> Index<'a> {
             }
             Index::RangeAny(range) => {
                 let found = range.to_range(count)?;
-                slice::consecutive(found).to_vec(list)
+                slice::consecutive(found.start..found.end).to_vec(list)
             }
             Index::NDSliceInfo(nd_slice_info) => {
                 let slice = RangeNdSlice::new(nd_slice_info, count)?;
