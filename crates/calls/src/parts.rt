@@ -22,7 +22,7 @@ pub fn entry_part<I: Item>(shape: Shape, entry: i64) -> Part
     ensures { IsPart (is_block shape.mode1 I.is_animal) shape.width (means (count_of I.is_animal shape) entry) result }
 {
     let item: I = entries::item_of(count_of::<I>(shape), entry);
-    part_of(shape, item)
+    part_of::<I>(shape, item)
 }
 
 // Whether the entries of a list are the items of a block, in order.

@@ -28,7 +28,7 @@ pub(crate) fn keep_blocks(accepted: &Accepted, out: &mut [u8])
     let shape = accepted.shape;
     let width = accepted.out_width;
     for m in 0..shape.sids {
-        let start = calls::part_of(shape, SidIndex(m)).byte;
+        let start = calls::part_of::<SidIndex>(shape, SidIndex(m)).byte;
         let at = 3 + m * width;
         for b in 0..width {
             out[at + b] = kept_byte(accepted.file[start + b], shape.iids - 4 * b);

@@ -16,7 +16,7 @@ fn four_starts(shape: Shape, first: usize) -> [usize; 4]
     requires { first + 4 < 2 ^ 64 }
     ensures { Starts shape first result }
 {
-    array::from_fn(|k| calls::part_of(shape, IidIndex(first + k)).byte)
+    array::from_fn(|k| calls::part_of::<IidIndex>(shape, IidIndex(first + k)).byte)
 }
 
 // One item of the blocks of four animals, of which `left` are there.
@@ -86,7 +86,7 @@ pub(crate) fn turn_blocks(accepted: &Accepted, out: &mut [u8])
                     file: accepted.file,
                     starts: &starts,
                     left: shape.iids - first,
-                    item: calls::part_of(shape, SidIndex(m)),
+                    item: calls::part_of::<SidIndex>(shape, SidIndex(m)),
                     codes: &codes,
                 };
                 out[3 + m * width + b] = group.byte();
