@@ -2,6 +2,7 @@
 // tools/differential/README.md has the form of a line.
 #![tactic(auto)]
 
+pub mod beginning;
 pub mod line;
 pub mod stored;
 pub mod text;
