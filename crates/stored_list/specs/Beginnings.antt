@@ -28,6 +28,14 @@ begun_after NoWord b = NoWord
 begun_after (Word n) b = word_met n b
 begun_after (WordAndMore n) b = WordAndMore n
 
+-- whether what comes after is not looked at
+abbrev pub is_settled : Beginning → Bool
+is_settled Nothing = false
+is_settled Comment = true
+is_settled NoWord = true
+is_settled (Word n) = false
+is_settled (WordAndMore n) = true
+
 -- how a line begins
 abbrev pub beginning_of : List ℕ → Beginning
 beginning_of text = fold begun_after Nothing text

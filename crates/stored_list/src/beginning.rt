@@ -2,7 +2,7 @@
 ghost use Rattle.std.specs.Prelude.{◌≡◌, true};
 ghost use Rattle.std.specs.Char.{digit_value};
 ghost use Rattle.stored_list.specs.Lines.{is_digit};
-ghost use Rattle.stored_list.specs.Beginnings.{begun_after, beginning_of, first_word};
+ghost use Rattle.stored_list.specs.Beginnings.{begun_after, beginning_of, first_word, is_settled};
 
 use crate::text::is_digit;
 
@@ -21,7 +21,7 @@ pub enum Beginning {
     WordAndMore(u64),
 }
 
-fn digit(byte: u8) -> u64
+pub(crate) fn digit(byte: u8) -> u64
     requires { is_digit byte ≡ true }
     ensures { result ≡ digit_value byte }
 {
@@ -52,10 +52,24 @@ impl Beginning {
         }
     }
 
+    // Whether nothing that comes after is looked at.
+    fn is_settled(self) -> bool
+        ensures { result ≡ is_settled self }
+    {
+        !matches!(self, Beginning::Nothing | Beginning::Word(_))
+    }
+
     pub fn of(text: &str) -> Beginning
         ensures { result ≡ beginning_of text.now }
     {
-        text.bytes().fold(Beginning::Nothing, Beginning::after)
+        let mut beginning = Beginning::Nothing;
+        for &byte in text.as_bytes() {
+            beginning = beginning.after(byte);
+            if beginning.is_settled() {
+                break;
+            }
+        }
+        beginning
     }
 
     // The number of the first word, if there is one.

@@ -6,3 +6,4 @@ pub mod beginning;
 pub mod line;
 pub mod stored;
 pub mod text;
+mod words;

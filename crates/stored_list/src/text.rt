@@ -1,8 +1,7 @@
 // The parts of a line's text: words of hexadecimal digits, and sections of words.
 ghost use Rattle.std.specs.Prelude.{◌≡◌};
-ghost use Rattle.std.specs.Option.{is_some};
 ghost use Rattle.stored_list.specs.Beginnings.{is_comment};
-ghost use Rattle.stored_list.specs.Lines.{is_digit, word_of, words_of};
+ghost use Rattle.stored_list.specs.Lines.{is_digit, word_of};
 
 use crate::beginning::Beginning;
 
@@ -35,13 +34,4 @@ pub fn word(text: &str) -> Option<u64>
     } else {
         None
     }
-}
-
-// Whether a text is a section: words with a space between two, or none.
-pub(crate) fn is_section(text: &str) -> bool
-    ensures { result ≡ is_some (words_of text.now) }
-{
-    text.is_empty()
-        || (text.split(' ').count() <= WORD_LIMIT
-            && text.split(' ').all(|part| word(part).is_some()))
 }
