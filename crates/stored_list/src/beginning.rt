@@ -21,14 +21,12 @@ pub enum Beginning {
     WordAndMore(u64),
 }
 
+// The low four bits of `0` to `9` are its value, those of `a` to `f` 9 less, and only letters have a bit 64.
 pub(crate) fn digit(byte: u8) -> u64
     requires { is_digit byte ≡ true }
     ensures { result ≡ digit_value byte }
 {
-    match byte {
-        b'0'..=b'9' => u64::from(byte - b'0'),
-        _ => u64::from(byte - b'a') + 10,
-    }
+    u64::from(byte % 16 + 9 * (byte / 64))
 }
 
 impl Beginning {

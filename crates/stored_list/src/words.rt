@@ -53,19 +53,22 @@ impl Words {
         if text.is_empty() {
             return Ok(());
         }
-        let mut word = None;
+        // The word so far, if it has a digit.
+        let mut number = 0;
+        let mut is_word = false;
         for &byte in text.as_bytes() {
             if byte == b' ' {
-                self.push(word)?;
-                word = None;
+                self.push(is_word.then_some(number))?;
+                number = 0;
+                is_word = false;
             } else {
-                let number = word.unwrap_or(0);
                 if !is_digit(byte) || number >= 1 << 60 {
                     return Err(BadForm);
                 }
-                word = Some(16 * number + digit(byte));
+                number = 16 * number + digit(byte);
+                is_word = true;
             }
         }
-        self.push(word)
+        self.push(is_word.then_some(number))
     }
 }
