@@ -44,9 +44,13 @@ pub struct Counts {
     controls_differing: u64,
 }
 
-// No count gets near its limit.
-fn one_more(count: &mut u64) {
-    *count = count.saturating_add(1);
+// Nothing is counted further.
+const COUNT_LIMIT: u64 = 1_000_000;
+
+pub(crate) fn one_more(count: &mut u64) {
+    if *count < COUNT_LIMIT {
+        *count += 1;
+    }
 }
 
 impl Counts {

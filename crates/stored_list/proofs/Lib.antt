@@ -1,3 +1,4 @@
 pub mod ListLaws
 pub mod TextLaws
 pub mod PartLaws
+pub mod ReadLaws

@@ -4,6 +4,7 @@ use Rattle.std.specs.Option.{unwrap_or, is_some, option_map_or}
 use Rattle.std.specs.List.{list_all, slice_get}
 use Rattle.std.proofs.lemmas.Bool.{and_right, false≢true}
 use Rattle.stored_list.specs.Lines.{each, of_length}
+use Rattle.stored_list.specs.Readings.{before}
 use Rattle.stored_list.specs.Buffers.{same_words}
 
 pub some_read : {A : Type 0} (o : Option A) (d : A) → is_some o ≡ true → o ≡ Some (unwrap_or o d)
@@ -11,9 +12,6 @@ some_read None d e = absurd (false≢true e)
 some_read (Some x) d e = refl
 
 module _ {A B : Type 0} (f : A → Option B) where
-  abbrev before : Option B → Option (List B) → Option (List B)
-  before o l = option_and_then (λ y. option_map (λ ys. y ∷ ys) l) o
-
   both_told : (o : Option B) (l : Option (List B)) → is_some o && is_some l ≡ is_some (before o l)
   both_told None l = refl
   both_told (Some y) None = refl
@@ -69,17 +67,13 @@ module _ {A B : Type 0} (f : A → Option B) where
     all_read (Some zs) ys e = let p = allowed_read (allowed (length zs)) zs ys e in (ap Some p.1, ap (λ l. allowed (length l)) (sym p.1) ∙ p.0)
 
 module _ {A : Type 0} (word : A → ℕ) (of : ℕ → ℕ) where
-  -- the elements beside what gives the words of another list of their length
-  pub same_pairs : {B : Type 0} (f : B → Option ℕ) (xs : List A) (ps : List B) (ws : List ℕ) → each f ps ≡ Some ws → length xs ≡ length ws
-      → list_all (λ (p : A × B). option_map_or (λ w. eqb (word p.0) (of w)) (f p.1) false) (zip xs ps) ≡ same_words word of xs ws
-  unfolding each same_words
-  same_pairs f [] ps [] e l = refl
-  same_pairs f [] ps (w ∷ ws) e l = absurd (omega (arith, l))
-  same_pairs f (x ∷ xs) ps [] e l = absurd (omega (arith, l))
-  same_pairs f (x ∷ xs) [] (w ∷ ws) e l = absurd (omega (arith, each_length f [] (w ∷ ws) e))
-  same_pairs f (x ∷ xs) (p ∷ ps) (w ∷ ws) e l =
-      let k = first_read f (f p) (each f ps) (w ∷ ws) e in
-      (λ i. option_map_or (λ w. eqb (word x) (of w)) (k.2 i) false && same_pairs f xs ps k.1 k.3 (omega (arith, l, ap length k.4)) i) ∙ sym (ap (same_words word of (x ∷ xs)) k.4)
+  -- the elements beside the words of another list of their length
+  pub same_pairs : (xs : List A) (ws : List ℕ) → length xs ≡ length ws → list_all (λ (p : A × ℕ). eqb (word p.0) (of p.1)) (zip xs ws) ≡ same_words word of xs ws
+  unfolding same_words
+  same_pairs [] [] l = refl
+  same_pairs [] (w ∷ ws) l = absurd (omega (arith, l))
+  same_pairs (x ∷ xs) [] l = absurd (omega (arith, l))
+  same_pairs (x ∷ xs) (w ∷ ws) l = ap (λ b. eqb (word x) (of w) && b) (same_pairs xs ws (omega (arith, l)))
 
   -- two lists of other lengths
   pub same_lengths : (xs : List A) (ws : List ℕ) → (length xs ≡ length ws → ⊥) → false ≡ same_words word of xs ws

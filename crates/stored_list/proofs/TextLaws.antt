@@ -15,9 +15,9 @@ use Rattle.stored_list.specs.declared.line.Section.{Section}
 use Rattle.stored_list.specs.declared.line.Section.TheVariants.{Head, Bytes, Out, Index, List as Lists, I8s, F64s, Stats, Answer, Later, LaterStats}
 use Rattle.stored_list.specs.Words.{place_of}
 use Rattle.stored_list.specs.Buffers.{same_words}
-use Rattle.stored_list.proofs.ListLaws.{some_read, each_at, each_length, all_told, all_read, same_pairs}
+use Rattle.stored_list.proofs.ListLaws.{some_read, each_at, each_length, all_told, all_read}
 
-digit_below : (b : ℕ) → is_digit b ≡ true → digit_value b < 16
+pub digit_below : (b : ℕ) → is_digit b ≡ true → digit_value b < 16
 digit_below b h = grind (arith, nat_tests)
 
 no_plus : (b : ℕ) → is_digit b ≡ true → b ≢ 43
@@ -64,7 +64,11 @@ module _ (text : List ℕ) where
   unfolding words_of
   empty_told h = rw h refl
 
-  words_by_parts : eqb (length text) 0 ≡ false → words_of text ≡ option_and_then (of_length (λ n. leb n 64)) (each word_of (parts text))
+  pub empty_section : eqb (length text) 0 ≡ true → words_of text ≡ Some []
+  unfolding words_of
+  empty_section h = rw h refl
+
+  pub words_by_parts : eqb (length text) 0 ≡ false → words_of text ≡ option_and_then (of_length (λ n. leb n 64)) (each word_of (parts text))
   unfolding words_of
   words_by_parts h = rw h refl
 
@@ -133,16 +137,3 @@ module _ (ws : List ℕ) where
   word_at_place [] e zero = sym (ap (λ l. get_or l 0 0) (none_empty e))
   word_at_place [] e (suc i) = sym (ap (λ l. get_or l (suc i) 0) (none_empty e))
   word_at_place (b ∷ bs) e i = ap (λ o. unwrap_or o 0) (each_at word_of (parts (b ∷ bs)) ws (some_parts b bs e).0 i) ∙ unwrap_or-slice_get ws i 0
-
-  -- a list of as many elements, beside the parts
-  pub same_parts : {A : Type 0} (word : A → ℕ) (of : ℕ → ℕ) (xs : List A) (text : List ℕ) → words_of text ≡ Some ws → length xs ≡ length ws
-      → list_all (λ (p : A × List ℕ). option_map_or (λ w. eqb (word p.0) (of w)) (word_of p.1) false) (zip xs (parts text)) ≡ same_words word of xs ws
-  unfolding same_words
-  same_parts word of [] [] e l = sym (ap (same_words word of []) (none_empty e))
-  same_parts word of (x ∷ xs) [] e l = absurd (omega (arith, l, ap length (none_empty e)))
-  same_parts word of xs (b ∷ bs) e l = same_pairs word of word_of xs (parts (b ∷ bs)) ws (some_parts b bs e).0 l
-
--- what a call that may be given a part and reads it gives
-pub part_word : {A : Type 0} (v : A → List ℕ) (r : Option A) (q : Option ℕ) → MatchOption r (q ≡ None) (λ x. q ≡ word_of (v x)) → q ≡ option_and_then word_of (option_map v r)
-part_word v None q h = h
-part_word v (Some x) q h = h

@@ -2,6 +2,8 @@
 // tools/differential/README.md has the form of a line.
 #![tactic(auto)]
 
+pub mod beginning;
 pub mod line;
 pub mod stored;
 pub mod text;
+mod words;

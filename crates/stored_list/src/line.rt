@@ -1,9 +1,11 @@
 // A line, and what stands in its sections.
-ghost use Rattle.std.specs.Prelude.{◌≡◌, true, is_some};
+ghost use Rattle.std.specs.Prelude.{◌≡◌, Some, map};
 ghost use Rattle.stored_list.specs.Lines.{line_of};
+ghost use Rattle.stored_list.specs.Readings.{listed};
 
 use crate::stored::Stored;
-use crate::text::{BadForm, is_section, word};
+use crate::text::BadForm;
+use crate::words::Words;
 
 // How many sections a line has.
 pub const SECTION_COUNT: usize = 11;
@@ -26,58 +28,58 @@ pub enum Section {
     LaterStats,
 }
 
-// A text that has the form of a line. Its words are read where they are asked for.
+// A text that has the form of a line, and its words.
 #[derive(Clone, Copy, Debug)]
 pub struct Line<'a> {
     text: &'a str,
-    ghost has_form: { is_some (line_of text.now) ≡ true },
+    sections: [Words; SECTION_COUNT],
+    ghost has_form: { line_of text.now ≡ Some (map listed sections) },
 }
 
 impl<'a> Line<'a> {
-    ghost use Rattle.std.specs.Prelude.{◌≡◌, ◌+◌, ◌≤◌, length, Some, option_map};
+    ghost use Rattle.std.specs.Prelude.{◌≡◌, ◌+◌, ◌≤◌, length, option_map};
     ghost use Rattle.std.specs.Result.{result_ok};
-    ghost use Rattle.stored_list.specs.Lines.{line_of, words_of};
+    ghost use Rattle.stored_list.specs.Lines.{line_of};
     ghost use Rattle.stored_list.specs.Words.{sections_in, words_at, length_at, word_at};
     ghost use Rattle.stored_list.specs.Buffers.{buffer_at, same_at};
 
     pub fn parse(text: &'a str) -> Result<Line<'a>, BadForm>
         ensures { option_map sections_in (result_ok result) ≡ line_of text.now }
     {
-        if text.split('|').count() == SECTION_COUNT && text.split('|').all(is_section) {
-            Ok(Line { text })
-        } else {
-            Err(BadForm)
+        let mut sections = [Words::none(); SECTION_COUNT];
+        let mut parts = text.split('|');
+        for section in sections.iter_mut() {
+            let Some(part) = parts.next() else {
+                return Err(BadForm);
+            };
+            section.read(part)?;
         }
+        if parts.next().is_some() {
+            return Err(BadForm);
+        }
+        Ok(Line { text, sections })
     }
 
-    // The text of a section.
-    fn section(&self, section: Section) -> &'a str
-        ensures { words_of result.now ≡ Some (words_at self.now section) }
+    // The words of a section.
+    fn section(&self, section: Section) -> &[u64]
+        ensures { (result.now ≡ words_at self.now section) × (length result.now ≤ 64) }
     {
-        self.text.split('|').nth(section as usize).unwrap_or("")
+        let sections = &self.sections;
+        sections[section as usize].as_slice()
     }
 
     // How many words a section has, at most 64.
     pub fn len(&self, section: Section) -> usize
         ensures { (result ≡ length_at self.now section) × (result ≤ 64) }
     {
-        let text = self.section(section);
-        if text.is_empty() {
-            0
-        } else {
-            text.split(' ').count()
-        }
+        self.section(section).len()
     }
 
     // A word of a section, or 0 past its end.
     pub fn word(&self, section: Section, i: usize) -> u64
         ensures { result ≡ word_at self.now section i }
     {
-        self.section(section)
-            .split(' ')
-            .nth(i)
-            .and_then(word)
-            .unwrap_or(0)
+        self.section(section).get(i).copied().unwrap_or(0)
     }
 
     // Number i of the call: the words of the head after whose answer it is and the call.
@@ -91,9 +93,8 @@ impl<'a> Line<'a> {
     pub fn buffer_at<T: Stored>(&self, section: Section, buffer: &mut [T])
         ensures { buffer.new ≡ buffer_at T.value self.now section (length buffer.old) }
     {
-        let mut words = self.section(section).split(' ');
-        for place in buffer.iter_mut() {
-            *place = T::from_word(words.next().and_then(word).unwrap_or(0));
+        for i in 0..buffer.len() {
+            buffer[i] = T::from_word(self.word(section, i));
         }
     }
 
@@ -104,7 +105,7 @@ impl<'a> Line<'a> {
         if got.len() != self.len(section) {
             return false;
         }
-        let mut pairs = got.iter().zip(self.section(section).split(' '));
-        pairs.all(|(x, part)| word(part).is_some_and(|bits| x.has_word(bits)))
+        let mut pairs = got.iter().zip(self.section(section).iter());
+        pairs.all(|(x, bits)| x.has_word(*bits))
     }
 }

@@ -1,7 +1,9 @@
 // The parts of a line's text: words of hexadecimal digits, and sections of words.
 ghost use Rattle.std.specs.Prelude.{◌≡◌};
-ghost use Rattle.std.specs.Option.{is_some};
-ghost use Rattle.stored_list.specs.Lines.{is_comment, is_digit, word_of, words_of};
+ghost use Rattle.stored_list.specs.Beginnings.{is_comment};
+ghost use Rattle.stored_list.specs.Lines.{is_digit, word_of};
+
+use crate::beginning::Beginning;
 
 // The most words of a section.
 pub const WORD_LIMIT: usize = 64;
@@ -10,14 +12,14 @@ pub const WORD_LIMIT: usize = 64;
 #[derive(Clone, Copy, Debug, PartialEq, Eq)]
 pub struct BadForm;
 
-// Whether a line is a comment.
+// Whether a line is a comment: `#` stands in it before any digit and any `|`.
 pub fn is_comment(text: &str) -> bool
     ensures { result ≡ is_comment text.now }
 {
-    text.starts_with('#')
+    Beginning::of(text) == Beginning::Comment
 }
 
-fn is_digit(byte: u8) -> bool
+pub(crate) fn is_digit(byte: u8) -> bool
     ensures { result ≡ is_digit byte }
 {
     matches!(byte, b'0'..=b'9' | b'a'..=b'f')
@@ -32,13 +34,4 @@ pub fn word(text: &str) -> Option<u64>
     } else {
         None
     }
-}
-
-// Whether a text is a section: words with a space between two, or none.
-pub(crate) fn is_section(text: &str) -> bool
-    ensures { result ≡ is_some (words_of text.now) }
-{
-    text.is_empty()
-        || (text.split(' ').count() <= WORD_LIMIT
-            && text.split(' ').all(|part| word(part).is_some()))
 }
