@@ -45,7 +45,11 @@ impl<'a, T: BedVal> Matrix<'a, T> {
             Layout {
                 animal_stride: 1,
                 marker_stride: self.iid_count,
-                tile: if self.iid_count > FEW_ANIMALS { 1 } else { TILE },
+                tile: if self.iid_count > FEW_ANIMALS {
+                    1
+                } else {
+                    TILE
+                },
             }
         }
     }

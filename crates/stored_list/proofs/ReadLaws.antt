@@ -30,8 +30,8 @@ pub settled_at : (text bytes : List ℕ) → bytes ≡ text → (b r : Beginning
 settled_at text bytes same b r i sofar h e s =
     let low : i < length text = omega (arith, h, ap length same) in
     settled_stays r (drop (i + 1) text) s
-        ∙ ap (λ z. fold begun_after z (drop (i + 1) text)) (e ∙ ap (λ l. begun_after b (get_or l i 0)) same)
-        ∙ sym (sofar ∙ at_drop_more (fold begun_after b) text i 0 low)
+    ∙ ap (λ z. fold begun_after z (drop (i + 1) text)) (e ∙ ap (λ l. begun_after b (get_or l i 0)) same)
+    ∙ sym (sofar ∙ at_drop_more (fold begun_after b) text i 0 low)
 
 -- ---- a word
 -- the word of more digits, where n is the number of those that were read, if any were
@@ -71,7 +71,7 @@ none_after n has b p h = by_digit (is_digit b) refl (cases_lt n (2 ^ 60))
         let g = grows (n * 16 + digit_value b) p in
         let many : 2 ^ 64 ≤ digits_value_after 16 (n * 16 + digit_value b) p = omega (arith, g, l) in
         ap (λ t. cond t (Some (digits_value_after 16 (n * 16 + digit_value b) p)) None)
-            (sym (third_false (list_all is_digit (b ∷ p)) (has || ltb 0 (suc (length p))) (ltb (digits_value_after 16 (n * 16 + digit_value b) p) (2 ^ 64)) (le-ltb (digits_value_after 16 (n * 16 + digit_value b) p) (2 ^ 64) many)))
+        (sym (third_false (list_all is_digit (b ∷ p)) (has || ltb 0 (suc (length p))) (ltb (digits_value_after 16 (n * 16 + digit_value b) p) (2 ^ 64)) (le-ltb (digits_value_after 16 (n * 16 + digit_value b) p) (2 ^ 64) many)))
 
 -- ---- a section
 abbrev NonEmpty : List (List ℕ) → Type 0
@@ -105,15 +105,17 @@ byte_read w b bs h none some = by_space (eqb b 32) refl
   where
     n : ℕ
     n = unwrap_or w 0
+
     by_digit : (t : Bool) → is_digit b && ltb n (2 ^ 60) ≡ t → (k : NonEmpty (parts bs)) → cond t (words_left (Some (16 * n + digit_value b)) bs) None ≡ first_each (word_after n (is_some w)) (onto_first b (parts bs))
     by_digit true e k =
         let d = and_parts (is_digit b) (ltb n (2 ^ 60)) e in
         let low : n < 2 ^ 60 = ltb-true n (2 ^ 60) d.1 in
         some (16 * n + digit_value b) (omega (arith, low, digit_below b d.0))
-            ∙ ap (first_each (word_after (16 * n + digit_value b) true)) k.2
-            ∙ ap (λ o. before o (each word_of k.1)) (more_after n (is_some w) b k.0 d.0)
-            ∙ ap (λ l. first_each (word_after n (is_some w)) (onto_first b l)) (sym k.2)
+        ∙ ap (first_each (word_after (16 * n + digit_value b) true)) k.2
+        ∙ ap (λ o. before o (each word_of k.1)) (more_after n (is_some w) b k.0 d.0)
+        ∙ ap (λ l. first_each (word_after n (is_some w)) (onto_first b l)) (sym k.2)
     by_digit false e k = ap (λ o. before o (each word_of k.1)) (none_after n (is_some w) b k.0 e) ∙ ap (λ l. first_each (word_after n (is_some w)) (onto_first b l)) (sym k.2)
+
     by_space : (t : Bool) → eqb b 32 ≡ t → words_left w (b ∷ bs) ≡ first_each (word_after n (is_some w)) (parts (b ∷ bs))
     by_space true e = rw e ((λ i. before (nothing_after w h i) ((none ∙ first_of_all (parts bs)) i)))
     by_space false e = rw e (by_digit (is_digit b && ltb n (2 ^ 60)) refl (nonempty bs))
@@ -261,8 +263,8 @@ module _ (text : List ℕ) (secs : List Words) (i : ℕ) (sofar : each words_of 
       → each words_of (sections text) ≡ onto (map listed (take (i + 1) (set secs i new))) l
   section_taken o l new h e s =
       sofar ∙ ap (λ z. onto (map listed (take i secs)) z) (e ∙ ap (λ z. before z l) s)
-          ∙ onto_before (map listed (take i secs)) (listed new) l
-          ∙ ap (λ z. onto z l) (sym (ap (λ z. map listed z) (take_more_set secs i new h) ∙ map_push listed (take i secs) new))
+      ∙ onto_before (map listed (take i secs)) (listed new) l
+      ∙ ap (λ z. onto z l) (sym (ap (λ z. map listed z) (take_more_set secs i new h) ∙ map_push listed (take i secs) new))
 
   pub too_few : i < 11 → each words_of (drop i (sections text)) ≡ Some [] → line_of text ≡ None
   too_few h e =

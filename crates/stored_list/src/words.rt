@@ -28,11 +28,9 @@ impl Words {
 
     // One word more, if there is one and room for it.
     fn push(&mut self, word: Option<u64>) -> Result<(), BadForm>
-        ensures {
-            MatchResult result
-                (λ _. (left : Option (List ℕ)) → few (onto (listed self.old) (before word left)) ≡ few (onto (listed self.new) left))
-                (λ _. (left : Option (List ℕ)) → few (onto (listed self.old) (before word left)) ≡ None)
-        }
+        ensures { MatchResult result
+            (λ _. (left : Option (List ℕ)) → few (onto (listed self.old) (before word left)) ≡ few (onto (listed self.new) left))
+            (λ _. (left : Option (List ℕ)) → few (onto (listed self.old) (before word left)) ≡ None) }
     {
         let Some(word) = word else {
             return Err(BadForm);

@@ -30,7 +30,7 @@ returns-in_err-read c =
     let next = part_taken (split_steps FindsChar (λ a b. b ≡ a)) (λ part. part.now) (λ s t p. p.1) all i c.next.result c.loop-section.invariant.0 c.next.ensures.steps in
     let left = left_at_some words_of (λ part. part.now) all i c.next.result next.0 c.in-Some.part c.in-Some.is in
     nothing_made sections_in c.from_residual.result (line_of text) c.from_residual.ensures.0
-        (section_wrong text c.loop-section.section-items i c.loop-section.invariant.1 (words_of c.in-Some.part.now) (each words_of (drop (i + 1) all)) left c.in_err-read.ensures)
+    (section_wrong text c.loop-section.section-items i c.loop-section.invariant.1 (words_of c.in-Some.part.now) (each words_of (drop (i + 1) all)) left c.in_err-read.ensures)
 
 pub loop-section-preserved : goal.loop-section-preserved
 loop-section-preserved c =
@@ -49,7 +49,7 @@ returns-then-is_some c =
     let next = part_taken (split_steps FindsChar (λ a b. b ≡ a)) (λ part. part.now) (λ s t p. p.1) all i c.next-2.result c.loop-section.invariant.0 c.next-2.ensures.steps in
     let none : true ≡ false → None ≡ line_of text = λ e. absurd (false≢true (sym e)) in
     by_option c.next-2.result true (sym c.is_some.ensures ∙ c.if-is_some.true) (λ b e. none b)
-        (λ b x e. sym (too_many text c.loop-section.section-items i c.loop-section.invariant.1 (omega (arith, c.loop-section-test.false, c.loop-section-test.array_long)) c.loop-section-test.array_long (words_of x.now) (each words_of (drop (i + 1) all)) (left_at_some words_of (λ part. part.now) all i c.next-2.result next.0 x e)))
+    (λ b x e. sym (too_many text c.loop-section.section-items i c.loop-section.invariant.1 (omega (arith, c.loop-section-test.false, c.loop-section-test.array_long)) c.loop-section-test.array_long (words_of x.now) (each words_of (drop (i + 1) all)) (left_at_some words_of (λ part. part.now) all i c.next-2.result next.0 x e)))
 
 pub invariant_of-result : goal.invariant_of-result
 invariant_of-result c =
@@ -58,5 +58,5 @@ invariant_of-result c =
     let all = sections text in
     let next = part_taken (split_steps FindsChar (λ a b. b ≡ a)) (λ part. part.now) (λ s t p. p.1) all i c.next-2.result c.loop-section.invariant.0 c.next-2.ensures.steps in
     by_option c.next-2.result false (sym c.is_some.ensures ∙ c.if-is_some.false)
-        (λ b e. record { has_form = just_enough text c.loop-section.section-items i c.loop-section.invariant.1 (omega (arith, c.loop-section-test.false, c.loop-section-test.array_long)) c.loop-section-test.array_long (left_at_none words_of (λ part. part.now) all i c.next-2.result next.0 e) })
-        (λ b x e. absurd (false≢true b))
+    (λ b e. record { has_form = just_enough text c.loop-section.section-items i c.loop-section.invariant.1 (omega (arith, c.loop-section-test.false, c.loop-section-test.array_long)) c.loop-section-test.array_long (left_at_none words_of (λ part. part.now) all i c.next-2.result next.0 e) })
+    (λ b x e. absurd (false≢true b))

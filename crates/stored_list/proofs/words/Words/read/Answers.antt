@@ -23,7 +23,7 @@ returns-in_err-push c =
     let w = then_some c.loop-byte.is_word c.loop-byte.number in
     let e = at_space text c.as_bytes-byte-items.result.now c.as_bytes-byte-items.ensures.value (listed c.loop-byte.self) w i c.loop-byte.invariant.0 c.loop-byte-test.true c.if-byte-eq32.true in
     err_only c.from_residual.result (λ x. words_of text ≡ Some (listed c.push.new.self)) (words_of text ≡ None) c.from_residual.ensures.0
-        (e ∙ ap (λ o. few (onto (listed c.loop-byte.self) (before o (words_left None (drop (i + 1) text))))) (sym c.then_some.ensures) ∙ c.in_err-push.ensures (words_left None (drop (i + 1) text)))
+    (e ∙ ap (λ o. few (onto (listed c.loop-byte.self) (before o (words_left None (drop (i + 1) text))))) (sym c.then_some.ensures) ∙ c.in_err-push.ensures (words_left None (drop (i + 1) text)))
 
 pub returns-then-not-is_digit : goal.returns-then-not-is_digit
 returns-then-not-is_digit c =
@@ -51,19 +51,19 @@ loop-byte-preserved c =
     let left = drop (i + 1) text in
     elim c.if-byte-eq32.branch [
       | then-byte-eq32+in_ok-push k ↦ (
-          at_space text bytes same (listed s) w i c.loop-byte.invariant.0 c.loop-byte-test.true k.if-byte-eq32.true
-              ∙ ap (λ o. few (onto (listed s) (before o (words_left None left)))) (sym k.then_some.ensures)
-              ∙ k.in_ok-push.ensures (words_left None left)
-              ∙ (λ j. few (onto (listed (sym k.self-is j)) (words_left (then_some (sym k.is_word-is j) (sym k.number-is j)) left))),
-          k.number-is ∙ (λ j. unwrap_or (then_some (sym k.is_word-is j) (sym k.number-is j)) 0),
-        )
+        at_space text bytes same (listed s) w i c.loop-byte.invariant.0 c.loop-byte-test.true k.if-byte-eq32.true
+            ∙ ap (λ o. few (onto (listed s) (before o (words_left None left)))) (sym k.then_some.ensures)
+            ∙ k.in_ok-push.ensures (words_left None left)
+            ∙ (λ j. few (onto (listed (sym k.self-is j)) (words_left (then_some (sym k.is_word-is j) (sym k.number-is j)) left))),
+        k.number-is ∙ (λ j. unwrap_or (then_some (sym k.is_word-is j) (sym k.number-is j)) 0),
+      )
       | else-byte-eq32+else-not-is_digit+else-number k ↦ (
-          let low : unwrap_or w 0 < 2 ^ 60 = omega (arith, k.if-number.false, c.loop-byte.invariant.1) in
-          at_digit text bytes same (listed s) w i c.loop-byte.invariant.0 c.loop-byte-test.true k.if-byte-eq32.false (sym k.is_digit.ensures ∙ k.if-not-is_digit.false) low
-              ∙ (λ j. few (onto (listed (sym k.self-is j)) (words_left (Some (16 * sym c.loop-byte.invariant.1 j + sym k.digit.ensures j)) left)))
-              ∙ (λ j. few (onto (listed c.if-byte-eq32.self) (words_left (then_some (sym k.is_word-is j) (sym k.number-is j)) left))),
-          k.number-is ∙ (λ j. unwrap_or (then_some (sym k.is_word-is j) (sym k.number-is j)) 0),
-        )
+        let low : unwrap_or w 0 < 2 ^ 60 = omega (arith, k.if-number.false, c.loop-byte.invariant.1) in
+            at_digit text bytes same (listed s) w i c.loop-byte.invariant.0 c.loop-byte-test.true k.if-byte-eq32.false (sym k.is_digit.ensures ∙ k.if-not-is_digit.false) low
+            ∙ (λ j. few (onto (listed (sym k.self-is j)) (words_left (Some (16 * sym c.loop-byte.invariant.1 j + sym k.digit.ensures j)) left)))
+            ∙ (λ j. few (onto (listed c.if-byte-eq32.self) (words_left (then_some (sym k.is_word-is j) (sym k.number-is j)) left))),
+        k.number-is ∙ (λ j. unwrap_or (then_some (sym k.is_word-is j) (sym k.number-is j)) 0),
+      )
     ]
 
 pub returns : goal.returns
