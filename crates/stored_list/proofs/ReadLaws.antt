@@ -1,13 +1,13 @@
 -- A section that is read byte by byte, a line that is read section by section, and a beginning that stays.
-use Rattle.std.proofs.Common.{◌-◌, ◌≡◌, ℕ, zero, suc, ◌+◌, ◌*◌, ◌^◌, ◌<◌, ◌≤◌, Bool, true, false, ◌&&◌, ◌||◌, cond, eqb, leb, ltb, List, [], ◌∷◌, ◌++◌, length, take, drop, map, min, refl, sym, ap, ◌∙◌, arith, Option, Some, None, option_map, option_and_then, MatchOption, MatchResult, append_assoc, lit<, ltb-true, ◌⊎◌, inl, inr, get_or, Result, Ok, Err, set, subst}
+use Rattle.std.proofs.Common.{◌-◌, ◌≡◌, ℕ, zero, suc, ◌+◌, ◌*◌, ◌^◌, ◌<◌, ◌≤◌, Bool, true, false, ◌&&◌, ◌||◌, cond, eqb, leb, ltb, List, [], ◌∷◌, ◌++◌, length, take, drop, map, min, refl, sym, ap, ◌∙◌, arith, Option, Some, None, option_map, option_and_then, MatchResult, append_assoc, lit<, ◌⊎◌, inl, inr, get_or, Result, Ok, Err, set}
 use Rattle.std.specs.Option.{unwrap_or, is_some}
 use Rattle.std.specs.Result.{IsErr, result_ok}
 use Rattle.std.proofs.lemmas.List.{at_drop_more, at_drop_all, take_more_set, take_all, map_push, length-drop, drop-drop, take_rest}
 use Rattle.std.specs.Char.{digit_value}
-use Rattle.std.specs.List.{list_all, slice_split, slice_get, onto_first, fold}
+use Rattle.std.specs.List.{list_all, onto_first, fold}
 use Rattle.std.specs.Str.Parse.{digits_value_after}
-use borrow.Author.Tests.{lt-ltb, le-ltb, eqb-true, eq-eqb, ne_eqb}
-use Rattle.std.proofs.lemmas.Bool.{false≢true, cases_lt, and_parts}
+use borrow.Author.Tests.{lt-ltb, le-ltb, eq-eqb, ne_eqb}
+use Rattle.std.proofs.lemmas.Bool.{false≢true, cases_lt}
 use Rattle.std.proofs.lemmas.Bool.Decides.{nat_tests}
 use Rattle.stored_list.specs.Lines.{is_digit, word_of, each, of_length, words_of, line_of}
 use Rattle.stored_list.specs.Readings.{listed, before, onto, few, words_left, until_bar}
@@ -30,8 +30,8 @@ pub settled_at : (text bytes : List ℕ) → bytes ≡ text → (b r : Beginning
 settled_at text bytes same b r i sofar h e s =
     let low : i < length text = omega (arith, h, ap length same) in
     settled_stays r (drop (i + 1) text) s
-        ∙ ap (λ z. fold begun_after z (drop (i + 1) text)) (e ∙ ap (λ l. begun_after b (get_or l i 0)) same)
-        ∙ sym (sofar ∙ at_drop_more (fold begun_after b) text i 0 low)
+    ∙ ap (λ z. fold begun_after z (drop (i + 1) text)) (e ∙ ap (λ l. begun_after b (get_or l i 0)) same)
+    ∙ sym (sofar ∙ at_drop_more (fold begun_after b) text i 0 low)
 
 -- ---- a word
 -- the word of more digits, where n is the number of those that were read, if any were
@@ -71,7 +71,7 @@ none_after n has b p h = by_digit (is_digit b) refl (cases_lt n (2 ^ 60))
         let g = grows (n * 16 + digit_value b) p in
         let many : 2 ^ 64 ≤ digits_value_after 16 (n * 16 + digit_value b) p = omega (arith, g, l) in
         ap (λ t. cond t (Some (digits_value_after 16 (n * 16 + digit_value b) p)) None)
-            (sym (third_false (list_all is_digit (b ∷ p)) (has || ltb 0 (suc (length p))) (ltb (digits_value_after 16 (n * 16 + digit_value b) p) (2 ^ 64)) (le-ltb (digits_value_after 16 (n * 16 + digit_value b) p) (2 ^ 64) many)))
+        (sym (third_false (list_all is_digit (b ∷ p)) (has || ltb 0 (suc (length p))) (ltb (digits_value_after 16 (n * 16 + digit_value b) p) (2 ^ 64)) (le-ltb (digits_value_after 16 (n * 16 + digit_value b) p) (2 ^ 64) many)))
 
 -- ---- a section
 abbrev NonEmpty : List (List ℕ) → Type 0
@@ -123,8 +123,8 @@ Reads w bs = words_left w bs ≡ first_each (word_after (unwrap_or w 0) (is_some
 first_parts : (w : Option ℕ) (b : ℕ) (bs : List ℕ) → eqb b 32 ≡ false → eqb b 124 ≡ false → (k : NonEmpty (parts (until_bar bs))) → before (word_after (unwrap_or w 0) (is_some w) (b ∷ k.0)) (each word_of k.1) ≡ first_each (word_after (unwrap_or w 0) (is_some w)) (parts (until_bar (b ∷ bs)))
 first_parts w b bs s e k =
     ap (λ l. first_each (word_after (unwrap_or w 0) (is_some w)) (onto_first b l)) (sym k.2)
-        ∙ (λ i. first_each (word_after (unwrap_or w 0) (is_some w)) (cond (sym s i) ([] ∷ parts (until_bar bs)) (onto_first b (parts (until_bar bs)))))
-        ∙ ap (λ t. first_each (word_after (unwrap_or w 0) (is_some w)) (parts t)) (sym (no_bar b bs e))
+    ∙ (λ i. first_each (word_after (unwrap_or w 0) (is_some w)) (cond (sym s i) ([] ∷ parts (until_bar bs)) (onto_first b (parts (until_bar bs)))))
+    ∙ ap (λ t. first_each (word_after (unwrap_or w 0) (is_some w)) (parts t)) (sym (no_bar b bs e))
 
 byte_read : (w : Option ℕ) (b : ℕ) (bs : List ℕ) → unwrap_or w 0 < 2 ^ 64 → Reads None bs → ((m : ℕ) → m < 2 ^ 64 → Reads (Some m) bs) → Reads w (b ∷ bs)
 unfolding words_left
@@ -132,29 +132,33 @@ byte_read w b bs h none some = by_digit (is_digit b) refl (nonempty (until_bar b
   where
     n : ℕ
     n = unwrap_or w 0
+
     by_room : is_digit b ≡ true → (n < 2 ^ 60) ⊎ (2 ^ 60 ≤ n) → NonEmpty (parts (until_bar bs))
         → cond (ltb n (2 ^ 60)) (words_left (Some (16 * n + digit_value b)) bs) None ≡ first_each (word_after n (is_some w)) (parts (until_bar (b ∷ bs)))
     by_room d (inl low) k =
         rw (lt-ltb n (2 ^ 60) low) (some (16 * n + digit_value b) (omega (arith, low, digit_below b d))
-            ∙ ap (first_each (word_after (16 * n + digit_value b) true)) k.2
-            ∙ ap (λ o. before o (each word_of k.1)) (more_after n (is_some w) b k.0 d)
-            ∙ first_parts w b bs (digit_no_space b d) (digit_no_bar b d) k)
+        ∙ ap (first_each (word_after (16 * n + digit_value b) true)) k.2
+        ∙ ap (λ o. before o (each word_of k.1)) (more_after n (is_some w) b k.0 d)
+        ∙ first_parts w b bs (digit_no_space b d) (digit_no_bar b d) k)
     by_room d (inr high) k =
         rw (le-ltb n (2 ^ 60) high) (ap (λ o. before o (each word_of k.1)) (none_after n (is_some w) b k.0 (ap (λ t. t && ltb n (2 ^ 60)) d ∙ le-ltb n (2 ^ 60) high))
-            ∙ first_parts w b bs (digit_no_space b d) (digit_no_bar b d) k)
+        ∙ first_parts w b bs (digit_no_space b d) (digit_no_bar b d) k)
+
     by_bar : is_digit b ≡ false → eqb b 32 ≡ false → (t : Bool) → eqb b 124 ≡ t → NonEmpty (parts (until_bar bs)) → cond t (before w (Some [])) None ≡ first_each (word_after n (is_some w)) (parts (until_bar (b ∷ bs)))
     by_bar d s true e k = ap (λ o. before o (Some [])) (nothing_after w h) ∙ nil_each ∙ ap (λ t. first_each (word_after n (is_some w)) (parts t)) (sym (at_bar b bs e))
       where
         nil_each : before (word_after n (is_some w) []) (Some []) ≡ first_each (word_after n (is_some w)) (parts [])
         nil_each = sym (nil_first (word_after n (is_some w)))
     by_bar d s false e k = ap (λ o. before o (each word_of k.1)) (none_after n (is_some w) b k.0 (ap (λ t. t && ltb n (2 ^ 60)) d)) ∙ first_parts w b bs s e k
+
     by_space : is_digit b ≡ false → (t : Bool) → eqb b 32 ≡ t → NonEmpty (parts (until_bar bs))
         → cond t (before w (words_left None bs)) (cond (eqb b 124) (before w (Some [])) None) ≡ first_each (word_after n (is_some w)) (parts (until_bar (b ∷ bs)))
     by_space d true s k =
         (λ i. before (nothing_after w h i) ((none ∙ first_of_all (parts (until_bar bs))) i))
-            ∙ (λ i. first_each (word_after n (is_some w)) (cond (sym s i) ([] ∷ parts (until_bar bs)) (onto_first b (parts (until_bar bs)))))
-            ∙ ap (λ t. first_each (word_after n (is_some w)) (parts t)) (sym (no_bar b bs (space_no_bar b s)))
+        ∙ (λ i. first_each (word_after n (is_some w)) (cond (sym s i) ([] ∷ parts (until_bar bs)) (onto_first b (parts (until_bar bs)))))
+        ∙ ap (λ t. first_each (word_after n (is_some w)) (parts t)) (sym (no_bar b bs (space_no_bar b s)))
     by_space d false s k = by_bar d s (eqb b 124) refl k
+
     by_digit : (t : Bool) → is_digit b ≡ t → NonEmpty (parts (until_bar bs)) → words_left w (b ∷ bs) ≡ first_each (word_after n (is_some w)) (parts (until_bar (b ∷ bs)))
     by_digit true d k = rw d (by_room d (cases_lt n (2 ^ 60)) k)
     by_digit false d k = rw d (by_space d (eqb b 32) refl k)
@@ -254,8 +258,8 @@ empty_words text h = empty_section text (eq-eqb (length text) 0 h)
 pub section_closed : {E : Type 0} (r : Result ℕ E) (bytes : List ℕ) (w : Option ℕ) (n : ℕ) (old new : Words) → length (until_bar bytes) ≡ n → parted (until_bar bytes) ≡ few (onto (listed old) (before w (Some [])))
     → (n ≡ 0 → listed old ≡ [])
     → MatchResult r
-        (λ m. (m ≡ n) × ((0 < n → few (onto (listed old) (before w (Some []))) ≡ few (onto (listed new) (Some []))) × (n ≡ 0 → new ≡ old)))
-        (λ _. (0 < n) × (few (onto (listed old) (before w (Some []))) ≡ None))
+    (λ m. (m ≡ n) × ((0 < n → few (onto (listed old) (before w (Some []))) ≡ few (onto (listed new) (Some []))) × (n ≡ 0 → new ≡ old)))
+    (λ _. (0 < n) × (few (onto (listed old) (before w (Some []))) ≡ None))
     → MatchResult r (λ m. (m ≡ length (until_bar bytes)) × (words_of (until_bar bytes) ≡ Some (listed new))) (λ _. words_of (until_bar bytes) ≡ None)
 section_closed (Ok m) bytes w n old new l e z h = (h.0 ∙ sym l, by_length (cases_lt 0 n))
   where
@@ -306,6 +310,7 @@ sections_begin (b ∷ bs) = by_bar (eqb b 124) refl (sections_begin bs)
   where
     n : ℕ
     n = length (until_bar bs)
+
     by_bar : (t : Bool) → eqb b 124 ≡ t → sections bs ≡ until_bar bs ∷ sections_from (suc n) bs → sections (b ∷ bs) ≡ until_bar (b ∷ bs) ∷ sections_from (suc (length (until_bar (b ∷ bs)))) (b ∷ bs)
     by_bar true e k = rw (e, le-ltb (suc (length bs)) 1 (omega arith)) refl
     by_bar false e k = rw e (ap (onto_first b) k ∙ ap (λ t. (b ∷ until_bar bs) ∷ cond t [] (sections (drop (suc n) bs))) (ltb_suc (length bs) (suc n)))
@@ -318,10 +323,11 @@ sections_more : (from n : ℕ) (text : List ℕ) → from ≤ length text → se
 unfolding sections_from
 sections_more from n text h =
     (λ i. cond (same_test i) [] (sections ((drop-drop (suc n) from text) i)))
-        ∙ (let e : from + suc n ≡ from + (n + 1) = omega arith in ap (λ k. cond (ltb (length text) k) [] (sections (drop k text))) e)
+    ∙ (let e : from + suc n ≡ from + (n + 1) = omega arith in ap (λ k. cond (ltb (length text) k) [] (sections (drop k text))) e)
   where
     l : ℕ
     l = length (drop from text)
+
     same_test : ltb (length (drop from text)) (suc n) ≡ ltb (length text) (from + suc n)
     same_test = by_order (cases_lt (length (drop from text)) (suc n))
       where
@@ -362,7 +368,7 @@ module _ (text bytes : List ℕ) (same : bytes ≡ text) (from : ℕ) where
       → each words_of (sections_from from text) ≡ before (words_of (until_bar (take (length bytes - from) (drop from bytes)))) (each words_of (sections_from (from + (n + 1)) text))
   section_at n h e =
       next_section from n text (omega (arith, h, ap length same)) (e ∙ ap (λ l. length (until_bar l)) rest_same)
-          ∙ ap (λ l. before (words_of (until_bar l)) (each words_of (sections_from (from + (n + 1)) text))) (sym rest_same)
+      ∙ ap (λ l. before (words_of (until_bar l)) (each words_of (sections_from (from + (n + 1)) text))) (sym rest_same)
 
   pub section_ends : (n : ℕ) → from ≤ length bytes → n ≡ length (until_bar (take (length bytes - from) (drop from bytes))) → from + n ≤ length text
   section_ends n h e =
@@ -391,8 +397,8 @@ module _ (text : List ℕ) (secs : List Words) (i : ℕ) (rest : List (List ℕ)
       → each words_of (sections text) ≡ onto (map listed (take (i + 1) (set secs i new))) l
   section_taken o l new h e s =
       sofar ∙ ap (λ z. onto (map listed (take i secs)) z) (e ∙ ap (λ z. before z l) s)
-          ∙ onto_before (map listed (take i secs)) (listed new) l
-          ∙ ap (λ z. onto z l) (sym (ap (λ z. map listed z) (take_more_set secs i new h) ∙ map_push listed (take i secs) new))
+      ∙ onto_before (map listed (take i secs)) (listed new) l
+      ∙ ap (λ z. onto z l) (sym (ap (λ z. map listed z) (take_more_set secs i new h) ∙ map_push listed (take i secs) new))
 
   pub too_few : i < 11 → each words_of rest ≡ Some [] → line_of text ≡ None
   too_few h e =

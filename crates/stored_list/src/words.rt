@@ -28,11 +28,9 @@ impl Words {
 
     // One word more, if there is one and room for it.
     fn push(&mut self, word: Option<u64>) -> Result<(), BadForm>
-        ensures {
-            MatchResult result
-                (λ _. (left : Option (List ℕ)) → few (onto (listed self.old) (before word left)) ≡ few (onto (listed self.new) left))
-                (λ _. (left : Option (List ℕ)) → few (onto (listed self.old) (before word left)) ≡ None)
-        }
+        ensures { MatchResult result
+            (λ _. (left : Option (List ℕ)) → few (onto (listed self.old) (before word left)) ≡ few (onto (listed self.new) left))
+            (λ _. (left : Option (List ℕ)) → few (onto (listed self.old) (before word left)) ≡ None) }
     {
         let Some(word) = word else {
             return Err(BadForm);
@@ -47,11 +45,9 @@ impl Words {
 
     // The end of a section of n bytes, where the word so far is its last.
     fn close(&mut self, n: usize, word: Option<u64>) -> Result<usize, BadForm>
-        ensures {
-            MatchResult result
-                (λ m. (m ≡ n) × ((0 < n → few (onto (listed self.old) (before word (Some []))) ≡ few (onto (listed self.new) (Some []))) × (n ≡ 0 → self.new ≡ self.old)))
-                (λ _. (0 < n) × (few (onto (listed self.old) (before word (Some []))) ≡ None))
-        }
+        ensures { MatchResult result
+            (λ m. (m ≡ n) × ((0 < n → few (onto (listed self.old) (before word (Some []))) ≡ few (onto (listed self.new) (Some []))) × (n ≡ 0 → self.new ≡ self.old)))
+            (λ _. (0 < n) × (few (onto (listed self.old) (before word (Some []))) ≡ None)) }
     {
         if n > 0 {
             self.push(word)?;
@@ -62,11 +58,9 @@ impl Words {
     // Reads a section, as far as `|` or the end: words with a space between two, or none. A digit of a word is read if its number stays below 2^64.
     // The section's length in bytes.
     pub(crate) fn read(&mut self, bytes: &[u8]) -> Result<usize, BadForm>
-        ensures {
-            MatchResult result
-                (λ n. (n ≡ length (until_bar bytes.now)) × (words_of (until_bar bytes.now) ≡ Some (listed self.new)))
-                (λ _. words_of (until_bar bytes.now) ≡ None)
-        }
+        ensures { MatchResult result
+            (λ n. (n ≡ length (until_bar bytes.now)) × (words_of (until_bar bytes.now) ≡ Some (listed self.new)))
+            (λ _. words_of (until_bar bytes.now) ≡ None) }
     {
         self.count = 0;
         // The word so far, if it has a digit.

@@ -1,5 +1,5 @@
 -- `parse`, section by section.
-use Rattle.std.proofs.Common.{refl, length-set, ◌≡◌, ◌∙◌, ◌+◌, ◌-◌, ◌≤◌, length, take, drop, sym, ap, arith}
+use Rattle.std.proofs.Common.{refl, length-set, ◌∙◌, ◌+◌, ◌-◌, length, take, drop, sym, ap, arith}
 use Rattle.stored_list.specs.Lines.{each, words_of, line_of}
 use Rattle.stored_list.specs.Readings.{until_bar}
 use Rattle.stored_list.specs.Words.{sections_in}
@@ -24,7 +24,7 @@ returns-in_err-from c =
     let n = length section in
     let left = section_at text bytes c.as_bytes-bytes.ensures.value from n c.if-from-bytes.false refl in
     nothing_made sections_in c.from_residual.result (line_of text) c.from_residual.ensures.0
-        (section_wrong text c.loop-section.section-items c.loop-section.section-index (sections_from from text) c.loop-section.invariant.0 (words_of section) (each words_of (sections_from (from + (n + 1)) text)) left c.in_err-from.ensures)
+    (section_wrong text c.loop-section.section-items c.loop-section.section-index (sections_from from text) c.loop-section.invariant.0 (words_of section) (each words_of (sections_from (from + (n + 1)) text)) left c.in_err-from.ensures)
 
 pub overflow_add-from : goal.overflow_add-from
 overflow_add-from c =
@@ -61,7 +61,7 @@ returns-then-from-bytes-2 c =
     let n = length section in
     let left = section_at text bytes c.as_bytes-bytes.ensures.value from n c.if-from-bytes-2.true refl in
     sym (too_many text c.loop-section.section-items c.loop-section.section-index (sections_from from text) c.loop-section.invariant.0 (omega (arith, c.loop-section-test.false, c.loop-section-test.array_long)) c.loop-section-test.array_long
-        (words_of section) (each words_of (sections_from (from + (n + 1)) text)) left)
+    (words_of section) (each words_of (sections_from (from + (n + 1)) text)) left)
 
 pub invariant_of-result : goal.invariant_of-result
 invariant_of-result c =
