@@ -1,4 +1,3 @@
 pub mod ListLaws
 pub mod TextLaws
-pub mod PartLaws
 pub mod ReadLaws

@@ -1,5 +1,5 @@
 -- Sections that were read, and those that are being read.
-use Rattle.std.specs.Prelude.{Bool, ◌&&◌, if◌then◌else◌, List, [], ◌∷◌, ◌++◌, ℕ, ◌+◌, ◌*◌, ◌^◌, min, take, ltb, leb, eqb, Option, Some, None, option_map, option_and_then}
+use Rattle.std.specs.Prelude.{if◌then◌else◌, List, [], ◌∷◌, ◌++◌, ℕ, ◌+◌, ◌*◌, ◌^◌, min, take, ltb, leb, eqb, Option, Some, None, option_map, option_and_then}
 use Rattle.std.specs.Option.{unwrap_or}
 use Rattle.std.specs.Char.{digit_value}
 use Rattle.stored_list.specs.declared.words.Words.{Words}
@@ -21,10 +21,16 @@ onto xs l = option_map (λ ys. xs ++ ys) l
 abbrev pub few : Option (List ℕ) → Option (List ℕ)
 few l = option_and_then (of_length (λ n. leb n 64)) l
 
--- the words that are left, where a word may be read in part
+-- a text as far as its first `|`
+unfoldable pub until_bar : List ℕ → List ℕ
+until_bar [] = []
+until_bar (b ∷ bs) = if eqb b 124 then [] else b ∷ until_bar bs
+
+-- the words that are left as far as `|`, where a word may be read in part
 unfoldable pub words_left : Option ℕ → List ℕ → Option (List ℕ)
 words_left word [] = before word (Some [])
 words_left word (b ∷ bs) =
-    if eqb b 32 then before word (words_left None bs)
-    else if is_digit b && ltb (unwrap_or word 0) (2 ^ 60) then words_left (Some (16 * unwrap_or word 0 + digit_value b)) bs
+    if is_digit b then if ltb (unwrap_or word 0) (2 ^ 60) then words_left (Some (16 * unwrap_or word 0 + digit_value b)) bs else None
+    else if eqb b 32 then before word (words_left None bs)
+    else if eqb b 124 then before word (Some [])
     else None

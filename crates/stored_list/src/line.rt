@@ -47,14 +47,16 @@ impl<'a> Line<'a> {
         ensures { option_map sections_in (result_ok result) ≡ line_of text.now }
     {
         let mut sections = [Words::none(); SECTION_COUNT];
-        let mut parts = text.split('|');
+        let bytes = text.as_bytes();
+        // Where the next section begins: past the end after the last one.
+        let mut from = 0;
         for section in sections.iter_mut() {
-            let Some(part) = parts.next() else {
+            if from > bytes.len() {
                 return Err(BadForm);
-            };
-            section.read(part)?;
+            }
+            from += section.read(&bytes[from..])? + 1;
         }
-        if parts.next().is_some() {
+        if from <= bytes.len() {
             return Err(BadForm);
         }
         Ok(Line { text, sections })

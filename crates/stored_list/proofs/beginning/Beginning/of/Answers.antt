@@ -1,8 +1,5 @@
 -- `of`, which stops where what comes after is not looked at.
-use Rattle.std.proofs.Common.{◌≡◌, ◌∙◌, ap, sym, get_or, arith, ◌∷◌, ◌+◌, drop, length}
-use Rattle.std.specs.List.{fold}
-use Rattle.std.proofs.lemmas.List.{at_drop_more}
-use Rattle.stored_list.specs.Beginnings.{begun_after}
+use Rattle.std.proofs.Common.{◌∙◌, sym}
 use Rattle.stored_list.proofs.ReadLaws.{settled_at}
 use Rattle.stored_list.proofs.beginning.Beginning.of.Goals as goal
 

@@ -1,62 +1,73 @@
 -- `parse`, section by section.
-use Rattle.std.proofs.Common.{refl, length-set, true, false, None, ◌≡◌, ◌∙◌, ◌+◌, drop, sym, ap, arith, lit<}
-use Rattle.std.specs.Str.Iter.{split_steps}
-use Rattle.std.specs.Str.Pattern.{FindsChar}
-use Rattle.std.proofs.lemmas.Iterator.Splits.{YieldsList-from_str_split}
+use Rattle.std.proofs.Common.{refl, length-set, ◌∙◌, ◌+◌, ◌-◌, length, take, drop, sym, ap, arith}
 use Rattle.stored_list.specs.Lines.{each, words_of, line_of}
+use Rattle.stored_list.specs.Readings.{until_bar}
 use Rattle.stored_list.specs.Words.{sections_in}
-use Rattle.stored_list.proofs.TextLaws.{sections}
-use Rattle.std.proofs.lemmas.Bool.{false≢true}
-use Rattle.stored_list.proofs.PartLaws.{part_taken}
-use Rattle.stored_list.proofs.ReadLaws.{onto_nothing, taken_each, section_wrong, section_taken, too_few, too_many, just_enough, left_at_none, left_at_some, by_option, nothing_made}
+use Rattle.stored_list.proofs.ReadLaws.{all_sections, sections_from, section_at, section_ends, no_section, section_wrong, section_taken, too_few, too_many, just_enough, nothing_made}
 use Rattle.stored_list.proofs.line.Line.parse.Goals as goal
 
 pub loop-section-init : goal.loop-section-init
-loop-section-init c = (YieldsList-from_str_split 124 c.args.text.now (lit< tt) c.split-parts.ensures.text c.split-parts.ensures.has_more c.split-parts.ensures.pattern, onto_nothing (each words_of (sections c.args.text.now)), refl)
+loop-section-init c = (all_sections c.args.text.now, refl, omega arith)
 
-pub returns-in_default : goal.returns-in_default
-returns-in_default c =
+pub returns-then-from-bytes : goal.returns-then-from-bytes
+returns-then-from-bytes c =
     let text = c.args.text.now in
-    let i = c.loop-section.section-index in
-    let all = sections text in
-    let next = part_taken (split_steps FindsChar (λ a b. b ≡ a)) (λ part. part.now) (λ s t p. p.1) all i c.next.result c.loop-section.invariant.0 c.next.ensures.steps in
-    sym (too_few text c.loop-section.section-items i c.loop-section.invariant.1 c.loop-section-test.true (left_at_none words_of (λ part. part.now) all i c.next.result next.0 c.in_default.is))
+    let from = c.loop-section.from in
+    sym (too_few text c.loop-section.section-items c.loop-section.section-index (sections_from from text) c.loop-section.invariant.0 c.loop-section-test.true (no_section from text (omega (arith, c.if-from-bytes.true, ap length c.as_bytes-bytes.ensures.value))))
 
-pub returns-in_err-read : goal.returns-in_err-read
-returns-in_err-read c =
+pub returns-in_err-from : goal.returns-in_err-from
+returns-in_err-from c =
     let text = c.args.text.now in
-    let i = c.loop-section.section-index in
-    let all = sections text in
-    let next = part_taken (split_steps FindsChar (λ a b. b ≡ a)) (λ part. part.now) (λ s t p. p.1) all i c.next.result c.loop-section.invariant.0 c.next.ensures.steps in
-    let left = left_at_some words_of (λ part. part.now) all i c.next.result next.0 c.in-Some.part c.in-Some.is in
+    let bytes = c.as_bytes-bytes.result.now in
+    let from = c.loop-section.from in
+    let section = until_bar (take (length bytes - from) (drop from bytes)) in
+    let n = length section in
+    let left = section_at text bytes c.as_bytes-bytes.ensures.value from n c.if-from-bytes.false refl in
     nothing_made sections_in c.from_residual.result (line_of text) c.from_residual.ensures.0
-    (section_wrong text c.loop-section.section-items i c.loop-section.invariant.1 (words_of c.in-Some.part.now) (each words_of (drop (i + 1) all)) left c.in_err-read.ensures)
+    (section_wrong text c.loop-section.section-items c.loop-section.section-index (sections_from from text) c.loop-section.invariant.0 (words_of section) (each words_of (sections_from (from + (n + 1)) text)) left c.in_err-from.ensures)
+
+pub overflow_add-from : goal.overflow_add-from
+overflow_add-from c =
+    let ends = section_ends c.args.text.now c.as_bytes-bytes.result.now c.as_bytes-bytes.ensures.value c.loop-section.from c.in_ok-from.field-0 c.if-from-bytes.false c.in_ok-from.ensures.0 in
+    omega (arith, ends)
+
+pub overflow_add-from-in-loop-section : goal.overflow_add-from-in-loop-section
+overflow_add-from-in-loop-section c =
+    let ends = section_ends c.args.text.now c.as_bytes-bytes.result.now c.as_bytes-bytes.ensures.value c.loop-section.from c.in_ok-from.field-0 c.if-from-bytes.false c.in_ok-from.ensures.0 in
+    omega (arith, ends)
 
 pub loop-section-preserved : goal.loop-section-preserved
 loop-section-preserved c =
     let text = c.args.text.now in
+    let bytes = c.as_bytes-bytes.result.now in
+    let from = c.loop-section.from in
+    let n = c.in_ok-from.field-0 in
     let i = c.loop-section.section-index in
-    let all = sections text in
-    let next = part_taken (split_steps FindsChar (λ a b. b ≡ a)) (λ part. part.now) (λ s t p. p.1) all i c.next.result c.loop-section.invariant.0 c.next.ensures.steps in
-    let left = left_at_some words_of (λ part. part.now) all i c.next.result next.0 c.in-Some.part c.in-Some.is in
-    (next.1, section_taken text c.loop-section.section-items i c.loop-section.invariant.1 (words_of c.in-Some.part.now) (each words_of (drop (i + 1) all)) c.read.new.self (omega (arith, c.loop-section-test.true, c.loop-section.invariant.2)) left c.in_ok-read.ensures, length-set c.loop-section.section-items i c.read.new.self ∙ c.loop-section.invariant.2)
+    let section = until_bar (take (length bytes - from) (drop from bytes)) in
+    let left = section_at text bytes c.as_bytes-bytes.ensures.value from n c.if-from-bytes.false c.in_ok-from.ensures.0 in
+    let fits = section_ends text bytes c.as_bytes-bytes.ensures.value from n c.if-from-bytes.false c.in_ok-from.ensures.0 in (
+      section_taken text c.loop-section.section-items i (sections_from from text) c.loop-section.invariant.0 (words_of section) (each words_of (sections_from (from + (n + 1)) text)) c.read.new.self
+          (omega (arith, c.loop-section-test.true, c.loop-section.invariant.1)) left c.in_ok-from.ensures.1,
+      length-set c.loop-section.section-items i c.read.new.self ∙ c.loop-section.invariant.1,
+      omega (arith, fits),
+    )
 
-pub returns-then-is_some : goal.returns-then-is_some
-returns-then-is_some c =
+pub returns-then-from-bytes-2 : goal.returns-then-from-bytes-2
+returns-then-from-bytes-2 c =
     let text = c.args.text.now in
-    let i = c.loop-section.section-index in
-    let all = sections text in
-    let next = part_taken (split_steps FindsChar (λ a b. b ≡ a)) (λ part. part.now) (λ s t p. p.1) all i c.next-2.result c.loop-section.invariant.0 c.next-2.ensures.steps in
-    let none : true ≡ false → None ≡ line_of text = λ e. absurd (false≢true (sym e)) in
-    by_option c.next-2.result true (sym c.is_some.ensures ∙ c.if-is_some.true) (λ b e. none b)
-    (λ b x e. sym (too_many text c.loop-section.section-items i c.loop-section.invariant.1 (omega (arith, c.loop-section-test.false, c.loop-section-test.array_long)) c.loop-section-test.array_long (words_of x.now) (each words_of (drop (i + 1) all)) (left_at_some words_of (λ part. part.now) all i c.next-2.result next.0 x e)))
+    let bytes = c.as_bytes-bytes.result.now in
+    let from = c.loop-section.from in
+    let section = until_bar (take (length bytes - from) (drop from bytes)) in
+    let n = length section in
+    let left = section_at text bytes c.as_bytes-bytes.ensures.value from n c.if-from-bytes-2.true refl in
+    sym (too_many text c.loop-section.section-items c.loop-section.section-index (sections_from from text) c.loop-section.invariant.0 (omega (arith, c.loop-section-test.false, c.loop-section-test.array_long)) c.loop-section-test.array_long
+    (words_of section) (each words_of (sections_from (from + (n + 1)) text)) left)
 
 pub invariant_of-result : goal.invariant_of-result
 invariant_of-result c =
     let text = c.args.text.now in
-    let i = c.loop-section.section-index in
-    let all = sections text in
-    let next = part_taken (split_steps FindsChar (λ a b. b ≡ a)) (λ part. part.now) (λ s t p. p.1) all i c.next-2.result c.loop-section.invariant.0 c.next-2.ensures.steps in
-    by_option c.next-2.result false (sym c.is_some.ensures ∙ c.if-is_some.false)
-    (λ b e. record { has_form = just_enough text c.loop-section.section-items i c.loop-section.invariant.1 (omega (arith, c.loop-section-test.false, c.loop-section-test.array_long)) c.loop-section-test.array_long (left_at_none words_of (λ part. part.now) all i c.next-2.result next.0 e) })
-    (λ b x e. absurd (false≢true b))
+    let from = c.loop-section.from in
+    record {
+      has_form = just_enough text c.loop-section.section-items c.loop-section.section-index (sections_from from text) c.loop-section.invariant.0 (omega (arith, c.loop-section-test.false, c.loop-section-test.array_long)) c.loop-section-test.array_long
+          (no_section from text (omega (arith, c.if-from-bytes-2.false, ap length c.as_bytes-bytes.ensures.value)));
+    }

@@ -1,5 +1,5 @@
 -- `same_at`, pair by pair.
-use Rattle.std.proofs.Common.{rules, tests, sym, ap, ◌∙◌, eqb, length}
+use Rattle.std.proofs.Common.{rules, tests, sym, ap, ◌∙◌, eqb}
 use Rattle.std.proofs.lemmas.Iterator.{YieldsList-from_slice, YieldsList-from_zip}
 use Rattle.std.proofs.lemmas.Iterator.Search.{all_from_yields_List}
 use Rattle.stored_list.specs.Words.{words_at}
