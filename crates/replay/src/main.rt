@@ -21,6 +21,7 @@ use whose::Whose;
 
 // The list is read in this many parts at most, and ends where it is read no further.
 const PARTS: usize = 1000;
+
 const PART_LENGTH: usize = 4096;
 
 // The call of a line, if the library agrees there, or nothing: also where the line has not the form (the head of eight words, the answer of three)
