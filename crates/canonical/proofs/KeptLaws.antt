@@ -41,6 +41,15 @@ low x = omega arith
 two_codes : (x : ℕ) → x % 16 ≡ x % 4 + 4 * (x / 4 % 4) + 16 * 0 + 64 * 0
 two_codes x = let a : x / 4 / 4 ≡ x / 16 = omega arith in omega arith
 
+-- a byte whose four items are there is kept
+pub whole_kept : (left x : ℕ) → 3 < left → x ≡ kept_byte left x
+unfolding kept_byte
+whole_kept zero x h = absurd (omega (arith, h))
+whole_kept (suc zero) x h = absurd (omega (arith, h))
+whole_kept (suc (suc zero)) x h = absurd (omega (arith, h))
+whole_kept (suc (suc (suc zero))) x h = absurd (omega (arith, h))
+whole_kept (suc (suc (suc (suc left)))) x h = refl
+
 -- byte b of the block of marker m
 module _ (file : List ℕ) (shape : Shape) (sh : Shaped file shape) (e : shape.mode1 ≡ true) (m b : ℕ) (hm : m < shape.sids) (hb : 4 * b < shape.iids) where
   abbrev iids : ℕ

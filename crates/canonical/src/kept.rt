@@ -13,25 +13,28 @@ fn kept_byte(byte: u8, left: usize) -> u8
     ensures { result ≡ kept_byte left byte }
 {
     match left {
-        4.. => byte,
-        3 => byte % 64,
+        1 => byte % 4,
         2 => byte % 16,
-        _ => byte % 4,
+        3 => byte % 64,
+        _ => byte,
     }
 }
 
-// The canonical file: block by block.
+// The canonical file: block by block. Of a block only the last byte may have pads.
 pub(crate) fn keep_blocks(accepted: &Accepted, out: &mut [u8])
-    requires { Begun accepted.now.file.now accepted.now.shape out.old × (accepted.now.shape.mode1 ≡ true) }
+    requires { Begun accepted.now.file.now accepted.now.shape out.old × (accepted.now.shape.mode1 ≡ true) × (0 < accepted.now.out_width) }
     ensures { out.new ≡ canonical_file accepted.now.file.now accepted.now.shape.iids accepted.now.shape.sids }
 {
     let shape = accepted.shape;
     let width = accepted.out_width;
+    let last = width - 1;
     for m in 0..shape.sids {
         let start = calls::part_of::<SidIndex>(shape, SidIndex(m)).byte;
         let at = 3 + m * width;
-        for b in 0..width {
-            out[at + b] = kept_byte(accepted.file[start + b], shape.iids - 4 * b);
+        for b in 0..last {
+            let byte = accepted.file[start + b];
+            out[at + b] = byte;
         }
+        out[at + last] = kept_byte(accepted.file[start + last], shape.iids - 4 * last);
     }
 }
