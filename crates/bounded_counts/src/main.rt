@@ -111,7 +111,7 @@ fn answers(rt: &impl Print) -> io::Result<()> {
     bounded_list(rt, many)
 }
 
-// What cannot be written is left unsaid: the program fails for nothing.
+// What cannot be written is left unsaid, and is no failure.
 fn main(rt: HostRuntime) {
     let _ = answers(&rt);
 }

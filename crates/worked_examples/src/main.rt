@@ -230,7 +230,7 @@ fn examples(rt: &impl Print) -> io::Result<()> {
     columns(rt)
 }
 
-// What cannot be written is left unsaid: the program fails for nothing.
+// What cannot be written is left unsaid, and is no failure.
 fn main(rt: HostRuntime) {
     let _ = examples(&rt);
 }
