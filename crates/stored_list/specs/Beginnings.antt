@@ -56,5 +56,6 @@ begins_comment NoWord = false
 begins_comment (Word n) = false
 begins_comment (WordAndMore n) = false
 
-abbrev pub is_comment : List ℕ → Bool
-is_comment text = begins_comment (beginning_of text)
+-- a text that begins so: before its `#` stands neither a digit nor `|`
+abbrev pub reads_as_comment : List ℕ → Bool
+reads_as_comment text = begins_comment (beginning_of text)

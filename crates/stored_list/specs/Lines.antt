@@ -1,7 +1,11 @@
 -- A line of the list, as text: words of hexadecimal digits, a space between two words, `|` between two sections.
-use Rattle.std.specs.Prelude.{Bool, ◌&&◌, ◌||◌, if◌then◌else◌, List, [], ◌∷◌, ℕ, ◌^◌, ltb, leb, eqb, length, Option, Some, None, option_map, option_and_then}
+use Rattle.std.specs.Prelude.{Bool, ◌&&◌, ◌||◌, if◌then◌else◌, List, [], ◌∷◌, ℕ, ◌^◌, ltb, leb, eqb, length, slice_index, Option, Some, None, option_map, option_and_then}
 use Rattle.std.specs.List.{slice_split, list_all}
 use Rattle.std.specs.Str.Parse.{digits_value}
+
+-- `#` begins a comment
+abbrev pub is_comment : List ℕ → Bool
+is_comment text = eqb (slice_index text 0) 35
 
 -- `0` to `9` and `a` to `f`
 abbrev pub is_digit : ℕ → Bool

@@ -1,7 +1,7 @@
-// The parts of a line's text: words of hexadecimal digits, and sections of words.
+// What a text tells by itself: whether it is a comment, and the number of a word.
 ghost use Rattle.std.specs.Prelude.{◌≡◌};
-ghost use Rattle.stored_list.specs.Beginnings.{is_comment};
-ghost use Rattle.stored_list.specs.Lines.{is_digit, word_of};
+ghost use Rattle.stored_list.specs.Beginnings.{reads_as_comment};
+ghost use Rattle.stored_list.specs.Lines.{is_comment, is_digit, word_of};
 
 use crate::beginning::Beginning;
 
@@ -12,9 +12,16 @@ pub const WORD_LIMIT: usize = 64;
 #[derive(Clone, Copy, Debug, PartialEq, Eq)]
 pub struct BadForm;
 
-// Whether a line is a comment: `#` stands in it before any digit and any `|`.
+// Whether a line is a comment: it begins with `#`.
 pub fn is_comment(text: &str) -> bool
     ensures { result ≡ is_comment text.now }
+{
+    text.starts_with('#')
+}
+
+// Whether replay takes a line for a comment: `#` stands in it before any digit and any `|`.
+pub fn reads_as_comment(text: &str) -> bool
+    ensures { result ≡ reads_as_comment text.now }
 {
     Beginning::of(text) == Beginning::Comment
 }
@@ -33,5 +40,27 @@ pub fn word(text: &str) -> Option<u64>
         u64::from_str_radix(text, 16).ok()
     } else {
         None
+    }
+}
+
+#[cfg(test)]
+mod tests {
+    use super::*;
+
+    // Whether a line begins with `#`, and whether it has `#` before any digit and any `|`.
+    #[test]
+    fn comments(rt: HostRuntime) {
+        for (text, begins, before) in [
+            ("", false, false),
+            ("#", true, true),
+            ("# 1|2", true, true),
+            (" # 1|2", false, true),
+            ("x#", false, true),
+            ("1#", false, false),
+            ("|#", false, false),
+        ] {
+            assert_eq!(rt; is_comment(text), begins, "{text}");
+            assert_eq!(rt; reads_as_comment(text), before, "{text}");
+        }
     }
 }
